@@ -35,8 +35,7 @@ class System:
         self.nodes = []
         for n in NODES:
             words = [program, "node", str(n), "--system", self.file]
-            if in_file:
-                words += ["--new", os.path.join(self.folder, f"node-{n}.db")]
+            words += ["--new", os.path.join(self.folder, f"node-{n}.db")] if in_file else ["--volatile"]
             words += self.journal(f"node-{n}")
             node = subprocess.Popen(words, stdout=subprocess.PIPE, stderr=subprocess.DEVNULL)
             node.stdout.readline()

@@ -26,8 +26,7 @@ class System:
         with open(self.file, "w") as f:
             f.write(text)
         words = [program, "node", "1", "--system", self.file]
-        if in_file:
-            words += ["--new", os.path.join(self.folder, "node.db")]
+        words += ["--new", os.path.join(self.folder, "node.db")] if in_file else ["--volatile"]
         self.node = subprocess.Popen(words, stdout=subprocess.PIPE, stderr=subprocess.DEVNULL)
         self.node.stdout.readline()
 

@@ -1,0 +1,5 @@
+pub mod Lines
+pub mod Node
+pub mod Client
+pub mod Told
+pub mod World

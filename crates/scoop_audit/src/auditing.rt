@@ -1,15 +1,22 @@
 //! The audit of all parties.
 
+ghost use Rattle.std.specs.Prelude.{◌≡◌, ◌≤◌, ℕ, List, length, map, IfOk, OnOk};
+ghost use Rattle.scoop_message.specs.declared.limits.TheConstants.{MAX_ENTRIES};
+ghost use Rattle.scoop_message.specs.declared.name.HandlerId.{HandlerId as Name};
+ghost use Rattle.scoop_model.specs.Step.{Placement};
+ghost use Rattle.scoop_weaver.specs.Post.{Grows};
+ghost use Rattle.scoop_audit.specs.Told.{TellsClientLife, TellsLife, joining};
+
 use crate::blocks::Blocks;
 use crate::client::{Joined, replay_client};
 use crate::error::{AuditError, Move, PartyName, Trouble, Wrong};
 use crate::lives::Tale;
-use crate::node::{Pages, replay_node};
+use crate::node::replay_node;
+use crate::pages::Pages;
 use crate::places::move_at;
 use crate::remarks::Remarks;
 use crate::roster::{Member, roster};
-use scoop_message::limits::MAX_ENTRIES;
-use scoop_message::{ClientId, HandlerId, Message, OutOfMemory};
+use scoop_message::{ClientId, HandlerId, Message, OutOfMemory, limits};
 use scoop_replay::{ClientReplay, NodeReplay, Placed};
 use scoop_system::System;
 use scoop_weaver::{NoWeave, Post, Trail, weave_trails};
@@ -122,29 +129,71 @@ fn placed_on(
     Ok(Some(placed))
 }
 
-// The node with its new handlers. A system that was read has the class of each handler, with as many words, and no number
-// twice.
-fn new_node(alloc: Global, system: &System, number: u32) -> Result<NodeReplay, OutOfMemory> {
-    let Some(placed) = placed_on(alloc, system, number)? else {
-        return Err(OutOfMemory);
+// Replays the journal of a node with these handlers. A system that was read has as many words for each as its class has, and no
+// number twice.
+fn read_node(
+    alloc: Global,
+    number: u32,
+    placed: &[Placed],
+    bytes: &[u8],
+    post: &mut Post,
+    pages: &mut Pages<'_>,
+) -> Result<Trail, Trouble>
+    requires { 1 ≤ length placed.now }
+    ensures grows { OnOk result (Grows post.old post.new) }
+    ensures told { (words : Name → List ℕ) → IfOk result (TellsLife words number placed.now bytes.now post.new) }
+{
+    let mut node = match NodeReplay::new(alloc, number, placed) {
+        Ok(Some(node)) => node,
+        Ok(None) | Err(_) => return Err(Trouble::OutOfMemory),
     };
-    match NodeReplay::new(alloc, number, &placed)? {
-        Some(node) => Ok(node),
-        None => Err(OutOfMemory),
+    match replay_node(alloc, bytes, &mut node, post, pages) {
+        Ok(()) => Ok(node.into_trail()),
+        Err(trouble) => Err(trouble),
     }
 }
 
-// Replays a node.
+// Replays a node. One without handlers does nothing.
 fn tell_node(
     alloc: Global,
     system: &System,
     number: u32,
     bytes: &[u8],
+    post: &mut Post,
     pages: &mut Pages<'_>,
 ) -> Result<Trail, Trouble> {
-    let mut node = new_node(alloc, system, number)?;
-    replay_node(alloc, &mut node, bytes, pages)?;
-    Ok(node.into_trail())
+    let Some(placed) = placed_on(alloc, system, number)? else {
+        return Err(Trouble::OutOfMemory);
+    };
+    if placed.is_empty() {
+        return Ok(Trail::new(alloc));
+    }
+    read_node(alloc, number, &placed, bytes, post, pages)
+}
+
+// Replays the journal of a client that knows these handlers.
+fn read_client(
+    alloc: Global,
+    joined: &Joined,
+    known: &[HandlerId],
+    bytes: &[u8],
+    post: &mut Post,
+    pages: &mut Pages<'_>,
+) -> Result<Trail, Trouble>
+    requires some { 1 ≤ joined.now.batch }
+    requires limit { joined.now.batch ≤ MAX_ENTRIES }
+    ensures grows { OnOk result (Grows post.old post.new) }
+    ensures told { (ps : List Placement) → known.now ≡ map (λ p. p.handler) ps
+        → IfOk result (TellsClientLife ps (joining joined.now.id joined.now.batch) bytes.now post.new) }
+{
+    let mut replay = match ClientReplay::new(alloc, joined.id, known, joined.batch) {
+        Ok(replay) => replay,
+        Err(_) => return Err(Trouble::OutOfMemory),
+    };
+    match replay_client(alloc, joined, bytes, &mut replay, post, pages) {
+        Ok(()) => Ok(replay.into_trail()),
+        Err(trouble) => Err(trouble),
+    }
 }
 
 // Replays a client. One without a journal does nothing.
@@ -154,24 +203,20 @@ fn tell_client(
     id: ClientId,
     known: &[HandlerId],
     bytes: &[u8],
+    post: &mut Post,
     pages: &mut Pages<'_>,
 ) -> Result<Trail, Trouble> {
     let Some(place) = system.client(id) else {
         return Ok(Trail::new(alloc));
     };
-    if bytes.is_empty() || place.batch < 1 || place.batch as usize > MAX_ENTRIES {
+    if bytes.is_empty() || place.batch < 1 || place.batch as usize > limits::MAX_ENTRIES {
         return Ok(Trail::new(alloc));
     }
-    let mut replay = match ClientReplay::new(alloc, id, known, place.batch) {
-        Ok(replay) => replay,
-        Err(_) => return Err(Trouble::OutOfMemory),
-    };
     let joined = Joined {
         id,
         batch: place.batch,
     };
-    replay_client(alloc, &joined, &mut replay, bytes, pages)?;
-    Ok(replay.into_trail())
+    read_client(alloc, &joined, known, bytes, post, pages)
 }
 
 // What the party's journal tells.
@@ -188,14 +233,13 @@ fn tell(
     let mut remarks = Remarks::new(alloc, has_chart);
     let mut tale = Tale::new(alloc, member.party, member.journal);
     let mut pages = Pages {
-        post,
         tale: &mut tale,
         blocks,
         remarks: &mut remarks,
     };
     let told = match member.party {
-        PartyName::Node(number) => tell_node(alloc, system, number, bytes, &mut pages),
-        PartyName::Client(id) => tell_client(alloc, system, id, known, bytes, &mut pages),
+        PartyName::Node(number) => tell_node(alloc, system, number, bytes, post, &mut pages),
+        PartyName::Client(id) => tell_client(alloc, system, id, known, bytes, post, &mut pages),
     };
     match told {
         Ok(trail) => Ok((tale, trail, remarks)),

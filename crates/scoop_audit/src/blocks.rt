@@ -1,5 +1,8 @@
 //! The blocks of a run: what was logged of each, and what ran.
 
+ghost use Rattle.std.specs.Prelude.{◌<◌, IfSome};
+ghost use Rattle.scoop_message.specs.declared.limits.TheConstants.{MAX_BLOCK_HANDLERS};
+
 use crate::error::PartyName;
 use indexmap::IndexMap;
 use scoop_client::Command;
@@ -73,7 +76,9 @@ impl BlockLine {
     }
 
     // The place of the handler's share.
-    fn place_of(&self, handler: HandlerId) -> Option<usize> {
+    fn place_of(&self, handler: HandlerId) -> Option<usize>
+        ensures { IfSome result (λ place. place < MAX_BLOCK_HANDLERS) }
+    {
         for place in 0..MAX_BLOCK_HANDLERS {
             if place < self.count && self.shares[place].handler.0 == handler.0 {
                 return Some(place);
@@ -83,7 +88,9 @@ impl BlockLine {
     }
 
     // The place of the handler's share, which is added if there is room.
-    fn place_for(&mut self, handler: HandlerId) -> Option<usize> {
+    fn place_for(&mut self, handler: HandlerId) -> Option<usize>
+        ensures { IfSome result (λ place. place < MAX_BLOCK_HANDLERS) }
+    {
         if let Some(place) = self.place_of(handler) {
             return Some(place);
         }

@@ -10,8 +10,10 @@ mod charting;
 mod client;
 mod cursor;
 mod error;
+mod law;
 mod lives;
 mod node;
+mod pages;
 mod places;
 mod printing;
 mod remarks;
@@ -22,9 +24,7 @@ pub use auditing::{Explained, Journal, audit};
 pub use blocks::{BlockLine, Blocks};
 pub use charting::chart_of;
 pub use error::{AuditError, Fault, Move, PartyName, Wrong};
+pub use law::journals_are_a_world;
 pub use lives::Tale;
 pub use printing::print_explained;
 pub use text::unexplained_text;
-
-#[cfg(test)]
-mod tests;

@@ -1,10 +1,17 @@
 //! The replay of a node's journal.
 
-use crate::blocks::Blocks;
-use crate::cursor::Cursor;
+ghost use Rattle.std.specs.Prelude.{◌≡◌, ◌≤◌, ◌++◌, ℕ, IfSome, IsTrue, List, OnOk, length, slice_get};
+ghost use Rattle.scoop_handler.specs.Local.{number_in};
+ghost use Rattle.scoop_journal.specs.Journal.{ended};
+ghost use Rattle.scoop_message.specs.declared.message.Message.{Message as Told};
+ghost use Rattle.scoop_replay.specs.Node.{BeganSo, GoesOn, HeardSo, NodeValue, OpensAgain, RanSo};
+ghost use Rattle.scoop_weaver.specs.Post.{Grows};
+ghost use Rattle.scoop_audit.specs.Node.{BeginsLife, EntersBy, NodeRead, NodeUpTo, OpensAs, OpensFrom, TellsEntry};
+
+use crate::cursor::{Cursor, read_line};
 use crate::error::{Fault, PartyName, Trouble, Wrong};
-use crate::lives::Tale;
-use crate::remarks::{Deed, Remarks};
+use crate::pages::Pages;
+use crate::remarks::Deed;
 use scoop_handler::{Note, Ran};
 use scoop_journal::Line;
 use scoop_message::{HandlerId, Message, OutOfMemory};
@@ -12,21 +19,10 @@ use scoop_replay::{Last, NodeReplay, ReplayError};
 use scoop_weaver::Post;
 use std::alloc::Global;
 
-/// What a replay adds to: the messages, the party's lives, the blocks, and what a chart needs.
-#[derive(Drop)]
-pub(crate) struct Pages<'p> {
-    pub(crate) post: &'p mut Post,
-    pub(crate) tale: &'p mut Tale,
-    pub(crate) blocks: &'p mut Blocks,
-    pub(crate) remarks: &'p mut Remarks,
-}
-
 // Why the entry of this line isn't made, whose reply is this one.
-fn unmade(node: &NodeReplay, number: u64, error: ReplayError, reply: &Option<Message>) -> Trouble {
+fn unmade(node: u32, number: u64, error: ReplayError, reply: &Option<Message>) -> Trouble {
     match error {
-        ReplayError::NoHandler(handler) => {
-            Trouble::Fault(number, Fault::NoHandler(node.number(), handler))
-        }
+        ReplayError::NoHandler(handler) => Trouble::Fault(number, Fault::NoHandler(node, handler)),
         ReplayError::Reply(told) => Trouble::Wrong(Wrong::Reply(told, *reply)),
         ReplayError::NothingOut(handler) => Trouble::Wrong(Wrong::NothingOut(handler)),
         _ => Trouble::OutOfMemory,
@@ -56,87 +52,96 @@ fn note_ran(
 
 // The entry of a `hear` line.
 fn hear(
-    node: &mut NodeReplay,
-    number: u64,
     message: &Message,
     reply: &Option<Message>,
+    node: &mut NodeReplay,
+    post: &mut Post,
     pages: &mut Pages<'_>,
-) -> Result<(), Trouble> {
+) -> Result<(), ReplayError>
+    ensures grows { OnOk result (Grows post.old post.new) }
+    ensures number { OnOk result (node.new.number ≡ node.old.number) }
+    ensures goes { OnOk result (GoesOn (HeardSo message.now reply.now) node.old node.new post.old post.new) }
+{
     let place = node.moves();
-    match node.hear(pages.post, message, reply) {
+    match node.hear(post, message, reply) {
         Ok(note) => {
             note_heard(place, &note, pages)?;
             Ok(())
         }
-        Err(error) => Err(unmade(node, number, error, reply)),
+        Err(error) => Err(error),
     }
 }
 
 // The entry of a `begin` line.
 fn begin(
-    node: &mut NodeReplay,
-    number: u64,
     handler: HandlerId,
+    node: &mut NodeReplay,
+    post: &mut Post,
     pages: &mut Pages<'_>,
-) -> Result<(), Trouble> {
+) -> Result<(), ReplayError>
+    ensures grows { OnOk result (Grows post.old post.new) }
+    ensures number { OnOk result (node.new.number ≡ node.old.number) }
+    ensures goes { OnOk result (GoesOn (BeganSo handler) node.old node.new post.old post.new) }
+{
     let place = node.moves();
-    match node.begin(pages.post, handler) {
+    match node.begin(post, handler) {
         Ok(()) => {
             pages.remarks.add(place, Deed::Began(handler))?;
             Ok(())
         }
-        Err(error) => Err(unmade(node, number, error, &None)),
+        Err(error) => Err(error),
     }
 }
 
 // The entry of a `finish` line.
 fn finish(
-    node: &mut NodeReplay,
-    number: u64,
     handler: HandlerId,
+    node: &mut NodeReplay,
+    post: &mut Post,
     pages: &mut Pages<'_>,
-) -> Result<(), Trouble> {
+) -> Result<(), ReplayError>
+    ensures grows { OnOk result (Grows post.old post.new) }
+    ensures number { OnOk result (node.new.number ≡ node.old.number) }
+    ensures goes { OnOk result (GoesOn (RanSo handler) node.old node.new post.old post.new) }
+{
     let place = node.moves();
-    match node.finish(pages.post, handler) {
+    match node.finish(post, handler) {
         Ok(ran) => {
             note_ran(place, handler, &ran, pages)?;
             Ok(())
         }
-        Err(error) => Err(unmade(node, number, error, &None)),
+        Err(error) => Err(error),
     }
 }
 
 // Makes the entry of a line.
 fn enter(
-    node: &mut NodeReplay,
     number: u64,
     line: &Line<'_>,
-    pages: &mut Pages<'_>,
-) -> Result<(), Trouble> {
-    match line {
-        Line::Hear(message, reply) => hear(node, number, message, reply, pages),
-        Line::Begin(handler) => begin(node, number, *handler, pages),
-        Line::Finish(handler) => finish(node, number, *handler, pages),
-        _ => Err(Trouble::Fault(number, Fault::Misplaced)),
-    }
-}
-
-// An entry that was read and is not made yet, with its line's number. Only the next line says whether it was a life's last
-// one, which may not have been stored.
-type Held<'a> = Option<(u64, Line<'a>)>;
-
-// Makes the entry that is held.
-fn release(
     node: &mut NodeReplay,
-    held: &mut Held<'_>,
+    post: &mut Post,
     pages: &mut Pages<'_>,
-) -> Result<(), Trouble> {
-    let Some((number, line)) = held else {
-        return Ok(());
+) -> Result<(), Trouble>
+    ensures grows { OnOk result (Grows post.old post.new) }
+    ensures number { OnOk result (node.new.number ≡ node.old.number) }
+    ensures enters { OnOk result (EntersBy line.now node.old node.new post.old post.new) }
+{
+    let of_node = node.number();
+    let (entered, written) = match line {
+        Line::Hear(message, reply) => (hear(message, reply, node, post, pages), *reply),
+        Line::Begin(handler) => (begin(*handler, node, post, pages), None),
+        Line::Finish(handler) => (finish(*handler, node, post, pages), None),
+        Line::NodeLife(_)
+        | Line::ClientLife(..)
+        | Line::Open(..)
+        | Line::Do(_)
+        | Line::Turn(_)
+        | Line::Broke(_) => return Err(Trouble::Fault(number, Fault::Misplaced)),
     };
-    enter(node, *number, line, pages)?;
-    *held = None;
-    Ok(())
+    match entered {
+        Ok(()) => Ok(()),
+        Err(error) => Err(unmade(of_node, number, error, &written)),
+    }
 }
 
 // The blobs of this handler among the first lines of a life, if they are there.
@@ -165,43 +170,38 @@ fn last_event(line: &Line<'_>) -> Option<(HandlerId, Last)> {
     }
 }
 
-// Whether the store with which the next life opens lacks the entry that is held.
+// Whether the entry of this line is the last one of its life and was not stored: the next life, which begins at the cursor, opens
+// with the state before it.
 fn is_unstored(
     alloc: Global,
     node: &NodeReplay,
-    held: &Held<'_>,
-    cursor: Cursor<'_>,
-) -> Result<bool, Trouble> {
-    let Some((_, line)) = held else {
+    line: &Line<'_>,
+    cursor: &Cursor<'_>,
+) -> Result<bool, OutOfMemory> {
+    if !cursor.rest.starts_with(b"scoop") {
         return Ok(false);
-    };
+    }
     let Some((handler, last)) = last_event(line) else {
         return Ok(false);
     };
-    let Some((image, pending)) = opening_of(cursor, node.count(), handler) else {
+    let mut openings = *cursor;
+    let Ok(Some(Line::NodeLife(_))) = openings.next() else {
         return Ok(false);
     };
-    Ok(node.is_unstored(alloc, handler, &last, image, pending)?)
+    let Some((image, pending)) = opening_of(openings, node.count(), handler) else {
+        return Ok(false);
+    };
+    node.is_unstored(alloc, handler, &last, image, pending)
 }
 
-// Reads the first lines of a life. Each handler opens with the state that it has. A life that ended before it had written
-// them all has fewer, and nothing else.
-fn open(alloc: Global, node: &NodeReplay, cursor: &mut Cursor<'_>) -> Result<(), Trouble> {
-    for place in 0..node.count() {
-        let before = *cursor;
-        match cursor.next()? {
-            Some(Line::Open(handler, image, pending)) => {
-                let number = cursor.number;
-                open_one(alloc, node, place, number, handler, image, pending)?;
-            }
-            None | Some(Line::NodeLife(_)) => {
-                *cursor = before;
-                return Ok(());
-            }
-            Some(_) => return Err(Trouble::Fault(cursor.number, Fault::Misplaced)),
-        }
+// Whether the handler of this number is the one at this place.
+fn is_at(node: &NodeReplay, place: usize, handler: HandlerId) -> bool
+    ensures { IsTrue result → IfSome (slice_get node.now.handlers place) (λ l. handler ≡ number_in l) }
+{
+    match node.handler(place) {
+        Some(own) => own == handler,
+        None => false,
     }
-    Ok(())
 }
 
 // The handler at this place opens with the state that it has.
@@ -210,14 +210,17 @@ fn open_one(
     node: &NodeReplay,
     place: usize,
     number: u64,
-    handler: HandlerId,
-    image: &[u8],
-    pending: &[u8],
-) -> Result<(), Trouble> {
+    line: &Line<'_>,
+) -> Result<(), Trouble>
+    ensures { OnOk result (IfSome (slice_get node.now.handlers place) (OpensAs line.now)) }
+{
+    let Line::Open(handler, image, pending) = *line else {
+        return Err(Trouble::Fault(number, Fault::Misplaced));
+    };
     if !node.has(handler) {
         return Err(Trouble::Fault(number, Fault::NoHandler(node.number(), handler)));
     }
-    if node.handler(place) != Some(handler) {
+    if !is_at(node, place, handler) {
         return Err(Trouble::Fault(number, Fault::Misplaced));
     }
     if node.is_stored_as(alloc, place, image, pending)? {
@@ -227,67 +230,155 @@ fn open_one(
     }
 }
 
-// The entry that is held, the last one of a life, is made, or left out if it was not stored.
-fn end_life(
+// Reads the first lines of a life. Each handler opens with the state that it has. A life that ended before it had written
+// them all has fewer, and nothing else.
+fn open(alloc: Global, node: &NodeReplay, cursor: &mut Cursor<'_>) -> Result<(), Trouble>
+    ensures opens { OnOk result (OpensFrom cursor.old.rest.now cursor.new.rest.now node.now.handlers) }
+    ensures shorter { OnOk result (length cursor.new.rest.now ≤ length cursor.old.rest.now) }
+{
+    for place in 0..node.count() {
+        let before = *cursor;
+        let line = match cursor.next() {
+            Ok(Some(line)) => line,
+            Ok(None) => {
+                *cursor = before;
+                return Ok(());
+            }
+            Err(trouble) => return Err(trouble),
+        };
+        if let Line::NodeLife(_) = line {
+            *cursor = before;
+            return Ok(());
+        }
+        match open_one(alloc, node, place, cursor.number, &line) {
+            Ok(()) => {}
+            Err(trouble) => return Err(trouble),
+        }
+    }
+    Ok(())
+}
+
+// The node opens again: each handler takes its stored state.
+fn reopen(
     alloc: Global,
     node: &mut NodeReplay,
-    held: &mut Held<'_>,
-    cursor: Cursor<'_>,
+    post: &mut Post,
     pages: &mut Pages<'_>,
-) -> Result<(), Trouble> {
-    if is_unstored(alloc, node, held, cursor)? {
-        *held = None;
-        pages.tale.shorten();
-        Ok(())
-    } else {
-        release(node, held, pages)
+) -> Result<(), Trouble>
+    ensures grows { OnOk result (Grows post.old post.new) }
+    ensures number { OnOk result (node.new.number ≡ node.old.number) }
+    ensures opens { OnOk result (OpensAgain node.old node.new post.old post.new) }
+{
+    pages.remarks.add(node.moves(), Deed::Opened)?;
+    match node.reopen(alloc, post) {
+        Ok(()) => Ok(()),
+        Err(_) => Err(Trouble::OutOfMemory),
     }
 }
 
 // A life of the node begins. The node opens again for each of them, the first one too: before it, nothing has happened.
-fn begin_life<'a>(
+fn begin_life(
     alloc: Global,
-    node: &mut NodeReplay,
     number: u32,
-    held: &mut Held<'a>,
-    cursor: &mut Cursor<'a>,
+    cursor: &mut Cursor<'_>,
+    node: &mut NodeReplay,
+    post: &mut Post,
     pages: &mut Pages<'_>,
-) -> Result<(), Trouble> {
+) -> Result<(), Trouble>
+    ensures grows { OnOk result (Grows post.old post.new) }
+    ensures begins { OnOk result (BeginsLife number cursor.old.rest.now cursor.new.rest.now node.old node.new post.old post.new) }
+    ensures shorter { OnOk result (length cursor.new.rest.now ≤ length cursor.old.rest.now) }
+{
     if number != node.number() {
         let other = PartyName::Node(number);
         return Err(Trouble::Fault(cursor.number, Fault::OtherParty(other)));
     }
-    end_life(alloc, node, held, *cursor, pages)?;
-    pages.remarks.add(node.moves(), Deed::Opened)?;
-    match node.reopen(alloc, pages.post) {
-        Ok(()) => {}
-        Err(error) => return Err(unmade(node, cursor.number, error, &None)),
-    }
+    reopen(alloc, node, post, pages)?;
     pages.tale.begin(node.moves(), cursor.number)?;
-    open(alloc, node, cursor)
+    open(alloc, node, cursor)?;
+    Ok(())
+}
+
+// The entry of this line was not stored, so it is left out, and the next life begins.
+fn leave_out(
+    alloc: Global,
+    line: &Line<'_>,
+    cursor: &mut Cursor<'_>,
+    node: &mut NodeReplay,
+    post: &mut Post,
+    pages: &mut Pages<'_>,
+) -> Result<(), Trouble>
+    requires { TellsEntry line.now }
+    ensures grows { OnOk result (Grows post.old post.new) }
+    ensures told { (bytes : List ℕ) (first : NodeValue) (sent : List Told)
+        → OnOk result (NodeUpTo bytes (ended line.now ++ cursor.old.rest.now) first node.old sent post.old
+        → NodeUpTo bytes cursor.new.rest.now first node.new sent post.new) }
+    ensures shorter { OnOk result (length cursor.new.rest.now ≤ length cursor.old.rest.now) }
+{
+    pages.tale.shorten();
+    match cursor.next() {
+        Ok(Some(Line::NodeLife(number))) => {
+            begin_life(alloc, number, cursor, node, post, pages)?;
+            Ok(())
+        }
+        Ok(_) => Err(Trouble::Fault(cursor.number, Fault::Misplaced)),
+        Err(trouble) => Err(trouble),
+    }
+}
+
+// Takes the line of an entry.
+fn take_entry(
+    alloc: Global,
+    line: &Line<'_>,
+    cursor: &mut Cursor<'_>,
+    node: &mut NodeReplay,
+    post: &mut Post,
+    pages: &mut Pages<'_>,
+) -> Result<(), Trouble>
+    requires { TellsEntry line.now }
+    ensures grows { OnOk result (Grows post.old post.new) }
+    ensures told { (bytes : List ℕ) (first : NodeValue) (sent : List Told)
+        → OnOk result (NodeUpTo bytes (ended line.now ++ cursor.old.rest.now) first node.old sent post.old
+        → NodeUpTo bytes cursor.new.rest.now first node.new sent post.new) }
+    ensures shorter { OnOk result (length cursor.new.rest.now ≤ length cursor.old.rest.now) }
+{
+    pages.tale.count();
+    if is_unstored(alloc, node, line, cursor)? {
+        leave_out(alloc, line, cursor, node, post, pages)?;
+        return Ok(());
+    }
+    enter(cursor.number, line, node, post, pages)?;
+    Ok(())
 }
 
 // Takes one line.
-fn take<'a>(
+fn take(
     alloc: Global,
+    line: &Line<'_>,
+    cursor: &mut Cursor<'_>,
     node: &mut NodeReplay,
-    line: Line<'a>,
-    held: &mut Held<'a>,
-    cursor: &mut Cursor<'a>,
+    post: &mut Post,
     pages: &mut Pages<'_>,
-) -> Result<(), Trouble> {
+) -> Result<(), Trouble>
+    ensures grows { OnOk result (Grows post.old post.new) }
+    ensures told { (bytes : List ℕ) (first : NodeValue) (sent : List Told)
+        → OnOk result (NodeUpTo bytes (ended line.now ++ cursor.old.rest.now) first node.old sent post.old
+        → NodeUpTo bytes cursor.new.rest.now first node.new sent post.new) }
+    ensures shorter { OnOk result (length cursor.new.rest.now ≤ length cursor.old.rest.now) }
+{
     match line {
-        Line::NodeLife(number) => begin_life(alloc, node, number, held, cursor, pages),
-        Line::ClientLife(client, _, _) => Err(Trouble::Fault(
-            cursor.number,
-            Fault::OtherParty(PartyName::Client(client)),
-        )),
-        Line::Hear(..) | Line::Begin(_) | Line::Finish(_) => {
-            release(node, held, pages)?;
-            pages.tale.count();
-            *held = Some((cursor.number, line));
+        Line::NodeLife(number) => {
+            begin_life(alloc, *number, cursor, node, post, pages)?;
             Ok(())
         }
+        Line::Hear(..) | Line::Begin(_) | Line::Finish(_) => {
+            take_entry(alloc, line, cursor, node, post, pages)?;
+            Ok(())
+        }
+        Line::ClientLife(client, _, _) => Err(Trouble::Fault(
+            cursor.number,
+            Fault::OtherParty(PartyName::Client(*client)),
+        )),
         Line::Open(..) | Line::Do(_) | Line::Turn(_) | Line::Broke(_) => {
             Err(Trouble::Fault(cursor.number, Fault::Misplaced))
         }
@@ -297,17 +388,24 @@ fn take<'a>(
 /// Replays the journal of a node whose handlers are new.
 pub(crate) fn replay_node(
     alloc: Global,
-    node: &mut NodeReplay,
     bytes: &[u8],
+    node: &mut NodeReplay,
+    post: &mut Post,
     pages: &mut Pages<'_>,
-) -> Result<(), Trouble> {
+) -> Result<(), Trouble>
+    ensures grows { OnOk result (Grows post.old post.new) }
+    ensures told { OnOk result (NodeRead bytes.now node.old node.new post.old post.new) }
+{
     let mut cursor = Cursor::new(bytes);
-    let mut held = None;
-    for _ in 0..u64::MAX {
-        let Some(line) = cursor.next()? else {
-            break;
+    while let Some(text) = cursor.next_text() {
+        let line = match read_line(cursor.number, text) {
+            Ok(line) => line,
+            Err(trouble) => return Err(trouble),
         };
-        take(alloc, node, line, &mut held, &mut cursor, pages)?;
+        match take(alloc, &line, &mut cursor, node, post, pages) {
+            Ok(()) => {}
+            Err(trouble) => return Err(trouble),
+        }
     }
-    release(node, &mut held, pages)
+    Ok(())
 }

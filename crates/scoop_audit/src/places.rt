@@ -44,12 +44,12 @@ pub(crate) fn move_at(tale: &Tale, bytes: &[u8], handlers: usize, place: usize) 
     };
     let within = place.saturating_sub(first);
     let entry = match tale.party() {
-        PartyName::Node(_) => within as u64 + 1,
+        PartyName::Node(_) => (within as u64).saturating_add(1),
         PartyName::Client(_) => step_of(bytes, line, handlers, within),
     };
     Move {
         party: tale.party(),
-        life: at as u64 + 1,
+        life: (at as u64).saturating_add(1),
         entry,
     }
 }

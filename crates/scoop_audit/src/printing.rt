@@ -123,13 +123,15 @@ fn print_blocks<W: Write>(alloc: Global, run: &Explained, writer: &mut W) -> io:
     let mut opened: IndexSet<Block, BuildHasherDefault<FoldHasher>> = IndexSet::new(alloc);
     for party in run.order() {
         let at = *party as usize;
-        if at < places.len() && at < next.len() && at < run.tales().len() {
-            let tale = &run.tales()[at];
+        let Some(tale) = run.tales().get(at) else {
+            return Ok(());
+        };
+        if at < places.len() && at < next.len() {
             if let Some(block) = opening_at(openings, next[at], tale.party(), places[at]) {
-                next[at] += 1;
+                next[at] = next[at].saturating_add(1);
                 print_first(run.blocks(), block, &mut opened, writer)?;
             }
-            places[at] += 1;
+            places[at] = places[at].saturating_add(1);
         }
     }
     Ok(())

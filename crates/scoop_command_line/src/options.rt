@@ -97,6 +97,8 @@ pub struct NodeOptions<'a> {
     /// The system's file.
     pub system: &'a str,
     pub store: StoreChoice<'a>,
+    /// Whether it may run without a store.
+    pub is_volatile: bool,
     pub journal: JournalChoice<'a>,
     /// The key's file.
     pub key: Option<&'a str>,
@@ -240,6 +242,7 @@ fn node_options<'a>(given: &'a ArgMatches<'_>) -> NodeOptions<'a> {
         number: given.get_one::<u32>("number").unwrap_or(0),
         system: text_of(given, "system"),
         store: store_choice(given),
+        is_volatile: given.get_flag("volatile"),
         journal: journal_choice(given),
         key: given.get_str("key"),
         status: given.get_str("status"),

@@ -35,8 +35,8 @@ pub(crate) const NODE: CommandRow = CommandRow {
     usage: None,
     about: "Runs a node of a system, over UDP",
     help: "Runs a node of the system in a file (`scoop check` shows it): it answers the datagrams that come to its \
-        address, and runs its handlers in threads. It stores their states in the file of --new or --store. With neither \
-        it stores nothing, and a restart breaks the promise.\n\n\
+        address, and runs its handlers in threads. It stores their states in the file of --new or --store. With \
+        --volatile it stores nothing, and a restart breaks the promise.\n\n\
         You may kill the node at any time and resume it with --store and its own store. That store must have every handler that \
         the system's file gives the node. The node first runs what it had taken and not run. When its history is full, it \
         closes, which compares the history with its threads' records, and reopens.\n\n\
@@ -51,7 +51,7 @@ pub(crate) const NODE: CommandRow = CommandRow {
     arguments: &NODE_ARGUMENTS,
 };
 
-const NODE_ARGUMENTS: [ArgumentRow; 12] = [
+const NODE_ARGUMENTS: [ArgumentRow; 13] = [
     ArgumentRow {
         name: "number",
         place: Place::Word,
@@ -67,8 +67,7 @@ const NODE_ARGUMENTS: [ArgumentRow; 12] = [
         value: Value::Text,
         value_name: "FILE",
         default: None,
-        help: "Makes a store in this file, which must be missing or empty: for a node that never ran. Without --new and --store \
-            nothing is stored",
+        help: "Makes a store in this file, which must be missing or empty: for a node that never ran",
     },
     ArgumentRow {
         name: "store",
@@ -77,6 +76,14 @@ const NODE_ARGUMENTS: [ArgumentRow; 12] = [
         value_name: "FILE",
         default: None,
         help: "Resumes the store in this file: for a node that ran, the store that it made",
+    },
+    ArgumentRow {
+        name: "volatile",
+        place: Place::OptionWithout("store"),
+        value: Value::Flag,
+        value_name: "",
+        default: None,
+        help: "Runs without a store, for a trial: if this node restarts, it forgets what it acknowledged, which breaks the promise",
     },
     KEY,
     JOURNAL,

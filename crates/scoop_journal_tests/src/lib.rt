@@ -1,4 +1,4 @@
-//! Tests of journals: their lines, the file that they stand in, and the keeper that writes them.
+//! Tests of journals: their lines, the file that they stand in, the keeper that writes them, and their audit.
 #![tactic(auto)]
 
 #[cfg(test)]

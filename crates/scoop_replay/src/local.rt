@@ -124,7 +124,8 @@ impl Local {
 
     /// The same handler as its node opens again: with its stored state, and no job out.
     pub(crate) fn restarted(&self, alloc: Global) -> Result<Local, OutOfMemory>
-        ensures { (words : Name → List ℕ) → IfOk result (λ l. l ≡ reopened words self.now) }
+        ensures again { (words : Name → List ℕ) → IfOk result (λ l. l ≡ reopened words self.now) }
+        ensures number { IfOk result (λ l. number_in l ≡ number_in self.now) }
     {
         let Ok(object) = Table::new(self.class.copy_in(alloc)?, self.handler.words()) else {
             return Err(OutOfMemory);

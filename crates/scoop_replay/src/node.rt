@@ -8,13 +8,15 @@ ghost use Rattle.scoop_handler.specs.Local.{is_handler, number_in};
 ghost use Rattle.scoop_keeper.specs.Keyed.{IsFirst};
 ghost use Rattle.scoop_weaver.specs.Post.{Grows};
 ghost use Rattle.std.specs.Prelude.{ℕ, length, slice_get};
+ghost use Rattle.std.specs.List.{list_any};
 ghost use Rattle.std.specs.Option.{option_map};
+ghost use Rattle.scoop_message.specs.Message.{same_handler};
 ghost use Rattle.scoop_message.specs.declared.name.HandlerId.{HandlerId as Name};
 ghost use Rattle.scoop_weave.specs.NodeHistories.{reopened};
 ghost use Rattle.scoop_replay.specs.Node.{BeganSo, GoesOn, HeardSo, IsStoredAs, OpensAgain, RanSo, node_value, placed_local};
 
 use crate::error::ReplayError;
-use crate::handlers::{begin, finish, hear};
+use crate::handlers::{begin, finish, hear_so};
 use crate::local::{Last, Local, place_of};
 use scoop_handler::{Note, Ran};
 use scoop_message::{HandlerId, Message, OutOfMemory, Words};
@@ -87,33 +89,27 @@ impl NodeReplay {
         message: &Message,
         reply: &Option<Message>,
     ) -> Result<Note, ReplayError>
+        ensures number { self.new.number ≡ self.old.number }
         ensures grows { OnOk result (Grows post.old post.new) }
         ensures goes { OnOk result (GoesOn (HeardSo message.now reply.now) self.old self.new post.old post.new) }
     {
         let Some(place) = place_of(&self.locals, message.handler()) else {
             return Err(ReplayError::NoHandler(message.handler()));
         };
-        let heard = match hear(&mut self.locals, place, message) {
-            Ok(heard) => heard,
-            Err(_) => return Err(ReplayError::OutOfMemory),
-        };
-        if heard.reply != *reply {
-            return Err(ReplayError::Reply(heard.reply));
-        }
+        let heard = hear_so(&mut self.locals, place, message, reply)?;
         let next = Traffic {
             heard: Some(*message),
             sent: heard.reply,
         };
-        match add(&mut self.trail, post, &next) {
-            Ok(()) => Ok(heard.note),
-            Err(error) => Err(error),
-        }
+        add(&mut self.trail, post, &next)?;
+        Ok(heard.note)
     }
 
     /// The next entry of the handler leaves to be run, if there is one and no job is out.
     ///
     /// Refused: `NoHandler`, `OutOfMemory`.
     pub fn begin(&mut self, post: &mut Post, handler: HandlerId) -> Result<(), ReplayError>
+        ensures number { self.new.number ≡ self.old.number }
         ensures grows { OnOk result (Grows post.old post.new) }
         ensures goes { OnOk result (GoesOn (BeganSo handler) self.old self.new post.old post.new) }
     {
@@ -121,13 +117,15 @@ impl NodeReplay {
             return Err(ReplayError::NoHandler(handler));
         };
         let _left = begin(&mut self.locals, place, handler);
-        add(&mut self.trail, post, &Traffic::SILENT)
+        add(&mut self.trail, post, &Traffic::SILENT)?;
+        Ok(())
     }
 
     /// The entry that left the handler has run.
     ///
     /// Refused: `NoHandler`, `NothingOut`, `OutOfMemory`.
     pub fn finish(&mut self, post: &mut Post, handler: HandlerId) -> Result<Ran, ReplayError>
+        ensures number { self.new.number ≡ self.old.number }
         ensures grows { OnOk result (Grows post.old post.new) }
         ensures goes { OnOk result (GoesOn (RanSo handler) self.old self.new post.old post.new) }
     {
@@ -137,14 +135,13 @@ impl NodeReplay {
         let Some(ran) = finish(&mut self.locals, place, handler) else {
             return Err(ReplayError::NothingOut(handler));
         };
-        match add(&mut self.trail, post, &Traffic::SILENT) {
-            Ok(()) => Ok(ran),
-            Err(error) => Err(error),
-        }
+        add(&mut self.trail, post, &Traffic::SILENT)?;
+        Ok(ran)
     }
 
     /// The node opens again: each handler with its stored state, and with no job out. `OutOfMemory` is the one refusal.
     pub fn reopen(&mut self, alloc: Global, post: &mut Post) -> Result<(), ReplayError>
+        ensures number { self.new.number ≡ self.old.number }
         ensures grows { OnOk result (Grows post.old post.new) }
         ensures opens { OnOk result (OpensAgain self.old self.new post.old post.new) }
     {
@@ -152,7 +149,8 @@ impl NodeReplay {
             Ok(locals) => self.locals = locals,
             Err(_) => return Err(ReplayError::OutOfMemory),
         }
-        add(&mut self.trail, post, &Traffic::SILENT)
+        add(&mut self.trail, post, &Traffic::SILENT)?;
+        Ok(())
     }
 
     /// The node's number.
@@ -241,7 +239,8 @@ pub struct Placed {
 
 // The handlers as they open again.
 fn reopen_all(alloc: Global, locals: &[Local]) -> Result<Vec<Local>, OutOfMemory>
-    ensures { (words : Name → List ℕ) → IfOk result (λ opened. opened.items ≡ map (reopened words) locals.now) }
+    ensures again { (words : Name → List ℕ) → IfOk result (λ opened. opened.items ≡ map (reopened words) locals.now) }
+    ensures numbers { IfOk result (λ opened. map number_in opened.items ≡ map number_in locals.now) }
 {
     let mut opened = Vec::new(alloc);
     for local in locals {
@@ -266,14 +265,20 @@ fn new_locals(alloc: Global, placed: &[Placed]) -> Result<Option<Vec<Local>>, Ou
     Ok(Some(locals))
 }
 
+// Whether one of the handlers has this number.
+fn is_placed(locals: &[Local], handler: HandlerId) -> bool
+    ensures { result ≡ list_any (λ l. same_handler (number_in l) handler) locals.now }
+{
+    locals.iter().any(|local| local.number() == handler)
+}
+
 // The number of the first handler whose number stands before it too.
 fn is_repeated(locals: &[Local]) -> Option<HandlerId>
     ensures { IfNone result (NoRepeats (map number_in locals.now)) }
 {
     for (i, local) in locals.iter().enumerate() {
-        let number = local.number();
-        if place_of(&locals[..i], number).is_some() {
-            return Some(number);
+        if is_placed(&locals[..i], local.number()) {
+            return Some(local.number());
         }
     }
     None

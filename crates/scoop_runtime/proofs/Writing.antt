@@ -1,5 +1,5 @@
 -- One write behind another.
-use Rattle.std.proofs.Common.{◌≡◌, ℕ, ◌+◌, ◌<◌, ◌≤◌, List, [], ◌∷◌, ◌++◌, length, drop, get_or, Option, Some, None, Result, Ok, Err, OnOk, ◌∙◌, refl, ap, sym, subst, append_assoc}
+use Rattle.std.proofs.Common.{◌≡◌, ℕ, ◌+◌, ◌<◌, ◌≤◌, List, [], ◌++◌, length, drop, get_or, Option, Some, None, Result, Ok, Err, OnOk, ◌∙◌, refl, ap, sym, subst, append_assoc}
 use Rattle.std.proofs.lemmas.List.{append-nil, drop_all, drop_more}
 use Rattle.std.specs.Io.KnownBytes.{Appends}
 use Rattle.scoop_message.specs.declared.request.Answer.{Answer}

@@ -1,5 +1,5 @@
 -- The diary of a client that writes a journal.
-use Rattle.std.specs.Prelude.{◌≡◌, ℕ, List, ◌++◌, Option, Some, None, ⊤}
+use Rattle.std.specs.Prelude.{ℕ, List, ◌++◌, Option, Some, None, ⊤}
 use Rattle.std.specs.Io.KnownBytes.{Appends}
 use Rattle.scoop_driver.specs.declared.step.Received.{Received}
 use Rattle.scoop_driver.specs.declared.step.Received.TheVariants as received

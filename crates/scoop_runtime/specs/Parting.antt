@@ -1,5 +1,5 @@
 -- The block that a session leaves at its end.
-use Rattle.std.specs.Prelude.{◌≡◌, Bool, true, false, ⊤, List, is_some}
+use Rattle.std.specs.Prelude.{◌≡◌, Bool, true, ⊤, List, is_some}
 use Rattle.std.specs.List.{list_any}
 use Rattle.scoop_message.specs.declared.name.HandlerId.{HandlerId}
 use Rattle.scoop_client.specs.declared.phase.Phase.{Phase}

@@ -327,7 +327,16 @@ fn run_life<L: Link, J: Write + Drop, I: LineSource, P: Pause, W: Write, N: Writ
 ) -> (Result<(), RuntimeError>, Remains) {
     let link = LentLink::new(link);
     let mut session = Session::new(alloc, client, link, plan.turns(), journal);
-    let ended = run_session(plan, &mut session, known, lines, progress, pause, writer, notes);
+    let ended = run_session(
+        plan,
+        &mut session,
+        known,
+        lines,
+        progress,
+        pause,
+        writer,
+        notes,
+    );
     let left = session.leave();
     let last = session.last_block();
     (ended, Remains { left, last })
@@ -362,9 +371,28 @@ where
     let mut link = client_link(alloc, link, waits, faults, &known)?;
     let client = begin_client(alloc, plan, keeper, &known, &mut journal)?;
     let (ended, remains) = run_life(
-        alloc, plan, client, &mut link, &mut journal, &known, lines, progress, pause, writer, notes,
+        alloc,
+        plan,
+        client,
+        &mut link,
+        &mut journal,
+        &known,
+        lines,
+        progress,
+        pause,
+        writer,
+        notes,
     );
-    progress.unended = cut_left(alloc, plan, keeper, &mut link, &mut journal, &known, remains, notes);
+    progress.unended = cut_left(
+        alloc,
+        plan,
+        keeper,
+        &mut link,
+        &mut journal,
+        &known,
+        remains,
+        notes,
+    );
     tell_unended(progress.unended, writer);
     ended
 }

@@ -109,7 +109,9 @@ fn cut_block<K: Keeper<Global>, L: Link, J: Write + Drop, N: Write>(
     ensures { Parts plan.now.place.client plan.now.place.batch known.now handlers.now result (K.incarnations keeper.old) (K.incarnations keeper.new) (K.is_honest keeper.new) }
 {
     let turns = PARTING_TURNS;
-    match greet_anew(alloc, plan, keeper, link, journal, known, handlers, turns, notes) {
+    match greet_anew(
+        alloc, plan, keeper, link, journal, known, handlers, turns, notes,
+    ) {
         Ok(()) => Unended::Cut(block),
         Err(_) => Unended::Held(block),
     }
@@ -134,7 +136,9 @@ pub(crate) fn cut_left<K: Keeper<Global>, L: Link, J: Write + Drop, N: Write>(
         (Left::GivenUp, Some((block, _))) => Unended::GivenUp(block),
         (Left::Open, Some((block, handlers))) => {
             let handlers = handlers.as_slice();
-            cut_block(alloc, plan, keeper, link, journal, known, block, handlers, notes)
+            cut_block(
+                alloc, plan, keeper, link, journal, known, block, handlers, notes,
+            )
         }
     }
 }
@@ -198,7 +202,17 @@ where
     let known = known_handlers(alloc, plan.system())?;
     let mut link = client_link(alloc, link, waits, faults, &known)?;
     let turns = plan.turns();
-    greet_anew(alloc, plan, keeper, &mut link, &mut journal, &known, &known, turns, notes)?;
+    greet_anew(
+        alloc,
+        plan,
+        keeper,
+        &mut link,
+        &mut journal,
+        &known,
+        &known,
+        turns,
+        notes,
+    )?;
     let written = print_cut(plan.place().client, &known, writer);
     if written.is_ok() && writer.flush().is_ok() {
         Ok(())

@@ -148,6 +148,7 @@ impl<'j, A: Allocator, J: Write + Drop> Diary<A> for LastBlock<'j, J> {
     ghost wants_memory = { ⊤ };
 
     fn make_room(&mut self) -> Result<(), OutOfMemory>
+        ensures room { OnOk result ⊤ }
         ensures whole { OnOk result (self.old.failure ≡ None) }
         ensures block { self.new.block ≡ self.old.block }
         ensures failure { self.new.failure ≡ self.old.failure }

@@ -1,4 +1,3 @@
 pub mod Escaped
 pub mod Budget
-pub mod Routes
 pub mod Shown

@@ -4,37 +4,19 @@ use Rattle.std.specs.Option.{option_map}
 use Rattle.scoop_message.specs.declared.name.Block.{Block}
 use Rattle.scoop_queue.specs.Queue.{PrivateQueue, head_of, pending}
 use Rattle.scoop_queue.specs.declared.state.Head.{Head}
-use Rattle.scoop_queue.specs.declared.state.QueueState.{QueueState}
-use Rattle.scoop_queue.specs.declared.state.QueueState.TheVariants.{Open as QueueOpen, Ended as QueueEnded, Cut as QueueCut}
 use Rattle.scoop_handler.specs.State.{HandlerState}
 use Rattle.scoop_handler.specs.declared.mark.Mark.{Mark}
-use Rattle.scoop_handler.specs.declared.mark.Stage.{Stage}
-use Rattle.scoop_handler.specs.declared.mark.Stage.TheVariants.{Held as MarkHeld, Open as MarkOpen, Shut as MarkShut}
 use Rattle.scoop_status.specs.declared.view.Printed.{Printed}
 use Rattle.scoop_status.specs.declared.view.HandlerView.{HandlerView}
 use Rattle.scoop_status.specs.declared.view.QueueView.{QueueView}
 use Rattle.scoop_status.specs.declared.view.MarkView.{MarkView}
-use Rattle.scoop_status.specs.declared.view.StateView.{StateView}
-use Rattle.scoop_status.specs.declared.view.StateView.TheVariants.{Open as ShownOpen, Ended as ShownEnded, Cut as ShownCut}
-use Rattle.scoop_status.specs.declared.view.StageView.{StageView}
-use Rattle.scoop_status.specs.declared.view.StageView.TheVariants.{Held as ShownHeld, Open as ShownOpenStage, Shut as ShownShut}
-
-abbrev pub state_view : QueueState → StateView
-state_view QueueOpen = ShownOpen
-state_view QueueEnded = ShownEnded
-state_view QueueCut = ShownCut
-
-abbrev pub stage_view : Stage → StageView
-stage_view MarkHeld = ShownHeld
-stage_view MarkOpen = ShownOpenStage
-stage_view MarkShut = ShownShut
 
 abbrev pub printed_block : Block → Printed Block
 printed_block b = record { 0 = b }
 
 -- a private queue with this head, in which so many entries wait
 abbrev pub head_view : Head → ℕ → QueueView
-head_view h waiting = record { block = printed_block h.block; state = state_view h.state; pending = waiting; next = h.first }
+head_view h waiting = record { block = printed_block h.block; state = record { 0 = h.state }; pending = waiting; next = h.first }
 
 -- a private queue among those of its handler
 abbrev pub queue_view : List PrivateQueue → PrivateQueue → QueueView
@@ -45,7 +27,7 @@ mark_view m = record {
   client = m.client.0;
   incarnation = m.inc;
   block = m.num;
-  stage = stage_view m.stage;
+  stage = record { 0 = m.stage };
   received = m.received;
   ended = m.ended;
 }

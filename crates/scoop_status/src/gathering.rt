@@ -5,16 +5,16 @@ ghost use Rattle.std.specs.Option.{option_map};
 ghost use Rattle.scoop_status.specs.Shown.{Shows, head_view, mark_view, printed_block, queue_view};
 
 use crate::clients::{clients_of, meet_all};
+use crate::counts::CountsView;
 use crate::view::{
-    ClientView, CountsView, HandlerView, MarkView, NodeView, NoteView, Printed, QueueView,
-    ReasonView, StageView, StateView,
+    ClientView, HandlerView, MarkView, NodeView, Printed, QueueView, StageView, StateView,
 };
 use jiff::Timestamp;
 use scoop_handler::{HandlerState, Mark};
 use scoop_message::{Block, OutOfMemory};
 use scoop_queue::{Head, QueueOfQueues};
 use scoop_system::{HandlerPlace, Name, NodePlace, System};
-use scoop_watch::{LinkTally, NOTES, REASONS, Tally, Watch};
+use scoop_watch::Watch;
 use std::alloc::Global;
 use std::sync::Wait;
 use std::time::Clock;
@@ -40,11 +40,9 @@ pub fn gather<'a, R: Wait + Clock>(
     watch: &Watch,
     about: &About<'a>,
 ) -> Result<NodeView<'a>, OutOfMemory> {
-    let tally = watch.tally(rt);
-    let heard = heard_counts(alloc, &tally)?;
-    let dropped = dropped_counts(alloc, &tally)?;
     let handlers = handlers_of(rt, alloc, watch, about)?;
     let clients = clients_at(alloc, about.system, &handlers)?;
+    let tally = watch.tally(rt);
     Ok(NodeView {
         node: about.place.number,
         address: Printed(about.place.address),
@@ -55,9 +53,12 @@ pub fn gather<'a, R: Wait + Clock>(
         sealed: about.is_sealed,
         handlers,
         clients,
-        counts: counts_of(&tally, &watch.link_tally()),
-        heard,
-        dropped,
+        history_entries: tally.history,
+        last_unknown_client: tally.last_stranger.map(|stranger| stranger.0.0),
+        counts: CountsView {
+            tally,
+            link: watch.link_tally(),
+        },
     })
 }
 
@@ -72,25 +73,6 @@ fn clients_at(
         meet_all(&mut clients, &handler.marks)?;
     }
     Ok(clients)
-}
-
-fn counts_of(tally: &Tally, link: &LinkTally) -> CountsView {
-    CountsView {
-        datagrams_received: link.received,
-        datagrams_sent: link.sent,
-        datagrams_skipped: link.received.saturating_sub(tally.heard()),
-        link_faults: link.faults,
-        seal_refused: link.refused,
-        unknown_client_messages: tally.strangers,
-        last_unknown_client: tally.last_stranger.map(|stranger| stranger.0.0),
-        queues_cut: tally.cuts,
-        entries_run: tally.ran,
-        states_stored: tally.puts,
-        store_refusals: tally.refused_puts,
-        reopenings: tally.reopened,
-        history_entries: tally.history,
-        states_missed: tally.missed,
-    }
 }
 
 // The time without its fraction of a second.
@@ -221,7 +203,7 @@ fn queue_of(head: Head, pending: usize) -> QueueView
 {
     QueueView {
         block: Printed(head.block),
-        state: StateView::of(head.state),
+        state: StateView(head.state),
         pending: pending as u64,
         next: head.first,
     }
@@ -250,34 +232,8 @@ fn mark_of(mark: &Mark) -> MarkView
         client: mark.client.0,
         incarnation: mark.inc,
         block: mark.num,
-        stage: StageView::of(mark.stage),
+        stage: StageView(mark.stage),
         received: mark.received,
         ended: mark.ended,
     }
-}
-
-// The messages that were heard, by their notes.
-fn heard_counts(alloc: Global, tally: &Tally) -> Result<Vec<NoteView>, OutOfMemory> {
-    let mut views = Vec::new(alloc);
-    for (note, count) in NOTES.iter().zip(tally.notes.iter()) {
-        let view = NoteView {
-            note: *note,
-            count: *count,
-        };
-        views.push(view).map_err(OutOfMemory::from)?;
-    }
-    Ok(views)
-}
-
-// The messages that were dropped, by their reasons.
-fn dropped_counts(alloc: Global, tally: &Tally) -> Result<Vec<ReasonView>, OutOfMemory> {
-    let mut views = Vec::new(alloc);
-    for (reason, count) in REASONS.iter().zip(tally.dropped.iter()) {
-        let view = ReasonView {
-            reason: Printed(*reason),
-            count: *count,
-        };
-        views.push(view).map_err(OutOfMemory::from)?;
-    }
-    Ok(views)
 }

@@ -2,9 +2,7 @@
 
 use crate::budget::Budget;
 use jiff::Timestamp;
-use scoop_message::{ClientId, HandlerId};
 use scoop_watch::{Event, EventList, Level, LinkTally, LogLevel, MAX_EVENTS, Tally, Watch};
-use std::fmt::Display;
 use std::io;
 use std::io::Write;
 use std::sync::Wait;
@@ -79,74 +77,46 @@ impl<W: Write + Drop> Log<W> {
     /// Writes what has happened since the last call. The milliseconds are counted from the log's beginning.
     pub fn write_all<R: Wait + Clock>(&mut self, rt: &R, watch: &Watch, millis: u64) {
         if self.level.tells(Level::Warn) {
-            self.write_seal(rt, &watch.link_tally(), millis);
-            self.write_strangers(rt, &watch.tally(rt), millis);
-            self.write_events(rt, Level::Warn, &watch.take_events(rt, Level::Warn), millis);
+            self.write_counts(rt, &watch.link_tally(), &watch.tally(rt), millis);
         }
-        if self.level.tells(Level::Info) {
-            self.write_events(rt, Level::Info, &watch.take_events(rt, Level::Info), millis);
-        }
-        if self.level.tells(Level::Debug) {
-            self.write_events(
-                rt,
-                Level::Debug,
-                &watch.take_events(rt, Level::Debug),
-                millis,
-            );
+        for level in [Level::Warn, Level::Info, Level::Debug] {
+            if self.level.tells(level) {
+                let events = watch.take_events(rt, level);
+                self.write_events(rt, level, &events, millis);
+            }
         }
     }
 
-    // Writes that datagrams were refused by the seal.
-    fn write_seal<R: Clock>(&mut self, rt: &R, link: &LinkTally, millis: u64) {
+    // Writes that datagrams were refused by the seal, and that clients sent that the file doesn't name.
+    fn write_counts<R: Clock>(&mut self, rt: &R, link: &LinkTally, tally: &Tally, millis: u64) {
         if let Some(count) = self.seal.rise(link.refused, millis) {
-            self.write_line(
-                rt,
-                Level::Warn,
-                format_args!("seal-refused count={count}"),
-                0,
-            );
+            self.write_line(rt, Event::SealRefused(count), 0);
         }
-    }
-
-    // Writes that clients sent that the file doesn't name, with the last one.
-    fn write_strangers<R: Clock>(&mut self, rt: &R, tally: &Tally, millis: u64) {
-        let Some((client, handler)) = tally.last_stranger else {
-            return;
-        };
-        if let Some(count) = self.strangers.rise(tally.strangers, millis) {
-            self.write_stranger(rt, client, handler, count);
+        if let Some((client, handler)) = tally.last_stranger {
+            if let Some(count) = self.strangers.rise(tally.strangers, millis) {
+                self.write_line(rt, Event::UnknownClient(client, handler, count), 0);
+            }
         }
-    }
-
-    fn write_stranger<R: Clock>(
-        &mut self,
-        rt: &R,
-        client: ClientId,
-        handler: HandlerId,
-        count: u64,
-    ) {
-        let event = format_args!("unknown-client client={client} handler={handler} count={count}");
-        self.write_line(rt, Level::Warn, event, 0);
     }
 
     // Writes these events, as far as their budget goes.
     fn write_events<R: Clock>(&mut self, rt: &R, level: Level, events: &EventList, millis: u64) {
         for place in 0..MAX_EVENTS {
             if let Some(event) = events.get(place) {
-                self.write_event(rt, level, event, millis);
+                self.write_event(rt, event, millis);
             }
         }
         self.budget(level).leave_out(events.left_out());
     }
 
-    fn write_event<R: Clock>(&mut self, rt: &R, level: Level, event: Event, millis: u64) {
-        let budget = self.budget(level);
-        if !budget.takes(millis / MILLIS) {
+    fn write_event<R: Clock>(&mut self, rt: &R, event: Event, millis: u64) {
+        let budget = self.budget(event.level());
+        if budget.takes(millis / MILLIS) {
+            let left_out = budget.take_left_out();
+            self.write_line(rt, event, left_out);
+        } else {
             budget.leave_out(1);
-            return;
         }
-        let left_out = budget.take_left_out();
-        self.write_line(rt, level, event, left_out);
     }
 
     fn budget(&mut self, level: Level) -> &mut Budget {
@@ -158,35 +128,26 @@ impl<W: Write + Drop> Log<W> {
     }
 
     // Writes a line, and flushes it.
-    fn write_line<R: Clock, E: Display + Drop>(
-        &mut self,
-        rt: &R,
-        level: Level,
-        event: E,
-        left_out: u64,
-    ) {
-        let Ok(now) = Timestamp::now(rt) else {
-            return;
-        };
-        if print_line(&mut self.writer, now, level, self.node, event, left_out).is_ok() {
-            let _flushed = self.writer.flush();
+    fn write_line<R: Clock>(&mut self, rt: &R, event: Event, left_out: u64) {
+        if let Ok(now) = Timestamp::now(rt) {
+            let _lost = print_line(&mut self.writer, now, self.node, event, left_out);
         }
     }
 }
 
-// Writes a line of the log.
-fn print_line<W: Write, E: Display + Drop>(
+// Writes a line of the log, and flushes it.
+fn print_line<W: Write>(
     writer: &mut W,
     now: Timestamp,
-    level: Level,
     node: u32,
-    event: E,
+    event: Event,
     left_out: u64,
 ) -> io::Result<()> {
-    let level = level.name();
+    let level = event.level().name();
     write!(writer, "{now:.3} {level} node {node}: {event}")?;
     if left_out > 0 {
         write!(writer, " left-out={left_out}")?;
     }
-    writer.write_all(b"\n")
+    writer.write_all(b"\n")?;
+    writer.flush()
 }

@@ -16,7 +16,7 @@ pub fn print_page<W: Write>(view: &NodeView<'_>, writer: &mut W) -> io::Result<(
     print_queues(&view.handlers, writer)?;
     print_clients(&view.clients, writer)?;
     print_marks(&view.handlers, writer)?;
-    print_counts(view, writer)?;
+    print_counts(&view.counts, writer)?;
     writer.write_all(
         b"<p class=\"faint\">The same as <a href=\"/status.json\">JSON</a> and as <a href=\"/metrics\">metrics</a>.</p>\n\
         </body>\n</html>\n",
@@ -58,26 +58,13 @@ fn print_title<W: Write>(view: &NodeView<'_>, writer: &mut W) -> io::Result<()> 
 }
 
 fn print_since<W: Write>(view: &NodeView<'_>, writer: &mut W) -> io::Result<()> {
-    let address = view.address.0;
-    let started = view.started.0;
-    write!(writer, "<p>At {address}, up since {started} (")?;
-    print_time(view.uptime_seconds, writer)?;
-    writeln!(writer, ")</p>")
-}
-
-// A length of time.
-fn print_time<W: Write>(seconds: u64, writer: &mut W) -> io::Result<()> {
-    let (days, hours) = (seconds / 86_400, seconds / 3_600 % 24);
-    let (minutes, rest) = (seconds / 60 % 60, seconds % 60);
-    if days > 0 {
-        write!(writer, "{days} d {hours} h {minutes} min")
-    } else if hours > 0 {
-        write!(writer, "{hours} h {minutes} min")
-    } else if minutes > 0 {
-        write!(writer, "{minutes} min {rest} s")
-    } else {
-        write!(writer, "{rest} s")
-    }
+    let (address, started) = (view.address.0, view.started.0);
+    let seconds = view.uptime_seconds;
+    let (hours, minutes, rest) = (seconds / 3_600, seconds / 60 % 60, seconds % 60);
+    writeln!(
+        writer,
+        "<p>At {address}, up since {started} ({hours} h {minutes} min {rest} s)</p>"
+    )
 }
 
 fn print_store<W: Write>(store: Option<&str>, writer: &mut W) -> io::Result<()> {
@@ -95,40 +82,40 @@ fn print_store<W: Write>(store: Option<&str>, writer: &mut W) -> io::Result<()> 
 
 // What an operator should look at.
 fn print_alerts<W: Write>(view: &NodeView<'_>, writer: &mut W) -> io::Result<()> {
-    let refused = view.counts.seal_refused;
-    if refused > 0 {
-        writeln!(
-            writer,
-            "<p class=\"alert\">Wrong key: {refused} datagrams that were not sealed with this node's key. Somebody sends with another \
-            key or with none.</p>"
-        )?;
-    }
+    let (tally, link) = (&view.counts.tally, &view.counts.link);
+    print_alert(
+        link.refused,
+        "Wrong key: somebody sends with another key than this node's, or with none. Refused datagrams:",
+        writer,
+    )?;
     print_stranger(view, writer)?;
-    let refusals = view.counts.store_refusals;
-    if refusals > 0 {
-        writeln!(
-            writer,
-            "<p class=\"alert\">Store: it refused {refusals} states. The node has failed: mend the disk and start it again.</p>"
-        )?;
+    print_alert(
+        tally.refused_puts,
+        "Store: the node has failed. Mend the disk and start it again. Refused states:",
+        writer,
+    )?;
+    print_alert(
+        tally.missed,
+        "Out of memory: a handler's state here may be an earlier one. Missed states:",
+        writer,
+    )
+}
+
+// Tells the count, unless it is 0.
+fn print_alert<W: Write>(count: u64, text: &str, writer: &mut W) -> io::Result<()> {
+    if count == 0 {
+        return Ok(());
     }
-    let missed = view.counts.states_missed;
-    if missed > 0 {
-        writeln!(
-            writer,
-            "<p class=\"alert\">Out of memory: {missed} states are not shown. A handler's state here may be an earlier one.</p>"
-        )?;
-    }
-    Ok(())
+    writeln!(writer, "<p class=\"alert\">{text} {count}</p>")
 }
 
 fn print_stranger<W: Write>(view: &NodeView<'_>, writer: &mut W) -> io::Result<()> {
-    let count = view.counts.unknown_client_messages;
-    match view.counts.last_unknown_client {
-        Some(client) => writeln!(
-            writer,
-            "<p class=\"alert\">Unknown clients: {count} messages of clients that the file doesn't name, the last one of client \
-            {client}.</p>"
-        ),
-        None => Ok(()),
-    }
+    let Some(client) = view.last_unknown_client else {
+        return Ok(());
+    };
+    let count = view.counts.tally.strangers;
+    writeln!(
+        writer,
+        "<p class=\"alert\">Unknown clients: the file doesn't name them, as client {client}. Messages: {count}</p>"
+    )
 }

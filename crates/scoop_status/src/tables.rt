@@ -1,8 +1,8 @@
 //! The tables of the page.
 
-use crate::view::{
-    ClientView, CountsView, HandlerView, MarkView, NodeView, NoteView, QueueView, ReasonView,
-};
+use crate::counts::{COUNTS, CountsView};
+use crate::view::{ClientView, HandlerView, MarkView, QueueView};
+use scoop_watch::{NOTES, REASONS};
 use std::io;
 use std::io::Write;
 
@@ -151,49 +151,22 @@ fn print_mark<W: Write>(handler: u32, mark: &MarkView, writer: &mut W) -> io::Re
 }
 
 /// The counts of the node.
-pub(crate) fn print_counts<W: Write>(view: &NodeView<'_>, writer: &mut W) -> io::Result<()> {
+pub(crate) fn print_counts<W: Write>(counts: &CountsView, writer: &mut W) -> io::Result<()> {
     writer.write_all(b"<h2>Counts</h2>\n<dl>\n")?;
-    print_traffic(&view.counts, writer)?;
-    print_records(&view.counts, writer)?;
-    print_notes(&view.heard, writer)?;
-    print_reasons(&view.dropped, writer)?;
+    print_each("", &COUNTS, &counts.values(), writer)?;
+    print_each("heard: ", &NOTES, &counts.tally.notes, writer)?;
+    print_each("dropped: ", &REASONS, &counts.tally.dropped, writer)?;
     writer.write_all(b"</dl>\n")
 }
 
-fn print_traffic<W: Write>(counts: &CountsView, writer: &mut W) -> io::Result<()> {
-    print_count("datagrams received", counts.datagrams_received, writer)?;
-    print_count("datagrams sent", counts.datagrams_sent, writer)?;
-    print_count("datagrams skipped", counts.datagrams_skipped, writer)?;
-    print_count("refused by the seal", counts.seal_refused, writer)?;
-    print_count("link faults", counts.link_faults, writer)?;
-    print_count("of unknown clients", counts.unknown_client_messages, writer)
-}
-
-fn print_records<W: Write>(counts: &CountsView, writer: &mut W) -> io::Result<()> {
-    print_count("entries run", counts.entries_run, writer)?;
-    print_count("states stored", counts.states_stored, writer)?;
-    print_count("refused by the store", counts.store_refusals, writer)?;
-    print_count("queues cut", counts.queues_cut, writer)?;
-    print_count("history entries", counts.history_entries, writer)?;
-    print_count("reopenings", counts.reopenings, writer)
-}
-
-fn print_count<W: Write>(name: &str, count: u64, writer: &mut W) -> io::Result<()> {
-    writeln!(writer, "<div><dt>{name}<dd>{count}</div>")
-}
-
-fn print_notes<W: Write>(counts: &[NoteView], writer: &mut W) -> io::Result<()> {
-    for counted in counts {
-        let (note, count) = (counted.note, counted.count);
-        writeln!(writer, "<div><dt>heard: {note}<dd>{count}</div>")?;
-    }
-    Ok(())
-}
-
-fn print_reasons<W: Write>(counts: &[ReasonView], writer: &mut W) -> io::Result<()> {
-    for counted in counts {
-        let (reason, count) = (counted.reason.0, counted.count);
-        writeln!(writer, "<div><dt>dropped: {reason}<dd>{count}</div>")?;
+fn print_each<W: Write>(
+    prefix: &str,
+    names: &[&str],
+    values: &[u64],
+    writer: &mut W,
+) -> io::Result<()> {
+    for (name, value) in names.iter().zip(values.iter()) {
+        writeln!(writer, "<div><dt>{prefix}{name}<dd>{value}</div>")?;
     }
     Ok(())
 }

@@ -1,9 +1,7 @@
 //! What is shown of a node at one moment, in the shape of `/status.json`.
 
-ghost use Rattle.std.specs.Prelude.{◌≡◌};
-ghost use Rattle.scoop_status.specs.Shown.{stage_view, state_view};
-
-use scoop_handler::{Reason, Stage};
+use crate::counts::CountsView;
+use scoop_handler::Stage;
 use scoop_message::Block;
 use scoop_queue::QueueState;
 use scoop_system::{HandlerClass, Name};
@@ -41,36 +39,11 @@ pub struct NodeView<'a> {
     pub handlers: Vec<HandlerView>,
     /// The clients of the system's file, and all others that have greeted a handler.
     pub clients: Vec<ClientView>,
-    pub counts: CountsView,
-    /// Messages that handlers heard, by what they did.
-    pub heard: Vec<NoteView>,
-    /// Messages that handlers dropped, by the reason.
-    pub dropped: Vec<ReasonView>,
-}
-
-/// The counts of a node.
-#[derive(Clone, Copy, Serialize)]
-pub struct CountsView {
-    pub datagrams_received: u64,
-    pub datagrams_sent: u64,
-    /// Datagrams that are no frame or go to a handler that isn't here. One more may be on its way to its handler.
-    pub datagrams_skipped: u64,
-    /// Sends and receives that failed.
-    pub link_faults: u64,
-    /// Datagrams that weren't sealed with the key.
-    pub seal_refused: u64,
-    /// Messages of clients that the file doesn't name, and the last of these clients.
-    pub unknown_client_messages: u64,
-    pub last_unknown_client: Option<u32>,
-    pub queues_cut: u64,
-    pub entries_run: u64,
-    pub states_stored: u64,
-    pub store_refusals: u64,
-    pub reopenings: u64,
     /// Entries of its history since it was last opened.
     pub history_entries: u64,
-    /// States that are not shown, since memory was refused: a handler's state may be an earlier one.
-    pub states_missed: u64,
+    /// The last client that sent and that the file doesn't name, if any.
+    pub last_unknown_client: Option<u32>,
+    pub counts: CountsView,
 }
 
 /// A handler at one moment.
@@ -102,14 +75,9 @@ pub struct QueueView {
     pub next: u32,
 }
 
-/// Whether a private queue takes more entries.
-#[derive(Clone, Copy, Serialize)]
-#[serde(rename_all = "lowercase")]
-pub enum StateView {
-    Open,
-    Ended,
-    Cut,
-}
+/// Whether a private queue takes more entries: `open`, `ended` or `cut`.
+#[derive(Clone, Copy)]
+pub struct StateView(pub QueueState);
 
 /// What a handler keeps of a client.
 #[derive(Clone, Copy, Serialize)]
@@ -124,14 +92,9 @@ pub struct MarkView {
     pub ended: bool,
 }
 
-/// How far a client's newest block is.
-#[derive(Clone, Copy, Serialize)]
-#[serde(rename_all = "lowercase")]
-pub enum StageView {
-    Held,
-    Open,
-    Shut,
-}
+/// How far a client's newest block is: `held`, `open` or `shut`.
+#[derive(Clone, Copy)]
+pub struct StageView(pub Stage);
 
 /// A client of the node.
 #[derive(Clone, Copy, Serialize)]
@@ -145,61 +108,41 @@ pub struct ClientView {
     pub handlers: u64,
 }
 
-/// How many messages had a note.
-#[derive(Clone, Copy, Serialize)]
-pub struct NoteView {
-    pub note: &'static str,
-    pub count: u64,
-}
-
-/// How many messages were dropped for a reason.
-#[derive(Clone, Copy, Serialize)]
-pub struct ReasonView {
-    pub reason: Printed<Reason>,
-    pub count: u64,
-}
-
 impl StateView {
-    /// The state of a private queue, as it is shown.
-    pub fn of(state: QueueState) -> StateView
-        ensures { result ≡ state_view state }
-    {
-        match state {
-            QueueState::Open => StateView::Open,
-            QueueState::Ended => StateView::Ended,
-            QueueState::Cut => StateView::Cut,
-        }
-    }
-
     /// Its name.
     pub fn name(self) -> &'static str {
-        match self {
-            StateView::Open => "open",
-            StateView::Ended => "ended",
-            StateView::Cut => "cut",
+        match self.0 {
+            QueueState::Open => "open",
+            QueueState::Ended => "ended",
+            QueueState::Cut => "cut",
         }
+    }
+}
+
+impl Described for StateView {}
+
+impl Serialize for StateView {
+    fn serialize<S: Serializer>(&self, out: &mut S) -> Result<(), S::Error> {
+        out.str(self.name())
     }
 }
 
 impl StageView {
-    /// The stage of a mark, as it is shown.
-    pub fn of(stage: Stage) -> StageView
-        ensures { result ≡ stage_view stage }
-    {
-        match stage {
-            Stage::Held => StageView::Held,
-            Stage::Open => StageView::Open,
-            Stage::Shut => StageView::Shut,
-        }
-    }
-
     /// Its name.
     pub fn name(self) -> &'static str {
-        match self {
-            StageView::Held => "held",
-            StageView::Open => "open",
-            StageView::Shut => "shut",
+        match self.0 {
+            Stage::Held => "held",
+            Stage::Open => "open",
+            Stage::Shut => "shut",
         }
+    }
+}
+
+impl Described for StageView {}
+
+impl Serialize for StageView {
+    fn serialize<S: Serializer>(&self, out: &mut S) -> Result<(), S::Error> {
+        out.str(self.name())
     }
 }
 

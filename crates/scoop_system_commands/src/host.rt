@@ -14,6 +14,23 @@ use std::sync::Wait;
 use std::thread::Threads;
 use std::time::Clock;
 
+// Reports why a node ends early, whose store is in this file if it has one.
+fn report_node(
+    rt: &HostRuntime,
+    system: &System,
+    address: SocketAddr,
+    store: Option<&str>,
+    error: RuntimeError,
+) -> Status {
+    let party = Party {
+        system,
+        address,
+        store,
+        journal: None,
+    };
+    report_end(rt, &party, End::Runtime(error))
+}
+
 /// A node with its link and its keeper. Its thread has both while the node runs.
 #[derive(Drop)]
 pub(crate) struct Host<K: Keeper<Global>> {
@@ -65,13 +82,9 @@ impl<K: Keeper<Global> + Send> Host<K> {
         match self.serve(rt, threads, keeper, link, ending) {
             Ok(keeper) => self.keeper = Some(keeper),
             Err(error) => {
-                let party = Party {
-                    system,
-                    address: self.address,
-                    store: self.path.as_deref(),
-                    journal: None,
-                };
-                self.status = Some(report_end(rt, &party, End::Runtime(error)));
+                let path = self.path.as_deref();
+                let status = report_node(rt, system, self.address, path, error);
+                self.status = Some(status);
             }
         }
     }

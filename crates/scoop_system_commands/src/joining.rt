@@ -34,6 +34,7 @@ where
     let ending = Ending::new();
     let ended = &ending;
     let lent = hosts.as_mut_slice();
+    let keeper = &mut *keeper;
     let ran = thread::scope(thread::scope_env(), threads, move |scope| {
         for host in lent.iter_mut() {
             let spawned = scope.spawn(move || host.run(rt, threads, plan.system(), ended));

@@ -16,7 +16,8 @@ use scoop_record::Store;
 use scoop_report::{Hints, Status, hint, report};
 use scoop_runtime::{FileFault, NodePlan, OutOfRange, RuntimeError, Serving, open_node_link};
 use scoop_seal::{Key, SealedLink};
-use scoop_status::{About, Server};
+use scoop_status::About;
+use scoop_status_server::Server;
 use scoop_system::{NodePlace, System};
 use scoop_watch::RefusesForged;
 use sqlite::Alter;
@@ -32,12 +33,31 @@ pub fn serve_node<T: Threads + Wait + Clock + Net + Sync>(
     threads: &T,
     options: &NodeOptions<'_>,
 ) -> Result<(), Status> {
+    require_store(rt, options)?;
     let serving = match serving_of(options) {
         Ok(serving) => serving,
         Err(range) => return Err(report_range(rt, range)),
     };
     let system = read_system(rt, options.system)?;
     serve_in(rt, threads, options, &serving, &system)
+}
+
+// A node has a store, unless it is told to run without one.
+fn require_store(rt: &HostRuntime, options: &NodeOptions<'_>) -> Result<(), Status> {
+    let (fault, advice) = match (options.store, options.is_volatile) {
+        (StoreChoice::None, false) => (
+            "a node needs a store",
+            "name one by --new or --store, or say --volatile for a trial: then a restart forgets what was acknowledged",
+        ),
+        (StoreChoice::New(_) | StoreChoice::Old(_), true) => (
+            "--volatile with a store",
+            "leave one of them out",
+        ),
+        _ => return Ok(()),
+    };
+    report(rt, fault);
+    hint(rt, Hints::Always, advice);
+    Err(Status(2))
 }
 
 // The serving that the options ask for.

@@ -208,16 +208,21 @@ fn report_client(rt: &HostRuntime, plan: &ClientPlan<'_>, end: End) -> Status {
 fn close_hosts(rt: &HostRuntime, hosts: Vec<Host<FiledStore>>) -> Result<(), Status> {
     let mut ended = Ok(());
     for host in hosts {
-        let closed = match host.into_keeper() {
-            Ok((Some(store), Some(path))) => close_store(rt, &path, store),
-            Ok(_) => Ok(()),
-            Err(status) => Err(status),
-        };
+        let closed = close_host(rt, host);
         if ended.is_ok() {
             ended = closed;
         }
     }
     ended
+}
+
+// Closes the store of a node, unless its thread has not begun.
+fn close_host(rt: &HostRuntime, host: Host<FiledStore>) -> Result<(), Status> {
+    let (keeper, path) = host.into_keeper()?;
+    match keeper {
+        Some(store) => close_store(rt, path.as_deref().unwrap_or(""), store),
+        None => Ok(()),
+    }
 }
 
 // Closes a store.

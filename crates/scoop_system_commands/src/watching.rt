@@ -10,7 +10,8 @@ use scoop_link::Link;
 use scoop_message::{ClientId, OutOfMemory};
 use scoop_report::report;
 use scoop_runtime::{NodePlan, RuntimeError, Serving, node_run};
-use scoop_status::{About, Log, Server, show};
+use scoop_status::{About, Log};
+use scoop_status_server::{Server, show};
 use scoop_system::System;
 use scoop_watch::{
     LogLevel, RefusesForged, Settings, Watch, WatchedKeeper, WatchedLink, WatchedOutput,

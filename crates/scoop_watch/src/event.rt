@@ -6,7 +6,7 @@ use scoop_message::{Block, ClientId, HandlerId};
 use std::fmt;
 
 /// How important an event is.
-#[derive(Clone, Copy, Debug, PartialEq, Eq)]
+#[derive(Clone, Copy)]
 pub enum Level {
     Warn,
     Info,
@@ -25,7 +25,7 @@ impl Level {
 }
 
 /// The least important events that a log tells.
-#[derive(Clone, Copy, Debug, PartialEq, Eq)]
+#[derive(Clone, Copy)]
 pub enum LogLevel {
     Off,
     Warn,
@@ -36,16 +36,17 @@ pub enum LogLevel {
 impl LogLevel {
     /// Whether a log of this level tells events of that one.
     pub fn tells(self, level: Level) -> bool {
-        match level {
-            Level::Warn => self != LogLevel::Off,
-            Level::Info => self == LogLevel::Info || self == LogLevel::Debug,
-            Level::Debug => self == LogLevel::Debug,
+        match self {
+            LogLevel::Off => false,
+            LogLevel::Warn => matches!(level, Level::Warn),
+            LogLevel::Info => matches!(level, Level::Warn | Level::Info),
+            LogLevel::Debug => true,
         }
     }
 }
 
 /// An event of a node. Printed as its name, with a word `name=value` for each of its parts.
-#[derive(Clone, Copy, Debug, Default, PartialEq, Eq)]
+#[derive(Clone, Copy, Default)]
 pub enum Event {
     /// The node is ready.
     #[default]
@@ -64,13 +65,18 @@ pub enum Event {
     BlockOpened(Block, HandlerId),
     /// The handler dropped a client's message.
     Dropped(ClientId, HandlerId, Reason),
+    /// This many datagrams came that weren't sealed with the key.
+    SealRefused(u64),
+    /// This many messages came of clients that the system's file doesn't name, the last one of this client to this handler.
+    UnknownClient(ClientId, HandlerId, u64),
 }
 
 impl Event {
     /// How important the event is.
     pub fn level(&self) -> Level {
         match self {
-            Event::StoreRefused(_, _) => Level::Warn,
+            Event::StoreRefused(_, _) | Event::SealRefused(_) | Event::UnknownClient(_, _, _) =>
+                Level::Warn,
             Event::Opened
             | Event::Reopened
             | Event::Closed
@@ -104,6 +110,13 @@ impl fmt::Display for Event {
                 write!(
                     f,
                     "dropped client={client} handler={handler} reason={reason}"
+                )
+            }
+            Event::SealRefused(count) => write!(f, "seal-refused count={count}"),
+            Event::UnknownClient(client, handler, count) => {
+                write!(
+                    f,
+                    "unknown-client client={client} handler={handler} count={count}"
                 )
             }
         }

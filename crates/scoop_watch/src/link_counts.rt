@@ -58,7 +58,7 @@ pub(crate) fn add_one(count: &AtomicU64) {
 }
 
 /// How many datagrams passed through a node's link since the node began.
-#[derive(Clone, Copy, Debug)]
+#[derive(Clone, Copy)]
 pub struct LinkTally {
     /// Datagrams that came and that its seal, if it has one, didn't refuse.
     pub received: u64,

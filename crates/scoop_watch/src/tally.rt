@@ -10,22 +10,22 @@ pub const NOTES: [&str; 7] = [
     "Greeted", "Granted", "Held", "Opened", "Freed", "Took", "Known",
 ];
 
-/// The reasons for which messages are dropped, as a tally counts them.
-pub const REASONS: [Reason; 10] = [
-    Reason::NotForHandlers,
-    Reason::WrongHandler,
-    Reason::TooManyClients,
-    Reason::Stale,
-    Reason::Ungreeted,
-    Reason::NotHolder,
-    Reason::QueueFull,
-    Reason::NotOpen,
-    Reason::Gap,
-    Reason::PendingFull,
+/// The names of the reasons for which messages are dropped, as a tally counts them.
+pub const REASONS: [&str; 10] = [
+    "NotForHandlers",
+    "WrongHandler",
+    "TooManyClients",
+    "Stale",
+    "Ungreeted",
+    "NotHolder",
+    "QueueFull",
+    "NotOpen",
+    "Gap",
+    "PendingFull",
 ];
 
 /// How often things happened at a node's handlers since the node began. Counts stop at 2^64-1.
-#[derive(Clone, Copy, Debug)]
+#[derive(Clone, Copy)]
 pub struct Tally {
     /// Whether the node is open: it is ready, and hasn't closed.
     pub is_open: bool,
@@ -97,6 +97,13 @@ impl Tally {
     pub fn run(&mut self) {
         count(&mut self.ran);
         self.history = self.history.saturating_add(2);
+    }
+
+    /// Counts a reopening of the node, whose history begins anew.
+    pub fn reopen(&mut self) {
+        self.is_open = true;
+        count(&mut self.reopened);
+        self.history = 0;
     }
 
     /// Counts a message of a client that the file doesn't name.

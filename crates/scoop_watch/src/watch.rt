@@ -6,7 +6,7 @@ use crate::board::Board;
 use crate::event::{Event, Level, LogLevel};
 use crate::event_list::EventList;
 use crate::link_counts::{LinkCounts, LinkTally};
-use crate::tally::{Tally, count};
+use crate::tally::Tally;
 use scoop_handler::{HandlerState, Heard};
 use scoop_keeper::KeeperError;
 use scoop_message::{ClientId, HandlerId, Message, OutOfMemory};
@@ -112,10 +112,10 @@ impl Watch {
     pub(crate) fn tell_line<R: Wait>(&self, rt: &R, line: Event) {
         let mut board = self.board.lock(rt);
         let board = &mut *board;
-        board.tally.is_open = line != Event::Closed;
-        if line == Event::Reopened {
-            count(&mut board.tally.reopened);
-            board.tally.history = 0;
+        match line {
+            Event::Closed => board.tally.is_open = false,
+            Event::Reopened => board.tally.reopen(),
+            _ => board.tally.is_open = true,
         }
         board.tell(line, self.settings.log);
     }

@@ -150,6 +150,7 @@ const HELP: [Case; 9] = [
             "Statuses: 0; 1 ",
             "Example: scoop node 1 --system examples/bank.toml",
             "Usage: scoop node [OPTIONS] --system <FILE> <N>",
+            "--volatile",
             "--executors <K>",
             "[default: 2]",
             "--history <N>",

@@ -134,7 +134,7 @@ fn a_budget_refills(rt: HostRuntime) {
     for second in 0..86_400 {
         for _ in 0..3 {
             if budget.takes(second) {
-                taken += 1;
+                taken = taken.saturating_add(1);
             }
         }
     }

@@ -3,7 +3,8 @@
 use super::watch;
 use jiff::Timestamp;
 use mio::net::TcpListener;
-use scoop_status::{About, Pages, Server};
+use scoop_status::About;
+use scoop_status_server::{Pages, Server};
 use scoop_system::System;
 use scoop_watch::{LogLevel, Watch};
 use std::alloc::Global;
@@ -134,25 +135,10 @@ fn each_request_gets_its_answer_in_time(rt: HostRuntime) -> Result<(), Fail> {
         assert!(rt; back.starts_with(wanted.as_bytes()), "{wanted}");
         assert!(rt; took < Duration::from_secs(2), "{wanted}");
     }
-    Ok(())
-}
-
-#[test]
-fn a_head_that_is_too_long_is_refused(rt: HostRuntime) -> Result<(), Fail> {
-    let system = System::read(rt.alloc(), SYSTEM)?;
-    let about = about(&rt, &system)?;
-    let watch: Watch = watch(rt.alloc(), LogLevel::Off)?;
-    let mut served = serve(&rt)?;
-    let mut pages = Pages {
-        rt: &rt,
-        alloc: rt.alloc(),
-        watch: &watch,
-        about: &about,
-    };
-    let mut request = b"GET / HTTP/1.1\r\nHost: h\r\nX: ".to_vec(rt.alloc())?;
-    request.resize(5_000, b'a')?;
+    let mut long = b"GET / HTTP/1.1\r\nHost: h\r\nX: ".to_vec(rt.alloc())?;
+    long.resize(5_000, b'a')?;
     let stream = TcpStream::connect(&rt, served.address)?;
-    let (back, _) = ask(&rt, rt.alloc(), &mut served, &mut pages, stream, &request)?;
+    let (back, _) = ask(&rt, rt.alloc(), &mut served, &mut pages, stream, &long)?;
     assert!(rt; back.starts_with(b"HTTP/1.1 431 "));
     Ok(())
 }

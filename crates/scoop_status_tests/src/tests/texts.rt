@@ -2,13 +2,16 @@
 
 use jiff::Timestamp;
 use scoop_classes::DemoClass;
-use scoop_handler::Reason;
-use scoop_message::{Block, ClientId};
+use scoop_handler::{Note, Reason, Stage};
+use scoop_message::{Block, ClientId, HandlerId};
+use scoop_queue::QueueState;
 use scoop_status::{
-    ClientView, CountsView, HandlerView, MarkView, NodeView, NoteView, Page, Printed, QueueView,
-    ReasonView, StageView, StateView, page_of, print_json, print_metrics, print_page,
+    ClientView, CountsView, HandlerView, MarkView, NodeView, Printed, QueueView, StageView,
+    StateView, print_metrics, print_page,
 };
+use scoop_status_server::{Page, page_of, print_json};
 use scoop_system::{HandlerClass, Name};
+use scoop_watch::{LinkTally, Tally};
 use std::alloc::Global;
 use std::net::SocketAddr;
 use std::test::Fail;
@@ -60,34 +63,43 @@ const JSON: &str = "{
       \"handlers\": 1
     }
   ],
+  \"history_entries\": 7,
+  \"last_unknown_client\": 99,
   \"counts\": {
     \"datagrams_received\": 12,
     \"datagrams_sent\": 11,
-    \"datagrams_skipped\": 1,
+    \"datagrams_skipped\": 7,
     \"link_faults\": 0,
     \"seal_refused\": 4,
-    \"unknown_client_messages\": 5,
-    \"last_unknown_client\": 99,
+    \"unknown_client_messages\": 1,
     \"queues_cut\": 0,
-    \"entries_run\": 6,
+    \"entries_run\": 1,
     \"states_stored\": 9,
     \"store_refusals\": 0,
     \"reopenings\": 0,
-    \"history_entries\": 20,
-    \"states_missed\": 0
-  },
-  \"heard\": [
-    {
-      \"note\": \"Greeted\",
-      \"count\": 1
+    \"states_missed\": 0,
+    \"heard\": {
+      \"Greeted\": 1,
+      \"Granted\": 0,
+      \"Held\": 0,
+      \"Opened\": 0,
+      \"Freed\": 0,
+      \"Took\": 1,
+      \"Known\": 0
+    },
+    \"dropped\": {
+      \"NotForHandlers\": 0,
+      \"WrongHandler\": 0,
+      \"TooManyClients\": 1,
+      \"Stale\": 2,
+      \"Ungreeted\": 0,
+      \"NotHolder\": 0,
+      \"QueueFull\": 0,
+      \"NotOpen\": 0,
+      \"Gap\": 0,
+      \"PendingFull\": 0
     }
-  ],
-  \"dropped\": [
-    {
-      \"reason\": \"Stale\",
-      \"count\": 2
-    }
-  ]
+  }
 }";
 
 const BLOCK: Block = Block {
@@ -100,7 +112,7 @@ const BLOCK: Block = Block {
 fn handler(alloc: Global) -> Result<HandlerView, Fail> {
     let queue = QueueView {
         block: Printed(BLOCK),
-        state: StateView::Ended,
+        state: StateView(QueueState::Ended),
         pending: 2,
         next: 3,
     };
@@ -108,7 +120,7 @@ fn handler(alloc: Global) -> Result<HandlerView, Fail> {
         client: 7,
         incarnation: 1,
         block: 2,
-        stage: StageView::Held,
+        stage: StageView(Stage::Held),
         received: 0,
         ended: false,
     };
@@ -124,22 +136,27 @@ fn handler(alloc: Global) -> Result<HandlerView, Fail> {
     })
 }
 
-const COUNTS: CountsView = CountsView {
-    datagrams_received: 12,
-    datagrams_sent: 11,
-    datagrams_skipped: 1,
-    link_faults: 0,
-    seal_refused: 4,
-    unknown_client_messages: 5,
-    last_unknown_client: Some(99),
-    queues_cut: 0,
-    entries_run: 6,
-    states_stored: 9,
-    store_refusals: 0,
-    reopenings: 0,
-    history_entries: 20,
-    states_missed: 0,
-};
+// Two messages were taken, one of an unknown client was dropped, and two that came late.
+fn counts() -> CountsView {
+    let mut tally = Tally::new();
+    tally.hear(Note::Greeted);
+    tally.hear(Note::Took(1));
+    tally.hear(Note::Dropped(Reason::TooManyClients));
+    tally.hear(Note::Dropped(Reason::Stale));
+    tally.hear(Note::Dropped(Reason::Stale));
+    tally.run();
+    tally.meet_stranger(ClientId(99), HandlerId(3));
+    tally.puts = 9;
+    CountsView {
+        tally,
+        link: LinkTally {
+            received: 12,
+            sent: 11,
+            faults: 0,
+            refused: 4,
+        },
+    }
+}
 
 fn view(alloc: Global) -> Result<NodeView<'static>, Fail> {
     let client = ClientView {
@@ -147,14 +164,6 @@ fn view(alloc: Global) -> Result<NodeView<'static>, Fail> {
         named: true,
         incarnation: 1,
         handlers: 1,
-    };
-    let greeted = NoteView {
-        note: "Greeted",
-        count: 1,
-    };
-    let stale = ReasonView {
-        reason: Printed(Reason::Stale),
-        count: 2,
     };
     Ok(NodeView {
         node: 1,
@@ -166,9 +175,9 @@ fn view(alloc: Global) -> Result<NodeView<'static>, Fail> {
         sealed: true,
         handlers: vec![in alloc; handler(alloc)?]?,
         clients: vec![in alloc; client]?,
-        counts: COUNTS,
-        heard: vec![in alloc; greeted]?,
-        dropped: vec![in alloc; stale]?,
+        history_entries: 7,
+        last_unknown_client: Some(99),
+        counts: counts(),
     })
 }
 
@@ -188,10 +197,10 @@ fn the_page_answers_an_operator(rt: HostRuntime) -> Result<(), Fail> {
     let page = String::from_utf8(page)?;
     for part in [
         "<h1>Node 1 <span class=\"mark good\">open</span></h1>",
-        "up since 2026-11-26T10:41:14Z (1 h 2 min)",
+        "up since 2026-11-26T10:41:14Z (1 h 2 min 5 s)",
         "<p>Store: /tmp/a &quot;&lt;b&gt;&amp;.db</p>",
-        "Wrong key: 4 datagrams",
-        "Unknown clients: 5 messages of clients that the file doesn't name, the last one of client 99.",
+        "or with none. Refused datagrams: 4</p>",
+        "the file doesn't name them, as client 99. Messages: 1</p>",
         "<tr><td>3 till<td>account<td class=\"words\">10 18446744073709551615 <td>block 7.1.2<td>1<td>2<td>1</tr>",
         "<tr><td>3<td>7.1.1<td>ended<td>2<td>3</tr>",
         "<tr><td>7<td>1<td>1<td>yes</tr>",

@@ -6,5 +6,5 @@ use Rattle.scoop_weaver.specs.Trails.{HasTraffic}
 use Rattle.scoop_replay.proofs.client.add_all.Given as goal
 
 abbrev pub invariant-loop-next : goal.invariant-loop-next
-invariant-loop-next g l =
+invariant-loop-next l =
     Grows l.fn.post l.post × ((ts : List Traffic) → HasTraffic l.fn.post l.fn.trail ts → HasTraffic l.post l.trail (ts ++ take l.next-index l.moves))

@@ -4,4 +4,4 @@ use Rattle.scoop_book.specs.Moves.{is_handler}
 use Rattle.scoop_replay.proofs.local.place_of.Given as goal
 
 abbrev pub invariant-loop-i : goal.invariant-loop-i
-invariant-loop-i g l = find (is_handler l.handler) (drop l.i l.locals) ≡ find (is_handler l.handler) l.locals
+invariant-loop-i l = find (is_handler l.handler) (drop l.i l.locals) ≡ find (is_handler l.handler) l.locals

@@ -1,4 +1,4 @@
-use Rattle.std.proofs.Common.{rules, ◌≡◌, ◌∙◌, None, true, ap, subst, sym}
+use Rattle.std.proofs.Common.{rules, ◌≡◌, None, true, subst, sym}
 use Rattle.scoop_driver.specs.Wishes.{first_outside, handler_of, wish_for}
 use Rattle.scoop_reserve.specs.Handlers.{has}
 use Rattle.scoop_runtime.proofs.Inside.{entry_inside_if}

@@ -1,0 +1,5 @@
+mod Texts
+mod Clients
+mod Nodes
+mod Told
+mod World

@@ -1,0 +1,127 @@
+-- Journals that tell lives, with one order of these, tell a world.
+use Rattle.std.proofs.Common.{◌≡◌, ◌⊎◌, inl, inr, ℕ, List, [], ◌∷◌, ◌++◌, map, refl, sym, ap, ◌∙◌, subst}
+use Rattle.std.specs.Prelude.{flat_map}
+use Rattle.std.specs.List.{AllByRecursion, AllZip}
+use Rattle.std.proofs.lemmas.List.{map-append}
+use Rattle.scoop_message.specs.declared.name.HandlerId.{HandlerId}
+use Rattle.scoop_message.specs.declared.message.Message.{Message}
+use Rattle.scoop_message.specs.Lists.{NoRepeats}
+use Rattle.scoop_model.specs.Opening.{MayOpen}
+use Rattle.scoop_model.specs.Step.{Placement, Newcomer}
+use Rattle.scoop_weave.specs.System.{new_client}
+use Rattle.scoop_weave.specs.Lives.{ClientLife, IsClientLife, IsNodeLife, NodeLife, moves_of_client, moves_of_node, newcomers_of, newly, parties_of, placements_of}
+use Rattle.scoop_weave.specs.Lives.{words_in}
+use Rattle.scoop_weaver.specs.declared.traffic.Traffic.{Traffic}
+use Rattle.scoop_weaver.specs.declared.trail.Passage.{Passage}
+use Rattle.scoop_weaver.specs.Passing.{IsOfWorld, traffic_by, traffic_of}
+use Rattle.scoop_weaver.specs.Trails.{HasOrder, HasTraffic, HaveTraffic}
+use Rattle.scoop_weaver.proofs.Lifting.{woven_world}
+use Rattle.scoop_audit.specs.Told.{TellsClientLife, newcomer, node_life, placements_on}
+use Rattle.scoop_replay.specs.Client.{after_one_step}
+use Rattle.scoop_audit.specs.Client.{last_turn}
+use Rattle.scoop_audit.specs.World.{AreTold, ClientPages, IsExplained, IsSilent, IsToldClient, IsToldNode, NodePages, Weaves, placements_in, trails_of}
+
+-- ---- nodes
+
+record NodeLives (ps : List Placement) (post : List Message) (nodes : List NodePages) : Type 0 where
+  lives : List NodeLife
+  placed : placements_of lives ≡ placements_in nodes
+  numbers : map (λ n. n.number) lives ≡ map (λ n. n.number) nodes
+  each : AllByRecursion (IsNodeLife (words_in ps)) lives
+  traffic : HaveTraffic post (map (λ n. n.trail) nodes) (map (λ ms. map traffic_of ms) (map moves_of_node lives))
+
+node_lives : (ps : List Placement) (post : List Message) (nodes : List NodePages) → AllByRecursion (IsToldNode ps post) nodes → NodeLives ps post nodes
+node_lives ps post [] told = record { lives = []; placed = refl; numbers = refl; each = tt; traffic = tt }
+node_lives ps post (n ∷ nodes) told =
+    let rest = node_lives ps post nodes told.1 in
+    let life : NodeLife = node_life n.number n.placed told.0.tale in
+    record {
+      lives = life ∷ rest.lives;
+      placed = ap (λ xs. placements_on n.number n.placed ++ xs) rest.placed;
+      numbers = ap (λ xs. n.number ∷ xs) rest.numbers;
+      each = (told.0.replays, rest.each);
+      traffic = (told.0.traffic, rest.traffic);
+    }
+
+-- ---- clients
+
+silent_life : Newcomer → List Placement → ClientLife
+silent_life n ps = record { joined = n; first = []; more = []; now = new_client (map (λ (p : Placement). p.handler) ps) n }
+
+record OneClient (ps : List Placement) (post : List Message) (c : ClientPages) : Type 0 where
+  life : ClientLife
+  joined : life.joined ≡ c.joined
+  is : IsClientLife ps life
+  traffic : HasTraffic post c.trail (map traffic_of (moves_of_client ps life))
+
+one_client : (ps : List Placement) (post : List Message) (c : ClientPages) → IsToldClient ps post c → OneClient ps post c
+one_client ps post c (inl told) =
+    record { life = newcomer c.joined (after_one_step last_turn told.tale); joined = refl; is = told.replays; traffic = told.traffic }
+one_client ps post c (inr silent) =
+    record {
+      life = silent_life c.joined ps;
+      joined = refl;
+      is = (tt, refl);
+      traffic = subst (λ xs. HasTraffic post xs []) (sym silent.trail_is) (record { is = refl; numbered = tt });
+    }
+
+record ClientLives (ps : List Placement) (post : List Message) (clients : List ClientPages) : Type 0 where
+  lives : List ClientLife
+  joined : newcomers_of lives ≡ map (λ c. c.joined) clients
+  each : AllByRecursion (IsClientLife ps) lives
+  traffic : HaveTraffic post (map (λ c. c.trail) clients) (map (λ ms. map traffic_of ms) (map (moves_of_client ps) lives))
+
+client_lives : (ps : List Placement) (post : List Message) (clients : List ClientPages) → AllByRecursion (IsToldClient ps post) clients
+    → ClientLives ps post clients
+client_lives ps post [] told = record { lives = []; joined = refl; each = tt; traffic = tt }
+client_lives ps post (c ∷ clients) told =
+    let one = one_client ps post c told.0 in
+    let rest = client_lives ps post clients told.1 in
+    record {
+      lives = one.life ∷ rest.lives;
+      joined = ap (λ n. n ∷ newcomers_of rest.lives) one.joined ∙ ap (λ ns. c.joined ∷ ns) rest.joined;
+      each = (one.is, rest.each);
+      traffic = (one.traffic, rest.traffic);
+    }
+
+-- ---- all
+
+zip_append : {A B : Type 0} (R : A → B → Type 0) (xs us : List A) (ys vs : List B) → AllZip R xs ys → AllZip R us vs → AllZip R (xs ++ us) (ys ++ vs)
+zip_append R [] us [] vs a b = b
+zip_append R [] us (y ∷ ys) vs a b = absurd a
+zip_append R (x ∷ xs) us [] vs a b = absurd a
+zip_append R (x ∷ xs) us (y ∷ ys) vs a b = (a.0, zip_append R xs us ys vs a.1 b)
+
+pub told_world : (nodes : List NodePages) (clients : List ClientPages) (post : List Message) (turns : List ℕ) → AreTold nodes clients post
+    → Weaves post (trails_of nodes clients) turns → IsExplained nodes clients turns
+told_world nodes clients post turns told weaves =
+    let ps : List Placement = placements_in nodes in
+    let ns = node_lives ps post nodes told.each_node in
+    let cs = client_lives ps post clients told.each_client in
+    let same : placements_of ns.lives ≡ ps = ns.placed in
+    let parts : List (List Traffic) =
+    map (λ ms. map traffic_of ms) (map moves_of_node ns.lives) ++ map (λ ms. map traffic_of ms) (map (moves_of_client ps) cs.lives) in
+    let all : traffic_by ns.lives cs.lives ≡ parts =
+    map-append (λ ms. map traffic_of ms) (map moves_of_node ns.lives) (map (moves_of_client (placements_of ns.lives)) cs.lives)
+    ∙ ap (λ qs. map (λ ms. map traffic_of ms) (map moves_of_node ns.lives) ++ map (λ ms. map traffic_of ms) (map (moves_of_client qs) cs.lives)) same in
+    let o : HasOrder (traffic_by ns.lives cs.lives) turns =
+    subst (λ us. HasOrder us turns) (sym all)
+    (weaves parts (zip_append (HasTraffic post) (map (λ n. n.trail) nodes) (map (λ c. c.trail) clients)
+    (map (λ ms. map traffic_of ms) (map moves_of_node ns.lives)) (map (λ ms. map traffic_of ms) (map (moves_of_client ps) cs.lives)) ns.traffic cs.traffic)) in
+    record {
+      lives = ns.lives;
+      others = cs.lives;
+      placed = same;
+      joined = cs.joined;
+      order = o.order;
+      turns_are = o.turns_are;
+      world =
+          woven_world ns.lives cs.lives o.order
+          (subst (λ qs. MayOpen qs (newcomers_of cs.lives)) (sym same) (subst (MayOpen ps) (sym cs.joined) told.opens))
+          (record {
+            apart = subst NoRepeats (sym ns.numbers) told.apart;
+            each_node = subst (λ qs. AllByRecursion (IsNodeLife (words_in qs)) ns.lives) (sym same) ns.each;
+            each_client = subst (λ qs. AllByRecursion (IsClientLife qs) cs.lives) (sym same) cs.each;
+          })
+          o.woven;
+    }
