@@ -1,9 +1,11 @@
 -- A node's histories, joined opening by opening. The first book opens over the record that was prepared, in which each handler is
 -- as it was or new. Each further opening takes what stood. A node that was served closes with the opening that its first pass kept.
-use Rattle.std.proofs.Common.{◌≡◌, ◌⊎◌, inl, inr, ℕ, zero, suc, ◌<◌, ◌==◌, true, false, List, [], ◌∷◌, ◌++◌, map, length, get_or, slice_get, Option, Some, None, Result, Ok, Err}
+use Rattle.std.proofs.Common.{◌≡◌, ◌⊎◌, inl, inr, ℕ, zero, suc, ◌<◌, ◌==◌, true, false, List, [], ◌∷◌, ◌++◌, map, length, get_or, slice_get, take, ◌+◌, Option, Some, None, Result, Ok, Err}
 use Rattle.std.proofs.Common.{refl, sym, ap, ◌∙◌, subst, arith, true≢false, length-append}
 use Rattle.std.specs.Prelude.{◌↔◌, ◌≤◌, Bool, IfOk, OnOk}
 use Rattle.std.specs.List.{All, AllByRecursion, AllZip}
+use Rattle.std.proofs.lemmas.List.{take_more}
+use Rattle.std.proofs.lemmas.Slice.Zip.{all_zipped_more}
 use Rattle.std.proofs.lemmas.Option.{get_or_from_slice_get, slice_get_within, slice_get-map}
 use Rattle.std.proofs.lemmas.Bool.Decides.{Decides-eqb}
 use Rattle.scoop_message.specs.declared.name.HandlerId.{HandlerId}
@@ -30,6 +32,10 @@ use Rattle.scoop_runtime.specs.NodeLives.{GainedAt, stays_at, new_at, Gained, it
 reopens_both : (a b c : List LocalHandler) (xs ys : List (List Entry)) → Reopens a xs b → Reopens b ys c → Reopens a (xs ++ ys) c
 reopens_both a b c [] ys is more = subst (λ hs. Reopens hs ys c) (sym is) more
 reopens_both a b c (x ∷ xs) ys r more = (r.0, r.1, r.2, r.3, reopens_both r.1 b c xs ys r.4 more)
+
+-- a list that goes on with one that has an entry has one
+still_some : (xs ys : List (List Entry)) → 1 ≤ length ys → 1 ≤ length (xs ++ ys)
+still_some xs ys some = let long = length-append xs ys in omega (arith, some, long)
 
 module _ {K : Type 0} (has : K → ℕ → Stored → Type 0) (is_honest : K → Type 0) where
   pub goes_nowhere : (hs : List LocalHandler) (k : K) → GoesOn has is_honest hs k hs k
@@ -80,9 +86,10 @@ module _ {K : Type 0} (has : K → ℕ → Stored → Type 0) (is_honest : K →
 
   pub goes_then_further : (a b c : List LocalHandler) (k l m : K) → GoesOn has is_honest a k b l → GoesFurther has is_honest b l c m
       → GoesFurther has is_honest a k c m
+  unfolding goes_both
   goes_then_further a b c k l m first then = record {
     goes = goes_both a b c k l m first then.goes;
-    some = let long = length-append first.histories then.goes.histories in omega (arith, then.some, long);
+    some = still_some first.histories then.goes.histories then.some;
   }
 
   -- ---- the first opening
@@ -114,11 +121,12 @@ module _ {K : Type 0} (has : K → ℕ → Stored → Type 0) (is_honest : K →
 
     pub node_ran : (keeper ready now : K) (stood stand : List LocalHandler) → RanTo has is_honest members keeper ready stood → IsKept has is_honest stood ready
         → GoesFurther has is_honest stood ready stand now → NodeRan has is_honest members keeper now
+    unfolding ran_on
     node_ran keeper ready now stood stand ran kept further = record {
       ready = ready;
       stand = stand;
       ran = ran_on keeper ready ready stood stand further.goes.histories (λ h. h) ran further.goes.reopens;
-      some = let long = length-append ran.more further.goes.histories in omega (arith, further.some, long);
+      some = still_some ran.more further.goes.histories further.some;
       kept = further.goes.kept kept;
     }
 
@@ -160,6 +168,13 @@ module _ {B : Type 0} (words : B → List ℕ) where
     more = [];
     lives = record { last = stand; replays = runs.replays; reopens = refl };
   }
+
+  -- the objects of the members so far, and the next
+  pub objects_more : (ms : List Member) (i : ℕ) (m : Member) (ps : List (Handed B)) (p : Handed B) → i < length ms → m ≡ get_or ms i m
+      → AllZip (IsMemberObject words) (take i ms) ps → IsMemberObject words m p → AllZip (IsMemberObject words) (take (i + 1) ms) (ps ++ p ∷ [])
+  objects_more ms i m ps p within is all more =
+      subst (λ xs. AllZip (IsMemberObject words) xs (ps ++ p ∷ [])) (sym (take_more ms i m within ∙ ap (λ x. take i ms ++ x ∷ []) (sym is)))
+      (all_zipped_more (IsMemberObject words) (take i ms) ps m p all more)
 
 -- ---- the record that was prepared
 
@@ -266,8 +281,8 @@ gained_put old between new m number ws (Err e) same words missing stays keeps = 
 -- ---- a book that runs what is pending
 
 ran_opening : {K : Type 0} (pass : ℕ) (h : HandlerId) (a b : BookValue K) → RunsEntries pass h a b → b.opening ≡ a.opening
-ran_opening pass h a a (none_ran a) = refl
-ran_opening pass h a c (then_ran a b c before runs) = runs.finishes.opening ∙ runs.begins.opening ∙ ran_opening pass h a b before
+ran_opening pass h a b (none_ran c) = refl
+ran_opening pass h a b (then_ran x y z before last) = last.finishes.opening ∙ (last.begins.opening ∙ ran_opening pass h a y before)
 
 pub dry_opening : {K : Type 0} (pass : ℕ) (h : HandlerId) (a b : BookValue K) → RunsDry pass h a b → b.opening ≡ a.opening
 dry_opening pass h a b dry = dry.nothing.opening ∙ ran_opening pass h a dry.last dry.ran
