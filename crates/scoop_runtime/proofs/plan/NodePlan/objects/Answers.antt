@@ -1,6 +1,7 @@
-use Rattle.std.proofs.Common.{◌+◌, ◌<◌, ◌≤◌, length, take, get_or, ◌≡◌, subst, sym}
+use Rattle.std.proofs.Common.{◌<◌, ◌≤◌, length, get_or, true, ◌≡◌, subst, sym}
 use Rattle.std.proofs.lemmas.List.{take_all}
 use Rattle.std.specs.List.{AllZip}
+use Rattle.std.specs.Result.{is_ok}
 use Rattle.scoop_runtime.specs.NodeLives.{IsMemberObject}
 use Rattle.scoop_runtime.proofs.NodeLives.{objects_more}
 use Rattle.scoop_runtime.proofs.plan.NodePlan.objects.Goals as goal
@@ -12,8 +13,10 @@ loop-member-preserved c =
     let same = c.deref-member-items.ensures.value in
     let within = subst (λ xs. i < length xs) same c.loop-member-test.true in
     let is = subst (λ xs. c.member-item.result ≡ get_or xs i c.member-item.result) same c.member-item.is in
-    subst (λ ps. AllZip (IsMemberObject (λ t. t.words)) (take (i + 1) ms) ps) (sym c.push.ensures.items)
-    (objects_more (λ t. t.words) ms i c.member-item.result c.loop-member.handlers.items c.in_ok-opened.opened within is c.loop-member.invariant c.in_ok-opened.ensures)
+    let pushed : is_ok c.push.result ≡ true = sym c.in_ok-map_err.ensures.variant in
+    let all = objects_more (λ t. t.words) ms i c.member-item.result c.loop-member.handlers.items c.in_ok-opened.opened within is c.loop-member.invariant
+    c.in_ok-opened.ensures in
+    rw (c.push.ensures.items) rw pushed all
 
 pub returns-clause-members : goal.returns-clause-members
 returns-clause-members c =
