@@ -1,9 +1,9 @@
 -- A node's histories, joined opening by opening. The first book opens over the record that was prepared, in which each handler is
 -- as it was or new. Each further opening takes what stood. A node that was served closes with the opening that its first pass kept.
-use Rattle.std.proofs.Common.{◌≡◌, ◌⊎◌, inl, inr, ℕ, zero, suc, ◌<◌, ◌==◌, true, false, List, [], ◌∷◌, ◌++◌, map, length, get_or, slice_get, take, ◌+◌, Option, Some, None, Result, Ok, Err}
+use Rattle.std.proofs.Common.{◌≡◌, ◌⊎◌, inl, inr, ℕ, suc, ◌<◌, ◌==◌, List, [], ◌∷◌, ◌++◌, map, length, get_or, slice_get, take, ◌+◌, Option, Some, None, Result, Ok, Err}
 use Rattle.std.proofs.Common.{refl, sym, ap, ◌∙◌, subst, arith, true≢false, length-append}
-use Rattle.std.specs.Prelude.{◌↔◌, ◌≤◌, Bool, IfOk, OnOk}
-use Rattle.std.specs.List.{All, AllByRecursion, AllZip}
+use Rattle.std.specs.Prelude.{◌≤◌, Bool, IfOk, OnOk}
+use Rattle.std.specs.List.{AllByRecursion, AllZip}
 use Rattle.std.proofs.lemmas.List.{take_more}
 use Rattle.std.proofs.lemmas.Slice.Zip.{all_zipped_more}
 use Rattle.std.proofs.lemmas.Option.{get_or_from_slice_get, slice_get_within, slice_get-map}
@@ -14,7 +14,7 @@ use Rattle.scoop_handler.specs.State.{HandlerState, new_state}
 use Rattle.scoop_handler.specs.Local.{LocalHandler, opening_handler}
 use Rattle.std.specs.Option.{option_map}
 use Rattle.scoop_handler.proofs.Basics.{by_test}
-use Rattle.scoop_keeper.specs.Keeper.{Stored, Missing, Holds, Damaged, IsTheOne, Keeps, Stays, StaysAt, stored_of}
+use Rattle.scoop_keeper.specs.Keeper.{Stored, Missing, Holds, IsTheOne, Keeps, Stays, StaysAt, stored_of}
 use Rattle.scoop_link.specs.Link.{Told}
 use Rattle.scoop_book.specs.Moves.{Entry, Replays}
 use Rattle.scoop_book.specs.Books.{BookValue, HasStored, IsBook}
