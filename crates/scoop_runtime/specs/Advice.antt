@@ -19,7 +19,7 @@ use Rattle.scoop_runtime.specs.declared.advice.About.TheVariants.{Store, Address
 use Rattle.scoop_runtime.specs.declared.advice.FileFault.{FileFault}
 use Rattle.scoop_runtime.specs.declared.advice.FileFault.TheVariants as file
 use Rattle.scoop_runtime.specs.declared.error.RuntimeError.{RuntimeError}
-use Rattle.scoop_runtime.specs.declared.error.RuntimeError.TheVariants.{Line, Input, InsideBlock, InsideWhen, Handlers, NoHandler, Ended}
+use Rattle.scoop_runtime.specs.declared.error.RuntimeError.TheVariants.{Line, Input, InsideBlock, InsideWhen, Handlers, NoHandler, OtherStates, Ended}
 use Rattle.scoop_runtime.specs.declared.error.RuntimeError.TheVariants.{NotWelcomed, NotAnswered, Refused, SomeRefused}
 
 -- for an error that no run leads to
@@ -91,6 +91,8 @@ advice_text InsideWhen = codes "write end after the last line, and repeat all li
 advice_text (Handlers error) = begin_advice error
 advice_text (NoHandler h) =
     codes "it belongs to another party or to a node that was never ready, or the system's file gained the handler later. Name this node's store, or remove the handler from the file. Use --new only if the node was never ready"
+advice_text OtherStates =
+    codes "another program has written this store, or the disk did not keep what was written: end that program, check the disk, and resume with --store. Clients may have had replies that rest on a state that is lost"
 advice_text (NotWelcomed h) =
     codes "it has not welcomed this client. Check that its node runs and that all programs have the same file and key. If this client ran before with another store, resume that one and never this one. Else raise --turns"
 advice_text (NotAnswered h) =
@@ -125,6 +127,7 @@ party_about error = Nothing
 
 abbrev pub about : RuntimeError → About
 about (NoHandler h) = Store
+about OtherStates = Store
 about (NotWelcomed h) = Handler h
 about (NotAnswered h) = Handler h
 about (Ended error) = party_about error

@@ -7,7 +7,7 @@ use Rattle.scoop_errors.specs.ErrorText.{error_text as party_text}
 use Rattle.scoop_system.specs.LineText.{line_fault_text}
 use Rattle.scoop_lines.specs.SourceText.{source_text}
 use Rattle.scoop_runtime.specs.declared.error.RuntimeError.{RuntimeError}
-use Rattle.scoop_runtime.specs.declared.error.RuntimeError.TheVariants.{Line, Input, InsideBlock, InsideWhen, Handlers, NoHandler, Ended}
+use Rattle.scoop_runtime.specs.declared.error.RuntimeError.TheVariants.{Line, Input, InsideBlock, InsideWhen, Handlers, NoHandler, OtherStates, Ended}
 use Rattle.scoop_runtime.specs.declared.error.RuntimeError.TheVariants.{NotWelcomed, NotAnswered, Refused, SomeRefused}
 
 abbrev pub begin_text : BeginError → List ℕ
@@ -23,6 +23,7 @@ error_text InsideBlock = codes "the input ended inside a block"
 error_text InsideWhen = codes "the input ended inside a waiting block, and nothing of it is done"
 error_text (Handlers error) = begin_text error
 error_text (NoHandler h) = codes "store: NoHandler " ++ decimal h.0
+error_text OtherStates = codes "store: OtherStates"
 error_text (NotWelcomed h) = codes "link: TurnsOver"
 error_text (NotAnswered h) = codes "link: TurnsOver"
 error_text (Refused number) = codes "line " ++ (decimal number ++ codes ": refused")
@@ -37,6 +38,7 @@ status_of InsideBlock = 1
 status_of InsideWhen = 1
 status_of (Handlers error) = 3
 status_of (NoHandler h) = 3
+status_of OtherStates = 3
 status_of (NotWelcomed h) = 3
 status_of (NotAnswered h) = 3
 status_of (Refused number) = 1

@@ -7,6 +7,7 @@ pub mod Conditions
 pub mod Cutting
 pub mod Errors
 pub mod News
+pub mod NodeLives
 pub mod Forwarding
 pub mod NodeTexts
 pub mod Obeying

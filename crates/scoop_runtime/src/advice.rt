@@ -95,6 +95,10 @@ impl RuntimeError {
                 "it belongs to another party or to a node that was never ready, or the system's file gained the handler later. \
                 Name this node's store, or remove the handler from the file. Use --new only if the node was never ready"
             }
+            RuntimeError::OtherStates => {
+                "another program has written this store, or the disk did not keep what was written: end that program, check the \
+                disk, and resume with --store. Clients may have had replies that rest on a state that is lost"
+            }
             RuntimeError::NotWelcomed(_) => {
                 "it has not welcomed this client. Check that its node runs and that all programs have the same file and key. If \
                 this client ran before with another store, resume that one and never this one. Else raise --turns"
@@ -130,7 +134,7 @@ impl RuntimeError {
         ensures { result ≡ about self }
     {
         match self {
-            RuntimeError::NoHandler(_) => About::Store,
+            RuntimeError::NoHandler(_) | RuntimeError::OtherStates => About::Store,
             RuntimeError::NotWelcomed(handler) | RuntimeError::NotAnswered(handler) => {
                 About::Handler(handler)
             }

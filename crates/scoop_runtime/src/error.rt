@@ -28,6 +28,8 @@ pub enum RuntimeError {
     Handlers(BeginError),
     /// A node that resumes has no record of this handler.
     NoHandler(HandlerId),
+    /// A node that opened again found other states of its handlers than it had stored.
+    OtherStates,
     /// The client's turns were over before this handler welcomed it.
     NotWelcomed(HandlerId),
     /// The turns of a line were over; this is the first handler of the system to which a message was due.
@@ -53,7 +55,7 @@ impl RuntimeError {
             RuntimeError::InsideBlock | RuntimeError::InsideWhen => 1,
             RuntimeError::Refused(_) | RuntimeError::SomeRefused(..) => 1,
             RuntimeError::Handlers(_) => 3,
-            RuntimeError::NoHandler(_) => 3,
+            RuntimeError::NoHandler(_) | RuntimeError::OtherStates => 3,
             RuntimeError::NotWelcomed(_) | RuntimeError::NotAnswered(_) => 3,
             RuntimeError::Ended(error) => error.status(),
         }
@@ -83,6 +85,7 @@ impl fmt::Display for RuntimeError {
             }
             RuntimeError::Handlers(BeginError::OutOfMemory) => f.write_str("out of memory"),
             RuntimeError::NoHandler(handler) => write!(f, "store: NoHandler {handler}"),
+            RuntimeError::OtherStates => f.write_str("store: OtherStates"),
             RuntimeError::NotWelcomed(_) | RuntimeError::NotAnswered(_) => {
                 f.write_str("link: TurnsOver")
             }

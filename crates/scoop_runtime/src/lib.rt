@@ -44,6 +44,7 @@ mod node;
 mod openings;
 mod parting;
 mod patient_link;
+mod pending;
 mod plan;
 mod printing;
 mod progress;
