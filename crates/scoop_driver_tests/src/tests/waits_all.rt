@@ -36,14 +36,6 @@ fn part(rt: &impl Abort, handler: HandlerId, test: Test) -> ConditionPart {
     }
 }
 
-fn query(rt: &impl Abort) -> BodyEntry {
-    BodyEntry::Query(ONE, request(rt, BALANCE, 0))
-}
-
-fn call(rt: &impl Abort, op: u16, amount: u64) -> BodyEntry {
-    BodyEntry::Call(ONE, request(rt, op, amount))
-}
-
 /// Waits on handler 1 for two tests of its balance, in three blocks at most. The body reads the balance before and after
 /// a deposit of 5. Returns what came, the answers, and the sum of the pauses.
 fn waits(
@@ -52,7 +44,11 @@ fn waits(
     tests: (Test, Test),
 ) -> (Result<u32, DriverError>, [Answer; 2], u32) {
     let condition = [part(rt, ONE, tests.0), part(rt, ONE, tests.1)];
-    let body = [query(rt), call(rt, DEPOSIT, 5), query(rt)];
+    let body = [
+        BodyEntry::Query(ONE, request(rt, BALANCE, 0)),
+        BodyEntry::Call(ONE, request(rt, DEPOSIT, 5)),
+        BodyEntry::Query(ONE, request(rt, BALANCE, 0)),
+    ];
     let mut answers = [Answer::Refused; 2];
     let mut sum = Sum(0);
     let told = driver.when_all(&[ONE], &condition, &body, &mut answers, 3, &mut sum);
@@ -114,15 +110,17 @@ fn a_refused_answer_passes_no_test(rt: HostRuntime) {
 
 /// A handler outside of the block is refused before anything else, in the condition and in the body.
 fn outside(rt: &impl Abort, driver: &mut Driver<Wire>) {
-    let here = part(rt, ONE, Test::Least(0));
-    let there = part(rt, NINE, Test::Least(0));
-    let told = driver.when_all(&[ONE], &[here, there], &[], &mut [], 3, &mut NoPause);
+    let condition = [
+        part(rt, ONE, Test::Least(0)),
+        part(rt, NINE, Test::Least(0)),
+    ];
+    let told = driver.when_all(&[ONE], &condition, &[], &mut [], 3, &mut NoPause);
     assert_eq!(rt; told, OUTSIDE);
     let body = [
-        call(rt, DEPOSIT, 1),
+        BodyEntry::Call(ONE, request(rt, DEPOSIT, 1)),
         BodyEntry::Call(NINE, request(rt, DEPOSIT, 1)),
     ];
-    let told = driver.when_all(&[ONE], &[here], &body, &mut [], 3, &mut NoPause);
+    let told = driver.when_all(&[ONE], &condition[..1], &body, &mut [], 3, &mut NoPause);
     assert_eq!(rt; told, OUTSIDE);
     assert_eq!(rt; driver.phase(), Phase::Greeting);
 }

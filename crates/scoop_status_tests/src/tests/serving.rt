@@ -5,7 +5,7 @@ use jiff::Timestamp;
 use mio::net::TcpListener;
 use scoop_status::About;
 use scoop_status_server::{Pages, Server};
-use scoop_system::System;
+use scoop_system::{NodePlace, System};
 use scoop_watch::{LogLevel, Watch};
 use std::alloc::Global;
 use std::hash::RandomState;
@@ -44,14 +44,14 @@ fn serve(rt: &HostRuntime) -> Result<Served, Fail> {
     Ok(Served { server, address })
 }
 
-fn about<'a>(rt: &HostRuntime, system: &'a System) -> Result<About<'a>, Fail> {
-    Ok(About {
+fn about<'a>(system: &'a System, place: &NodePlace, started: Timestamp) -> About<'a> {
+    About {
         system,
-        place: *system.node(1).ok_or("no node")?,
+        place: *place,
         store: None,
         is_sealed: false,
-        started: Timestamp::now(rt)?,
-    })
+        started,
+    }
 }
 
 // Sends these bytes, and turns the server until the connection ends. Returns what came back, and after how long.
@@ -120,7 +120,8 @@ const CASES: [(&[u8], &str); 9] = [
 #[test]
 fn each_request_gets_its_answer_in_time(rt: HostRuntime) -> Result<(), Fail> {
     let system = System::read(rt.alloc(), SYSTEM)?;
-    let about = about(&rt, &system)?;
+    let place = system.node(1).ok_or("no node")?;
+    let about = about(&system, place, Timestamp::now(&rt)?);
     let watch: Watch = watch(rt.alloc(), LogLevel::Off)?;
     let mut served = serve(&rt)?;
     let mut pages = Pages {
@@ -146,7 +147,8 @@ fn each_request_gets_its_answer_in_time(rt: HostRuntime) -> Result<(), Fail> {
 #[test]
 fn silent_connections_leave_room(rt: HostRuntime) -> Result<(), Fail> {
     let system = System::read(rt.alloc(), SYSTEM)?;
-    let about = about(&rt, &system)?;
+    let place = system.node(1).ok_or("no node")?;
+    let about = about(&system, place, Timestamp::now(&rt)?);
     let watch: Watch = watch(rt.alloc(), LogLevel::Off)?;
     let mut served = serve(&rt)?;
     let mut pages = Pages {
