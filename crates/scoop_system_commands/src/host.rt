@@ -113,6 +113,14 @@ impl<K: Keeper<Global> + Send> Host<K> {
         )
     }
 
+    /// The status of a node that ended early.
+    pub(crate) fn ended(&self) -> Result<(), Status> {
+        match self.status {
+            Some(status) => Err(status),
+            None => Ok(()),
+        }
+    }
+
     /// The keeper and the file of its store, or the status of a node that ended early.
     pub(crate) fn into_keeper(self) -> Result<(Option<K>, Option<String>), Status> {
         let Host {

@@ -11,9 +11,10 @@ use scoop_keeper::{Keeper, MemoryKeeper};
 use scoop_message::{ClientId, OutOfMemory};
 use scoop_report::{Hints, Status, report};
 use scoop_runtime::{ClientPlan, FileFault, OutOfRange, RuntimeError, Serving, open_client_link};
-use scoop_system::{ClientPlace, System};
+use scoop_system::{ClientPlace, NodePlace, System};
 use std::alloc::Global;
 use std::io::IsTerminal;
+use std::mem;
 use std::net::Net;
 use std::sync::Wait;
 use std::thread::Threads;
@@ -34,12 +35,16 @@ pub fn run_up<T: Threads + Wait + Clock + Net + Sync>(
     threads: &T,
     options: &UpOptions<'_>,
 ) -> Result<(), Status> {
+    let serving = match Serving::new(EXECUTORS, HISTORY, u64::MAX) {
+        Ok(serving) => serving,
+        Err(range) => return Err(report_range(rt, range)),
+    };
     let system = read_system(rt, options.system)?;
     let Some(place) = client_place(&system, options.client) else {
         return Err(report_fault(rt, options.system, "no such client", FileFault::NoClient));
     };
     match plan_of(rt, &system, place, options.is_strict) {
-        Ok(plan) => run_in(rt, threads, options, &plan),
+        Ok(plan) => run_in(rt, threads, options, serving, &plan),
         Err(range) => Err(report_range(rt, range)),
     }
 }
@@ -71,125 +76,157 @@ fn run_in<T: Threads + Wait + Clock + Net + Sync>(
     rt: &HostRuntime,
     threads: &T,
     options: &UpOptions<'_>,
+    serving: Serving,
     plan: &ClientPlan<'_>,
 ) -> Result<(), Status> {
     match options.dir {
-        Some(dir) => run_stored(rt, threads, plan, dir),
-        None => run_unstored(rt, threads, plan),
+        Some(dir) => run_stored(rt, threads, serving, plan, dir),
+        None => run_unstored(rt, threads, serving, plan),
     }
 }
 
-// The settings of a node.
-fn serving(is_old: bool) -> Result<Serving, OutOfRange> {
-    let serving = Serving::new(EXECUTORS, HISTORY, u64::MAX)?;
-    if is_old {
-        Ok(serving.going_on())
-    } else {
-        Ok(serving)
-    }
-}
-
-// Runs the parties, and stores nothing.
+// Runs the parties, and stores nothing. The nodes are borrowed by what can fail, so that no early return has to drop them.
 fn run_unstored<T: Threads + Wait + Clock + Net + Sync>(
     rt: &HostRuntime,
     threads: &T,
+    serving: Serving,
     plan: &ClientPlan<'_>,
 ) -> Result<(), Status> {
     report(rt, "no --dir: nothing is stored");
-    let hosts = match open_unstored(rt, threads, plan.system()) {
-        Ok(hosts) => hosts,
-        Err(error) => return Err(report_plainly(rt, error)),
-    };
+    let mut hosts = Vec::new(rt.alloc());
     let mut keeper = MemoryKeeper::new(rt.alloc());
-    let (hosts, ran) = run_together(rt, threads, hosts, plan, &mut keeper);
-    ran?;
-    for host in hosts {
-        host.into_keeper()?;
+    run_unstored_in(rt, threads, serving, plan, &mut hosts, &mut keeper)
+}
+
+// The same over these nodes, which are none yet, and this record of the client.
+fn run_unstored_in<T: Threads + Wait + Clock + Net + Sync>(
+    rt: &HostRuntime,
+    threads: &T,
+    serving: Serving,
+    plan: &ClientPlan<'_>,
+    hosts: &mut Vec<Host<MemoryKeeper>>,
+    keeper: &mut MemoryKeeper,
+) -> Result<(), Status> {
+    for place in plan.system().nodes() {
+        let record = MemoryKeeper::new(rt.alloc());
+        add_host(
+            rt,
+            threads,
+            plan.system(),
+            place,
+            serving,
+            record,
+            None,
+            hosts,
+        )?;
+    }
+    run_together(rt, threads, hosts, plan, keeper)?;
+    for host in hosts.iter() {
+        host.ended()?;
     }
     Ok(())
 }
 
-// The nodes over memory alone.
-fn open_unstored<T: Net>(
+// Adds the node at this place, over its port and this keeper.
+fn add_host<K: Keeper<Global> + Send, T: Net>(
     rt: &HostRuntime,
     net: &T,
     system: &System,
-) -> Result<Vec<Host<MemoryKeeper>>, RuntimeError> {
-    let alloc = rt.alloc();
-    let mut hosts = Vec::new(alloc);
-    let Ok(serving) = serving(false) else {
-        return Ok(hosts);
-    };
-    for place in system.nodes() {
-        let keeper = MemoryKeeper::new(alloc);
-        let host = Host::open(rt, net, system, place, serving, keeper, None)?;
-        hosts.push(host).map_err(OutOfMemory::from)?;
+    place: &NodePlace,
+    serving: Serving,
+    keeper: K,
+    path: Option<String>,
+    hosts: &mut Vec<Host<K>>,
+) -> Result<(), Status> {
+    match Host::open(rt, net, system, place, serving, keeper, path) {
+        Ok(host) => keep(rt, host, hosts),
+        Err(error) => Err(report_plainly(rt, error)),
     }
-    Ok(hosts)
+}
+
+fn keep<K: Keeper<Global>>(
+    rt: &HostRuntime,
+    host: Host<K>,
+    hosts: &mut Vec<Host<K>>,
+) -> Result<(), Status> {
+    match hosts.push(host) {
+        Ok(()) => Ok(()),
+        Err(_) => Err(report_plainly(rt, RuntimeError::from(OutOfMemory))),
+    }
 }
 
 // Runs the parties over the stores in this folder.
 fn run_stored<T: Threads + Wait + Clock + Net + Sync>(
     rt: &HostRuntime,
     threads: &T,
+    serving: Serving,
     plan: &ClientPlan<'_>,
     dir: &str,
 ) -> Result<(), Status> {
     make_folder(rt, dir)?;
-    let hosts = open_stored(rt, threads, plan.system(), dir)?;
-    let client = plan.place().client;
-    let path = store_path(rt, dir, "client", client.0)?;
-    let mut store = open_client_store(rt, &path, client)?;
-    let (hosts, ran) = run_together(rt, threads, hosts, plan, &mut store);
-    let closed = close_store(rt, &path, store);
+    let mut hosts = Vec::new(rt.alloc());
+    let ran = run_stored_in(rt, threads, serving, plan, dir, &mut hosts);
     let ended = close_hosts(rt, hosts);
     ran?;
-    closed?;
     ended
 }
 
-// The nodes over their stores.
-fn open_stored<T: Net>(
+// The same over these nodes, which are none yet.
+fn run_stored_in<T: Threads + Wait + Clock + Net + Sync>(
+    rt: &HostRuntime,
+    threads: &T,
+    serving: Serving,
+    plan: &ClientPlan<'_>,
+    dir: &str,
+    hosts: &mut Vec<Host<FiledStore>>,
+) -> Result<(), Status> {
+    for place in plan.system().nodes() {
+        add_stored(rt, threads, plan.system(), place, serving, dir, hosts)?;
+    }
+    let client = plan.place().client;
+    let path = store_path(rt, dir, "client", client.0)?;
+    let mut store = open_client_store(rt, &path, client)?;
+    let ran = run_together(rt, threads, hosts, plan, &mut store);
+    let closed = close_store(rt, &path, store);
+    ran?;
+    closed
+}
+
+// Adds the node at this place, over its store.
+fn add_stored<T: Net>(
     rt: &HostRuntime,
     net: &T,
     system: &System,
+    place: &NodePlace,
+    serving: Serving,
     dir: &str,
-) -> Result<Vec<Host<FiledStore>>, Status> {
-    let mut hosts = Vec::new(rt.alloc());
-    for place in system.nodes() {
-        let path = store_path(rt, dir, "node", place.number)?;
-        let (store, is_old) = open_node_store(rt, &path)?;
-        let Ok(serving) = serving(is_old) else {
-            return Ok(hosts);
-        };
-        let host = match Host::open(rt, net, system, place, serving, store, Some(path)) {
-            Ok(host) => host,
-            Err(error) => return Err(report_plainly(rt, error)),
-        };
-        if hosts.push(host).is_err() {
-            return Err(report_plainly(rt, RuntimeError::from(OutOfMemory)));
-        }
-    }
-    Ok(hosts)
+    hosts: &mut Vec<Host<FiledStore>>,
+) -> Result<(), Status> {
+    let path = store_path(rt, dir, "node", place.number)?;
+    let (store, is_old) = open_node_store(rt, &path)?;
+    let serving = if is_old { serving.going_on() } else { serving };
+    add_host(rt, net, system, place, serving, store, Some(path), hosts)
 }
 
 // Runs the nodes beside the client, and reports why the client ends early.
 fn run_together<K: Keeper<Global> + Send, T: Threads + Wait + Clock + Net + Sync>(
     rt: &HostRuntime,
     threads: &T,
-    hosts: Vec<Host<K>>,
+    hosts: &mut Vec<Host<K>>,
     plan: &ClientPlan<'_>,
     keeper: &mut K,
-) -> (Vec<Host<K>>, Result<(), Status>) {
+) -> Result<(), Status> {
     let place = plan.place();
     let link = match open_client_link(threads, rt.alloc(), plan.system(), &place) {
         Ok(link) => link,
-        Err(error) => return (hosts, Err(report_client(rt, plan, End::Runtime(error)))),
+        Err(error) => return Err(report_client(rt, plan, End::Runtime(error))),
     };
-    let (hosts, ran) = run_beside(rt, threads, hosts, plan, keeper, link);
+    let lent = mem::replace(hosts, Vec::new(rt.alloc()));
+    let (lent, ran) = run_beside(rt, threads, lent, plan, keeper, link);
+    *hosts = lent;
     match ran {
-        Ok(()) => (hosts, Ok(())),
-        Err(end) => (hosts, Err(report_client(rt, plan, end))),
+        Ok(()) => Ok(()),
+        Err(end) => Err(report_client(rt, plan, end)),
     }
 }
 
