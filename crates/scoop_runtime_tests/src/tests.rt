@@ -3,6 +3,7 @@
 mod backoff;
 mod deaf_link;
 mod deals;
+mod emptied_keeper;
 mod ends;
 mod going_on;
 mod leaving;
