@@ -8,18 +8,18 @@ use scoop_report::Status;
 use scoop_runtime::{Ending, NodePlan, RuntimeError, Serving, node_run_until, open_node_link};
 use scoop_system::{NodePlace, System};
 use std::alloc::Global;
-use std::io::BufWriter;
+use std::io::{BufWriter, Stderr, Write};
 use std::net::{Net, SocketAddr};
 use std::sync::Wait;
 use std::thread::Threads;
 use std::time::Clock;
 
 // Reports why a node ends early, whose store is in this file if it has one.
-fn report_node(
+fn report_node<'a>(
     rt: &HostRuntime,
-    system: &System,
+    system: &'a System,
     address: SocketAddr,
-    store: Option<&str>,
+    store: Option<&'a str>,
     error: RuntimeError,
 ) -> Status {
     let party = Party {
@@ -41,7 +41,7 @@ pub(crate) struct Host<K: Keeper<Global>> {
     keeper: Option<K>,
     // The file of its store, if it has one.
     path: Option<String>,
-    status: Option<Status>,
+    error: Option<RuntimeError>,
 }
 
 impl<K: Keeper<Global> + Send> Host<K> {
@@ -64,74 +64,70 @@ impl<K: Keeper<Global> + Send> Host<K> {
             link: Some(link),
             keeper: Some(keeper),
             path,
-            status: None,
+            error: None,
         })
     }
 
-    /// Runs the node until it is asked to end, and reports why if it ends early. Its lines go to standard error.
-    pub(crate) fn run<T: Threads + Wait + Clock + Net + Sync>(
+    /// Runs the node until it is asked to end. If it ends early, a line says so at once. The node's lines and notes go to
+    /// these notes.
+    pub(crate) fn run<T: Threads + Wait + Clock + Sync>(
         &mut self,
-        rt: &HostRuntime,
         threads: &T,
-        system: &System,
+        alloc: Global,
+        mut notes: Stderr,
         ending: &Ending,
     ) {
         let (Some(link), Some(keeper)) = (self.link.take(), self.keeper.take()) else {
             return;
         };
-        match self.serve(rt, threads, keeper, link, ending) {
+        match self.serve(threads, alloc, keeper, link, notes, ending) {
             Ok(keeper) => self.keeper = Some(keeper),
             Err(error) => {
-                let path = self.path.as_deref();
-                let status = report_node(rt, system, self.address, path, error);
-                self.status = Some(status);
+                let _told = writeln!(notes, "scoop: a node has ended: {error}");
+                self.error = Some(error);
             }
         }
     }
 
     // Runs the node. Its lines are buffered, so that those of other nodes don't come between.
-    fn serve<T: Threads + Wait + Clock + Net + Sync>(
+    fn serve<T: Threads + Wait + Clock + Sync>(
         &self,
-        rt: &HostRuntime,
         threads: &T,
+        alloc: Global,
         keeper: K,
         link: UdpLink,
+        notes: Stderr,
         ending: &Ending,
     ) -> Result<K, RuntimeError> {
-        let alloc = rt.alloc();
-        let mut output = BufWriter::new(alloc, rt.stderr()).map_err(|_| OutOfMemory)?;
+        let mut output = BufWriter::new(alloc, notes).map_err(|_| OutOfMemory)?;
+        let (plan, serving) = (&self.plan, &self.serving);
         node_run_until(
             threads,
             alloc,
-            &self.plan,
-            &self.serving,
+            plan,
+            serving,
             keeper,
             link,
-            rt.stderr(),
+            notes,
             &mut output,
             ending,
         )
     }
 
-    /// The status of a node that ended early.
-    pub(crate) fn ended(&self) -> Result<(), Status> {
-        match self.status {
-            Some(status) => Err(status),
+    /// Reports why the node ended early, if it did.
+    pub(crate) fn report(&self, rt: &HostRuntime, system: &System) -> Result<(), Status> {
+        match self.error {
+            Some(error) => {
+                let path = self.path.as_deref();
+                Err(report_node(rt, system, self.address, path, error))
+            }
             None => Ok(()),
         }
     }
 
-    /// The keeper and the file of its store, or the status of a node that ended early.
-    pub(crate) fn into_keeper(self) -> Result<(Option<K>, Option<String>), Status> {
-        let Host {
-            keeper,
-            path,
-            status,
-            ..
-        } = self;
-        match status {
-            Some(status) => Err(status),
-            None => Ok((keeper, path)),
-        }
+    /// The keeper, unless the node ended early, and the file of its store.
+    pub(crate) fn into_keeper(self) -> (Option<K>, Option<String>) {
+        let Host { keeper, path, .. } = self;
+        (keeper, path)
     }
 }

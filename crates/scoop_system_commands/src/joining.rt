@@ -10,19 +10,40 @@ use scoop_message::OutOfMemory;
 use scoop_report::{Hints, hint, report};
 use scoop_runtime::{Backoff, ClientPlan, Ending, client_run};
 use std::alloc::Global;
-use std::io::BufWriter;
+use std::io::{BufWriter, Stderr};
 use std::net::Net;
 use std::sync::Wait;
 use std::thread::Threads;
 use std::time::Clock;
 use std::{io, thread};
 
+// A client with its record and its link, before it runs.
+#[derive(Drop)]
+struct Asking<'a, 'p, 'k, K: Keeper<Global>> {
+    rt: &'a HostRuntime,
+    plan: &'a ClientPlan<'p>,
+    keeper: &'k mut K,
+    link: UdpLink,
+}
+
+impl<'a, 'p, 'k, K: Keeper<Global>> Asking<'a, 'p, 'k, K> {
+    fn run(self) -> Result<(), End> {
+        let Asking {
+            rt,
+            plan,
+            keeper,
+            link,
+        } = self;
+        ask(rt, plan, keeper, link)
+    }
+}
+
 /// Runs the nodes, each in a thread, while the client runs. Then it asks the nodes to end, and joins all threads. Returns the
 /// nodes, and the end of the client.
 pub(crate) fn run_beside<K, T>(
     rt: &HostRuntime,
     threads: &T,
-    mut hosts: Vec<Host<K>>,
+    hosts: Vec<Host<K>>,
     plan: &ClientPlan<'_>,
     keeper: &mut K,
     link: UdpLink,
@@ -32,18 +53,38 @@ where
     T: Threads + Wait + Clock + Net + Sync,
 {
     let ending = Ending::new();
-    let ended = &ending;
+    let asking = Asking {
+        rt,
+        plan,
+        keeper,
+        link,
+    };
+    host_beside(threads, rt.alloc(), rt.stderr(), hosts, &ending, asking)
+}
+
+// Starts a thread for each node, runs the client in this one, and waits for all.
+fn host_beside<K, T>(
+    threads: &T,
+    alloc: Global,
+    notes: Stderr,
+    mut hosts: Vec<Host<K>>,
+    ending: &Ending,
+    asking: Asking<'_, '_, '_, K>,
+) -> (Vec<Host<K>>, Result<(), End>)
+where
+    K: Keeper<Global> + Send,
+    T: Threads + Wait + Clock + Net + Sync,
+{
     let lent = hosts.as_mut_slice();
-    let keeper = &mut *keeper;
     let ran = thread::scope(thread::scope_env(), threads, move |scope| {
         for host in lent.iter_mut() {
-            let spawned = scope.spawn(move || host.run(rt, threads, plan.system(), ended));
+            let spawned = scope.spawn(move || host.run(threads, alloc, notes, ending));
             if spawned.is_err() {
-                report_no_thread(rt);
+                report_no_thread(asking.rt);
             }
         }
-        let ran = ask(rt, plan, keeper, link);
-        ended.ask();
+        let ran = asking.run();
+        ending.ask();
         ran
     });
     (hosts, ran)

@@ -145,12 +145,12 @@ fn status_of(
 }
 
 // Serves the node with its journal, if it writes one.
-fn serve_journaled<T: Threads + Wait + Clock + Net + Sync>(
+fn serve_journaled<'a, T: Threads + Wait + Clock + Net + Sync>(
     rt: &HostRuntime,
     threads: &T,
     options: &NodeOptions<'_>,
-    serving: &Serving,
-    shown: &Shown<'_>,
+    serving: &'a Serving,
+    shown: &Shown<'a>,
     key: Option<Key>,
 ) -> Result<(), End> {
     let (system, place) = (shown.about.system, &shown.about.place);

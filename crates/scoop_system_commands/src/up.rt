@@ -122,7 +122,7 @@ fn run_unstored_in<T: Threads + Wait + Clock + Net + Sync>(
     }
     run_together(rt, threads, hosts, plan, keeper)?;
     for host in hosts.iter() {
-        host.ended()?;
+        host.report(rt, plan.system())?;
     }
     Ok(())
 }
@@ -166,7 +166,7 @@ fn run_stored<T: Threads + Wait + Clock + Net + Sync>(
     make_folder(rt, dir)?;
     let mut hosts = Vec::new(rt.alloc());
     let ran = run_stored_in(rt, threads, serving, plan, dir, &mut hosts);
-    let ended = close_hosts(rt, hosts);
+    let ended = close_hosts(rt, plan.system(), hosts);
     ran?;
     ended
 }
@@ -242,10 +242,14 @@ fn report_client(rt: &HostRuntime, plan: &ClientPlan<'_>, end: End) -> Status {
 }
 
 // Closes the stores of the nodes. Returns the status of the first node that ended early.
-fn close_hosts(rt: &HostRuntime, hosts: Vec<Host<FiledStore>>) -> Result<(), Status> {
+fn close_hosts(
+    rt: &HostRuntime,
+    system: &System,
+    hosts: Vec<Host<FiledStore>>,
+) -> Result<(), Status> {
     let mut ended = Ok(());
     for host in hosts {
-        let closed = close_host(rt, host);
+        let closed = close_host(rt, system, host);
         if ended.is_ok() {
             ended = closed;
         }
@@ -253,12 +257,13 @@ fn close_hosts(rt: &HostRuntime, hosts: Vec<Host<FiledStore>>) -> Result<(), Sta
     ended
 }
 
-// Closes the store of a node, unless its thread has not begun.
-fn close_host(rt: &HostRuntime, host: Host<FiledStore>) -> Result<(), Status> {
-    let (keeper, path) = host.into_keeper()?;
+// Reports why a node ended early, or closes its store.
+fn close_host(rt: &HostRuntime, system: &System, host: Host<FiledStore>) -> Result<(), Status> {
+    let ended = host.report(rt, system);
+    let (keeper, path) = host.into_keeper();
     match keeper {
         Some(store) => close_store(rt, path.as_deref().unwrap_or(""), store),
-        None => Ok(()),
+        None => ended,
     }
 }
 

@@ -123,6 +123,7 @@ where
 {
     let shown = served.shown;
     let log = Log::new(notes, shown.about.place.number, shown.log);
+    let output = &mut *output;
     thread::scope(thread::scope_env(), threads, move |scope| {
         let spawned = scope.spawn(move || show(threads, alloc, watch, &shown.about, server, log));
         if spawned.is_err() {
