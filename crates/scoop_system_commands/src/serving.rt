@@ -150,7 +150,7 @@ fn serve_journaled<'a, T: Threads + Wait + Clock + Net + Sync>(
     threads: &T,
     options: &NodeOptions<'_>,
     serving: &'a Serving,
-    shown: &Shown<'a>,
+    shown: &'a Shown<'a>,
     key: Option<Key>,
 ) -> Result<(), End> {
     let (system, place) = (shown.about.system, &shown.about.place);
@@ -161,7 +161,7 @@ fn serve_journaled<'a, T: Threads + Wait + Clock + Net + Sync>(
         plan: &plan,
         serving,
         journal,
-        shown: *shown,
+        shown,
     };
     let ended = serve_at(rt, threads, options.store, &served, key);
     with_journal(journal, ended)
@@ -175,7 +175,7 @@ fn serve_at<T: Threads + Wait + Clock + Net + Sync>(
     served: &Served<'_>,
     key: Option<Key>,
 ) -> Result<(), End> {
-    let shown = &served.shown;
+    let shown = served.shown;
     let link = open_node_link(threads, rt.alloc(), shown.about.system, &shown.about.place)?;
     let mut server = open_server(rt, shown.status)?;
     match key {

@@ -40,7 +40,7 @@ pub(crate) struct Served<'a> {
     pub(crate) plan: &'a NodePlan,
     pub(crate) serving: &'a Serving,
     pub(crate) journal: Option<&'a JournalFile>,
-    pub(crate) shown: Shown<'a>,
+    pub(crate) shown: &'a Shown<'a>,
 }
 
 /// The level of the log that the command line asks for.
@@ -104,10 +104,10 @@ fn clients_of(alloc: Global, system: &System) -> Result<Vec<ClientId>, OutOfMemo
 }
 
 // Runs the node in this thread, and shows it in another one until the node ends.
-fn run_beside<K, L, W, T>(
+fn run_beside<'s, K, L, W, T>(
     threads: &T,
     alloc: Global,
-    served: &Served<'_>,
+    served: &'s Served<'s>,
     watch: &Watch,
     server: Option<Server>,
     keeper: WatchedKeeper<'_, K, T>,
@@ -121,11 +121,11 @@ where
     W: Write,
     T: Threads + Wait + Clock + Sync,
 {
-    let shown = served.shown;
-    let log = Log::new(notes, shown.about.place.number, shown.log);
+    let about = &served.shown.about;
+    let log = Log::new(notes, about.place.number, served.shown.log);
     let output = &mut *output;
     thread::scope(thread::scope_env(), threads, move |scope| {
-        let spawned = scope.spawn(move || show(threads, alloc, watch, &shown.about, server, log));
+        let spawned = scope.spawn(move || show(threads, alloc, watch, about, server, log));
         if spawned.is_err() {
             return Err(RuntimeError::from(PartyError::NoThread));
         }
