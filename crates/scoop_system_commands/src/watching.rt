@@ -174,7 +174,7 @@ where
     T: Threads + Wait + Clock + Sync,
 {
     let alloc = rt.alloc();
-    let watch = watch_of(alloc, &served.shown)?;
+    let watch = watch_of(alloc, served.shown)?;
     let output = BufWriter::new(alloc, io::writer(rt)).map_err(|_| OutOfMemory)?;
     let mut output = WatchedOutput::new(output, threads, &watch);
     let keeper = WatchedKeeper::new(keeper, threads, &watch);
