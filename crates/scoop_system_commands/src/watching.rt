@@ -103,35 +103,66 @@ fn clients_of(alloc: Global, system: &System) -> Result<Vec<ClientId>, OutOfMemo
     Ok(clients)
 }
 
-// Runs the node in this thread, and shows it in another one until the node ends.
-fn run_beside<'s, K, L, W, T>(
-    threads: &T,
+// Work that is done beside the thread that shows a node.
+trait Task {
+    type Output;
+
+    fn run(self) -> Self::Output;
+}
+
+// A node before it runs.
+#[derive(Drop)]
+struct Unrun<'s, 'w, K, L, W, T> {
+    threads: &'s T,
     alloc: Global,
     served: &'s Served<'s>,
-    watch: &Watch,
-    server: Option<Server>,
-    keeper: WatchedKeeper<'_, K, T>,
-    link: WatchedLink<'_, L>,
+    keeper: WatchedKeeper<'w, K, T>,
+    link: WatchedLink<'w, L>,
     notes: Stderr,
-    output: &mut W,
-) -> Result<K, RuntimeError>
+    output: W,
+}
+
+impl<'s, 'w, K, L, W, T> Task for Unrun<'s, 'w, K, L, W, T>
 where
     K: Keeper<Global> + Send,
     L: Link + RefusesForged,
-    W: Write,
+    W: Write + Drop,
     T: Threads + Wait + Clock + Sync,
 {
-    let about = &served.shown.about;
-    let log = Log::new(notes, about.place.number, served.shown.log);
-    let output = &mut *output;
+    type Output = Result<K, RuntimeError>;
+
+    fn run(self) -> Result<K, RuntimeError> {
+        let Unrun {
+            threads,
+            alloc,
+            served,
+            keeper,
+            link,
+            notes,
+            mut output,
+        } = self;
+        run_node(threads, alloc, served, keeper, link, notes, &mut output)
+    }
+}
+
+// Does the task in this thread, and shows the node in another one until then. `None` if there is no thread.
+fn show_beside<J: Task + Drop, T: Threads + Wait + Clock + Sync>(
+    threads: &T,
+    alloc: Global,
+    watch: &Watch,
+    about: &About<'_>,
+    server: Option<Server>,
+    log: Log<Stderr>,
+    task: J,
+) -> Option<J::Output> {
     thread::scope(thread::scope_env(), threads, move |scope| {
         let spawned = scope.spawn(move || show(threads, alloc, watch, about, server, log));
         if spawned.is_err() {
-            return Err(RuntimeError::from(PartyError::NoThread));
+            return None;
         }
-        let ended = run_node(threads, alloc, served, keeper, link, notes, output);
+        let ended = task.run();
         watch.end();
-        ended
+        Some(ended)
     })
 }
 
@@ -176,19 +207,24 @@ where
     let alloc = rt.alloc();
     let watch = watch_of(alloc, served.shown)?;
     let output = BufWriter::new(alloc, io::writer(rt)).map_err(|_| OutOfMemory)?;
-    let mut output = WatchedOutput::new(output, threads, &watch);
+    let output = WatchedOutput::new(output, threads, &watch);
     let keeper = WatchedKeeper::new(keeper, threads, &watch);
     let link = WatchedLink::new(link, &watch);
     let server = server.take();
-    run_beside(
+    let about = &served.shown.about;
+    let notes = rt.stderr();
+    let log = Log::new(notes, about.place.number, served.shown.log);
+    let task = Unrun {
         threads,
         alloc,
         served,
-        &watch,
-        server,
         keeper,
         link,
-        rt.stderr(),
-        &mut output,
-    )
+        notes,
+        output,
+    };
+    match show_beside(threads, alloc, &watch, about, server, log, task) {
+        Some(ended) => ended,
+        None => Err(RuntimeError::from(PartyError::NoThread)),
+    }
 }
