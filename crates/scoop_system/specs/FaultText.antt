@@ -16,6 +16,7 @@ quoted name = codes "\"" ++ name ++ codes "\""
 
 abbrev pub place_text : Place → List ℕ
 place_text place.File = codes "file"
+place_text place.System = codes "system"
 place_text (place.Numbered kind number) = key_text kind ++ codes " " ++ decimal number
 place_text (place.Nameless kind count) = codes "[[" ++ key_text kind ++ codes "]] " ++ decimal count
 place_text (place.Class name) = codes "class " ++ quoted name
@@ -59,6 +60,7 @@ wrong_text plain = plain_text plain
 
 abbrev pub placed : Place → List ℕ → List ℕ
 placed place.File text = text
+placed place.System text = place_text place.System ++ codes ": " ++ text
 placed (place.Numbered kind number) text = place_text (place.Numbered kind number) ++ codes ": " ++ text
 placed (place.Nameless kind count) text = place_text (place.Nameless kind count) ++ codes ": " ++ text
 placed (place.Class name) text = place_text (place.Class name) ++ codes ": " ++ text

@@ -4,6 +4,7 @@ pub mod NamedConditions
 pub mod ShownWord
 pub mod Words
 pub mod Operations
+pub mod Identity
 pub mod System
 pub mod Arguments
 pub mod Line

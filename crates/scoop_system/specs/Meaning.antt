@@ -15,16 +15,17 @@ use Rattle.scoop_system.specs.declared.error.Key.TheVariants as key
 use Rattle.scoop_system.specs.declared.error.Wrong.{Wrong}
 use Rattle.scoop_system.specs.declared.error.Wrong.TheVariants.{Twice, NameTwice, AddressOf, StatusOf, OtherFamily, NoSuchNode, NoSuchClass}
 use Rattle.scoop_system.specs.declared.error.Wrong.TheVariants.{WordCount}
-use Rattle.scoop_system.specs.declared.error.Place.TheVariants.{File}
+use Rattle.scoop_system.specs.declared.error.Place.TheVariants.{File, System}
 use Rattle.scoop_system.specs.declared.place.NodePlace.{NodePlace}
 use Rattle.scoop_system.specs.declared.place.HandlerPlace.{HandlerPlace}
 use Rattle.scoop_system.specs.declared.place.HandlerClass.{HandlerClass}
 use Rattle.scoop_system.specs.declared.place.HandlerClass.TheVariants.{Known, Own}
 use Rattle.scoop_system.specs.declared.place.ClientPlace.{ClientPlace}
+use Rattle.scoop_system.specs.declared.identity.Identity.{Identity}
 use Rattle.scoop_system.specs.declared.reading.TheConstants.{MAX_CLASSES}
 use Rattle.scoop_system.specs.Name.{told}
 use Rattle.scoop_system.specs.System.{Plan, NamedClass, class_named, has_name}
-use Rattle.scoop_system.specs.Value.{number_at, text_at, address_at, status_at, words_at, handler_name_at, list_at, key_fault, in_range, whole_of}
+use Rattle.scoop_system.specs.Value.{number_at, text_at, name_at, address_at, status_at, words_at, handler_name_at, list_at, key_fault, in_range, whole_of}
 use Rattle.scoop_system.specs.KeyText.{key_text}
 use Rattle.scoop_system.specs.Address.{same_address}
 use Rattle.scoop_system.specs.Place.{Told, at, place_at}
@@ -178,10 +179,46 @@ clients_from nodes clients [] = Ok clients
 clients_from nodes clients (d ∷ ds) =
     at (place_at key.Client (length clients + 1) d) (client_of nodes clients d) >>= λ c. clients_from nodes (clients ++ c ∷ []) ds
 
+-- ---- the name and the life
+
+abbrev pub name_in : Option Data → Read Wrong (List ℕ) → Read Wrong (Option (List ℕ))
+name_in None name = Ok None
+name_in (Some d) name = name >>= λ n. Ok (Some n)
+
+-- the name of the system, if it has one
+abbrev pub own_name_at : Data → Read Wrong (Option (List ℕ))
+own_name_at d = name_in (get (key_text key.Name) d) (name_at key.Name d)
+
+abbrev pub life_in : Option Data → Read Wrong (Option ℕ)
+life_in None = Ok None
+life_in (Some d) = in_range key.Life 1 (2 ^ 32 - 1) (whole_of d) >>= λ n. Ok (Some n)
+
+-- the life of the system, if it says one
+abbrev pub life_at : Data → Read Wrong (Option ℕ)
+life_at d = life_in (get (key_text key.Life) d)
+
+abbrev pub identity_keys : List Key
+identity_keys = key.Name ∷ key.Life ∷ []
+
+abbrev pub new_identity : Option (List ℕ) → Option ℕ → Identity
+new_identity name life = record { name = name; life = life }
+
+-- the name and the life in a table
+abbrev pub identity_from : Data → Read Wrong Identity
+identity_from d = unless (key_fault identity_keys d) (own_name_at d >>= λ name. life_at d >>= λ life. Ok (new_identity name life))
+
+abbrev pub identity_in : Option Data → Told Identity
+identity_in None = Ok (new_identity None None)
+identity_in (Some d) = at System (identity_from d)
+
+-- the name and the life of the file; none without a table of them
+abbrev pub identity_of : Data → Told Identity
+identity_of d = identity_in (get (key_text key.System) d)
+
 -- ---- the whole
 
 abbrev pub file_keys : List Key
-file_keys = key.Class ∷ key.Node ∷ key.Handler ∷ key.Client ∷ []
+file_keys = key.System ∷ key.Class ∷ key.Node ∷ key.Handler ∷ key.Client ∷ []
 
 -- the classes of the file, the nodes, the handlers, the clients
 abbrev pub classes_of : Data → Told (List NamedClass)
@@ -196,11 +233,12 @@ handlers_of classes nodes d = at File (list_at key.Handler MAX_HANDLERS d) >>= h
 abbrev pub clients_of : List NodePlace → Data → Told (List ClientPlace)
 clients_of nodes d = at File (list_at key.Client MAX_CLIENTS d) >>= clients_from nodes []
 
-abbrev pub plan_of : List NamedClass → List NodePlace → List HandlerPlace → List ClientPlace → Plan
-plan_of classes nodes handlers clients = record { classes = classes; nodes = nodes; handlers = handlers; clients = clients }
+abbrev pub plan_of : Identity → List NamedClass → List NodePlace → List HandlerPlace → List ClientPlace → Plan
+plan_of identity classes nodes handlers clients =
+    record { identity = identity; classes = classes; nodes = nodes; handlers = handlers; clients = clients }
 
--- the system of a table. The first fault is that of its keys, then of its classes, nodes, handlers and clients
+-- the system of a table. The first fault is that of its keys, then of its name and life, its classes, nodes, handlers and clients
 abbrev pub system_of : Data → Told Plan
 system_of d =
-    at File (unless (key_fault file_keys d) (Ok d)) >>= λ file. classes_of file >>= λ classes. nodes_of file >>= λ nodes.
-    handlers_of classes nodes file >>= λ handlers. clients_of nodes file >>= λ clients. Ok (plan_of classes nodes handlers clients)
+    at File (unless (key_fault file_keys d) (Ok d)) >>= λ file. identity_of file >>= λ identity. classes_of file >>= λ classes. nodes_of file >>= λ nodes.
+    handlers_of classes nodes file >>= λ handlers. clients_of nodes file >>= λ clients. Ok (plan_of identity classes nodes handlers clients)

@@ -14,6 +14,8 @@ use Rattle.scoop_system.specs.declared.place.HandlerPlace.{HandlerPlace}
 use Rattle.scoop_system.specs.declared.place.HandlerClass.{HandlerClass}
 use Rattle.scoop_system.specs.declared.place.HandlerClass.TheVariants.{Known, Own}
 use Rattle.scoop_system.specs.declared.place.ClientPlace.{ClientPlace}
+use Rattle.scoop_system.specs.declared.identity.Identity.{Identity}
+use Rattle.scoop_system.specs.Identity.{is_none}
 use Rattle.scoop_system.specs.System.{Plan, NamedClass}
 
 -- ---- nodes, handlers and clients
@@ -110,6 +112,20 @@ abbrev pub classes_text : List NamedClass → List ℕ
 classes_text [] = []
 classes_text (c ∷ cs) = class_text c ++ classes_text cs
 
--- the nodes with their handlers, the clients, and the classes of the system's own
+-- ---- the name and the life
+
+abbrev pub own_name_text : Option (List ℕ) → List ℕ
+own_name_text None = []
+own_name_text (Some name) = codes " " ++ name
+
+abbrev pub life_text : Option ℕ → List ℕ
+life_text None = []
+life_text (Some life) = codes " life " ++ decimal life
+
+-- a line of the name and the life; none if the system has neither
+abbrev pub identity_text : Identity → List ℕ
+identity_text i = if is_none i then [] else (codes "system" ++ own_name_text i.name ++ life_text i.life ++ codes "\n")
+
+-- the name and the life, the nodes with their handlers, the clients, and the classes of the system's own
 abbrev pub system_text : Plan → List ℕ
-system_text s = nodes_text s.handlers s.nodes ++ clients_text s.clients ++ classes_text s.classes
+system_text s = identity_text s.identity ++ nodes_text s.handlers s.nodes ++ clients_text s.clients ++ classes_text s.classes

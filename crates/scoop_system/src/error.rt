@@ -38,6 +38,8 @@ pub struct Fault {
 pub enum Place {
     /// The whole file.
     File,
+    /// The table of the system's name and life.
+    System,
     /// The node, handler or client of this number.
     Numbered(Key, u32),
     /// The class, node, handler or client at this place, counted from 1: it has no name or number.
@@ -67,6 +69,8 @@ pub enum Key {
     Test,
     Writes,
     Answer,
+    System,
+    Life,
 }
 
 /// A fault at a place.
@@ -182,6 +186,7 @@ impl fmt::Display for Place {
     fn fmt<W: fmt::Write>(&self, f: &mut fmt::Formatter<W>) -> fmt::Result {
         match self {
             Place::File => f.write_str("file"),
+            Place::System => f.write_str("system"),
             Place::Numbered(kind, number) => write!(f, "{kind} {number}"),
             Place::Nameless(kind, count) => write!(f, "[[{kind}]] {count}"),
             Place::Class(name) => write!(f, "class \"{name}\""),
@@ -218,6 +223,8 @@ impl Key {
             Key::Test => "test",
             Key::Writes => "writes",
             Key::Answer => "answer",
+            Key::System => "system",
+            Key::Life => "life",
         }
     }
 
@@ -241,7 +248,9 @@ impl Key {
             | Key::Batch
             | Key::Test
             | Key::Writes
-            | Key::Answer => "",
+            | Key::Answer
+            | Key::System
+            | Key::Life => "",
         }
     }
 }

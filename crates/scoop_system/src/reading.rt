@@ -11,6 +11,7 @@ ghost use Rattle.scoop_system.specs.Stop.{IfFault};
 
 mod class;
 mod formula;
+mod identity;
 mod party;
 mod place;
 mod stop;
@@ -20,6 +21,7 @@ mod value;
 use crate::error::{Key, SystemError, TomlFault};
 use crate::system::System;
 use class::read_classes;
+use identity::read_identity;
 use party::{read_clients, read_handlers, read_nodes};
 use place::check_keys;
 use std::alloc::Global;
@@ -35,11 +37,12 @@ pub(crate) fn read_table(alloc: Global, file: &Value) -> Result<System, Stop>
     ensures fault { IfErr result (λ e. IfFault e (λ fault. system_of (view file.now) ≡ Err fault)) }
 {
     check_keys(file)?;
+    let identity = read_identity(file)?;
     let classes = read_classes(alloc, file)?;
     let nodes = read_nodes(alloc, file)?;
     let handlers = read_handlers(alloc, file, classes.as_slice(), nodes.as_slice())?;
     let clients = read_clients(alloc, file, nodes.as_slice())?;
-    Ok(System::new(classes, nodes, handlers, clients))
+    Ok(System::new(identity, classes, nodes, handlers, clients))
 }
 
 impl System {
@@ -48,7 +51,7 @@ impl System {
     /// # Errors
     /// - `Toml`: exactly if the text isn't TOML.
     /// - `Fault`: exactly if the text is TOML and describes no system. It is the first fault: of the file's keys, then of
-    ///   its classes, nodes, handlers and clients, each in the order of the file.
+    ///   its name and life, its classes, nodes, handlers and clients, each in the order of the file.
     /// - `OutOfMemory`: an allocation was refused.
     pub fn read(alloc: Global, text: &str) -> Result<System, SystemError>
         ensures system { IfOk result (λ system. Means text.now (Ok system)) }

@@ -8,6 +8,6 @@ returns-in_err-clients-clause-fault c =
     let handlers = rw (c.as_slice.ensures.value, c.as_slice-2.ensures.value) at c.in_ok-handlers.ensures.ok in
     let clients = rw (c.as_slice-3.ensures.value) at c.in_err-clients.ensures.fault in
     let told =
-    clients_fault (view c.args.file.now) c.in_ok-classes.classes.items c.in_ok-nodes.nodes.items c.in_ok-handlers.handlers.items c.in_err-clients.field-0.0
-    c.in_ok-check_keys.ensures.ok c.in_ok-classes.ensures.ok c.in_ok-nodes.ensures.ok handlers clients in
+    clients_fault (view c.args.file.now) c.in_ok-identity.identity c.in_ok-classes.classes.items c.in_ok-nodes.nodes.items c.in_ok-handlers.handlers.items c.in_err-clients.field-0.0
+    c.in_ok-check_keys.ensures.ok c.in_ok-identity.ensures.ok c.in_ok-classes.ensures.ok c.in_ok-nodes.ensures.ok handlers clients in
     search (rules, told)
