@@ -2,14 +2,16 @@
 
 use crate::ending::{End, Party, report_end, report_plainly, report_range};
 use crate::journaling::{open_journal, with_journal};
-use crate::system_file::{read_key, read_system, read_text, report_fault};
+use crate::keys::read_key;
+use crate::system_file::{read_system, read_text, report_fault};
 use crate::typed_lines::TypedLines;
 use scoop_command_line::{ClientOptions, StoreChoice};
 use scoop_files::{FileError, FiledStore, adopt_for, close, create};
 use scoop_journal::{Journal, JournalFile, Owner};
 use scoop_lines::LineSource;
-use scoop_link::{Link, UdpLink};
+use scoop_link::Link;
 use scoop_message::{ClientId, OutOfMemory};
+use scoop_pacing::{MeasuredLink, SystemTimes};
 use scoop_report::{Hints, Status, hint, report};
 use scoop_runtime::{
     Backoff, ClientPlan, FileFault, check_script, client_cut, client_run, open_client_link,
@@ -105,7 +107,7 @@ fn run_task<T: Net>(
         Ok(plan) => plan,
         Err(range) => return Err(report_range(rt, range)),
     };
-    let key = read_key(rt, options.key)?;
+    let key = read_key(rt, options.key, system)?;
     let party = Party {
         system,
         address: place.address,
@@ -145,31 +147,39 @@ fn run_at<T: Net>(
     task: Task<'_>,
 ) -> Result<(), End> {
     let link = open_client_link(net, rt.alloc(), plan.system(), &plan.place())?;
-    run_stored(rt, store, plan, key, journal, link, task)
+    match key {
+        Some(key) => run_measured(rt, store, plan, journal, SealedLink::new(link, key), task),
+        None => run_measured(rt, store, plan, journal, link, task),
+    }
+}
+
+// Runs the client over this link, whose round trips decide when a datagram goes again.
+fn run_measured<L: Link>(
+    rt: &HostRuntime,
+    store: StoreChoice<'_>,
+    plan: &ClientPlan<'_>,
+    journal: Option<&JournalFile>,
+    link: L,
+    task: Task<'_>,
+) -> Result<(), End> {
+    let handlers = plan.system().handlers().len();
+    let client = plan.place().client;
+    let clock = SystemTimes::new(rt);
+    let link = MeasuredLink::new(rt.alloc(), link, clock, handlers, client.0)?;
+    run_stored(rt, store, plan, journal, link, task)
 }
 
 // Runs the client over the store of this choice, and closes it.
-fn run_stored(
+fn run_stored<L: Link>(
     rt: &HostRuntime,
     choice: StoreChoice<'_>,
     plan: &ClientPlan<'_>,
-    key: Option<Key>,
     journal: Option<&JournalFile>,
-    link: UdpLink,
+    link: L,
     task: Task<'_>,
 ) -> Result<(), End> {
     let mut store = open_store(rt, choice, plan.place().client)?;
-    let ran = match key {
-        Some(key) => run_over(
-            rt,
-            plan,
-            &mut store,
-            journal,
-            SealedLink::new(link, key),
-            task,
-        ),
-        None => run_over(rt, plan, &mut store, journal, link, task),
-    };
+    let ran = run_over(rt, plan, &mut store, journal, link, task);
     let closed = close(store);
     ran?;
     Ok(closed?)

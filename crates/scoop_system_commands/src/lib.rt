@@ -1,4 +1,4 @@
-//! The commands of a system in a file, `check`, `node`, `client`, `up` and `audit`, and of a store, `store`.
+//! The commands of a system in a file, `check`, `node`, `client`, `up` and `audit`, of a key, `key`, and of a store, `store`.
 //!
 //! Each reports on standard error why it ends early, and returns the status with which the program ends.
 #![tactic(auto)]
@@ -11,6 +11,7 @@ mod folder;
 mod host;
 mod joining;
 mod journaling;
+mod keys;
 mod serving;
 mod store_words;
 mod system_file;
@@ -21,6 +22,7 @@ mod watching;
 pub use asking::run_client;
 pub use auditing::explain;
 pub use checking::check;
+pub use keys::make_key;
 pub use serving::serve_node;
 pub use store_words::show_store;
 pub use up::run_up;

@@ -2,7 +2,8 @@
 
 use crate::ending::{End, Party, report_end, report_range};
 use crate::journaling::{open_journal, with_journal};
-use crate::system_file::{read_key, read_system, report_fault};
+use crate::keys::read_key;
+use crate::system_file::{read_system, report_fault};
 use crate::watching::{Served, Shown, level_of, open_server, run_watched};
 use jiff::Timestamp;
 use scoop_command_line::{NodeOptions, StoreChoice};
@@ -66,7 +67,8 @@ fn serve_in<T: Threads + Wait + Clock + Net + Sync>(
             FileFault::NoNode,
         ));
     };
-    let key = read_key(rt, options.key)?;
+    let key = read_key(rt, options.key, system)?;
+    warn_unsealed(rt, key, place.address);
     let party = Party {
         system,
         address: place.address,
@@ -87,6 +89,23 @@ fn serve_in<T: Threads + Wait + Clock + Net + Sync>(
     match serve_journaled(rt, threads, options, serving, &shown, key) {
         Ok(()) => Ok(()),
         Err(end) => Err(report_end(rt, &party, end)),
+    }
+}
+
+// Warns of a node without a key that other machines can reach.
+fn warn_unsealed(rt: &HostRuntime, key: Option<Key>, address: SocketAddr) {
+    if key.is_none() && !address.ip().is_loopback() {
+        report(
+            rt,
+            format_args!(
+                "{address} is no loopback address, and there is no key: whoever reaches it can forge messages"
+            ),
+        );
+        hint(
+            rt,
+            Hints::Always,
+            "make a key by `scoop key FILE`, and give it to each node and client by --key",
+        );
     }
 }
 

@@ -2,6 +2,7 @@
 
 use crate::ending::End;
 use mio::net::TcpListener;
+use scoop_admission::AdmittingLink;
 use scoop_command_line::{LogChoice, NodeOptions};
 use scoop_errors::PartyError;
 use scoop_journal::JournalFile;
@@ -14,6 +15,7 @@ use scoop_status::{About, Log, Server, show};
 use scoop_system::System;
 use scoop_watch::{
     LogLevel, RefusesForged, Settings, Watch, WatchedKeeper, WatchedLink, WatchedOutput,
+    WatchedStrangers,
 };
 use std::alloc::Global;
 use std::hash::RandomState;
@@ -110,13 +112,13 @@ fn run_beside<K, L, W, T>(
     watch: &Watch,
     server: Option<Server>,
     keeper: WatchedKeeper<'_, K, T>,
-    link: WatchedLink<'_, L>,
+    link: L,
     notes: Stderr,
     output: &mut W,
 ) -> Result<K, RuntimeError>
 where
     K: Keeper<Global> + Send,
-    L: Link + RefusesForged,
+    L: Link,
     W: Write,
     T: Threads + Wait + Clock + Sync,
 {
@@ -139,13 +141,13 @@ fn run_node<K, L, W, T>(
     alloc: Global,
     served: &Served<'_>,
     keeper: WatchedKeeper<'_, K, T>,
-    link: WatchedLink<'_, L>,
+    link: L,
     notes: Stderr,
     output: &mut W,
 ) -> Result<K, RuntimeError>
 where
     K: Keeper<Global> + Send,
-    L: Link + RefusesForged,
+    L: Link,
     W: Write,
     T: Threads + Wait + Clock + Sync,
 {
@@ -156,8 +158,8 @@ where
     }
 }
 
-/// Runs the node over this keeper and link, with its watch over both, and returns the keeper. The server of its status, if it
-/// has one, and its log run beside it.
+/// Runs the node over this keeper and link, with its watch over both, and returns the keeper. It hears only the clients of its
+/// file. The server of its status, if it has one, and its log run beside it.
 pub(crate) fn run_watched<K, L, T>(
     rt: &HostRuntime,
     threads: &T,
@@ -176,7 +178,9 @@ where
     let output = BufWriter::new(alloc, io::writer(rt)).map_err(|_| OutOfMemory)?;
     let mut output = WatchedOutput::new(output, threads, &watch);
     let keeper = WatchedKeeper::new(keeper, threads, &watch);
-    let link = WatchedLink::new(link, &watch);
+    let clients = clients_of(alloc, served.shown.about.system)?;
+    let strangers = WatchedStrangers::new(threads, &watch);
+    let link = AdmittingLink::new(WatchedLink::new(link, &watch), clients, strangers);
     let server = server.take();
     run_beside(
         threads,

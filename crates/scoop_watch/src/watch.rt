@@ -132,6 +132,11 @@ impl Watch {
         board.hear(message, heard, self.settings.log);
     }
 
+    /// Notes a frame of a client that the file doesn't name, which no handler heard.
+    pub(crate) fn meet_stranger<R: Wait>(&self, rt: &R, client: ClientId, handler: HandlerId) {
+        self.board.lock(rt).tally.meet_stranger(client, handler);
+    }
+
     /// Notes that an entry has run.
     pub(crate) fn run<R: Wait>(&self, rt: &R) {
         self.board.lock(rt).tally.run();
