@@ -21,13 +21,13 @@ impl Identity {
         self.name.is_none() && self.life.is_none()
     }
 
-    /// The bytes of the name; empty if there is none.
-    pub fn name_bytes(&self) -> &[u8]
+    /// The name as a text; empty if there is none.
+    pub fn name_text(&self) -> &str
         ensures { result.now ≡ name_bytes self.now.name }
     {
         match &self.name {
-            Some(name) => name.as_bytes(),
-            None => &[],
+            Some(name) => name.as_str(),
+            None => "",
         }
     }
 

@@ -45,7 +45,7 @@ pub use line::{ClientLine, LineFault, LineFaultIn, read_line};
 pub use name::{MAX_NAME_LEN, Name, is_name};
 pub use named_handlers::{MAX_NAMED, NamedHandlers, TooManyNamed};
 pub use place::{ClientPlace, HandlerClass, HandlerPlace, NodePlace};
-pub use printing::print_system;
+pub use printing::{print_class, print_system};
 pub use reading::MAX_CLASSES;
 pub use shown_word::ShownWord;
 pub use system::System;

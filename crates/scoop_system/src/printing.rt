@@ -10,6 +10,7 @@ use crate::identity::Identity;
 use crate::name::Name;
 use crate::place::{ClientPlace, HandlerPlace, NodePlace};
 use crate::system::System;
+pub use class::print_class;
 use class::print_classes;
 use std::io;
 use std::io::Write;

@@ -3,6 +3,7 @@
 use crate::ending::{End, Party, report_end, report_plainly, report_range};
 use crate::journaling::{open_journal, with_journal};
 use crate::keys::read_key;
+use crate::owning::{check_owner, note_owner};
 use crate::system_file::{read_system, read_text, report_fault};
 use crate::typed_lines::TypedLines;
 use scoop_command_line::{ClientOptions, StoreChoice};
@@ -11,6 +12,7 @@ use scoop_journal::{Journal, JournalFile, Owner};
 use scoop_lines::LineSource;
 use scoop_link::Link;
 use scoop_message::{ClientId, OutOfMemory};
+use scoop_owner::Owner;
 use scoop_pacing::{MeasuredLink, SystemTimes};
 use scoop_report::{Hints, Status, hint, report};
 use scoop_runtime::{
@@ -108,6 +110,7 @@ fn run_task<T: Net>(
         Err(range) => return Err(report_range(rt, range)),
     };
     let key = read_key(rt, options.key, system)?;
+    check_owner(rt, options.store, system, Owner::Client(client))?;
     let party = Party {
         system,
         address: place.address,
@@ -178,7 +181,9 @@ fn run_stored<L: Link>(
     link: L,
     task: Task<'_>,
 ) -> Result<(), End> {
-    let mut store = open_store(rt, choice, plan.place().client)?;
+    let client = plan.place().client;
+    let mut store = open_store(rt, choice, client)?;
+    note_owner(rt, choice, plan.system(), Owner::Client(client));
     let ran = run_over(rt, plan, &mut store, journal, link, task);
     let closed = close(store);
     ran?;

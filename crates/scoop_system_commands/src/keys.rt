@@ -94,7 +94,7 @@ fn sealing_key(key: &Key, system: &System) -> Key
     ensures { result ≡ sealing_key key.now (name_bytes system.now.identity.name) (life_number system.now.identity.life) }
 {
     let identity = system.identity();
-    key.of_system(identity.name_bytes(), identity.life_number())
+    key.of_system(identity.name_text().as_bytes(), identity.life_number())
 }
 
 // Refuses a key's file that others may read.

@@ -12,6 +12,7 @@ mod host;
 mod joining;
 mod journaling;
 mod keys;
+mod owning;
 mod serving;
 mod store_words;
 mod system_file;

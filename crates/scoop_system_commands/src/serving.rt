@@ -3,6 +3,7 @@
 use crate::ending::{End, Party, report_end, report_range};
 use crate::journaling::{open_journal, with_journal};
 use crate::keys::read_key;
+use crate::owning::{check_owner, note_owner};
 use crate::system_file::{read_system, report_fault};
 use crate::watching::{Served, Shown, level_of, open_server, run_watched};
 use jiff::Timestamp;
@@ -13,6 +14,7 @@ use scoop_journal_keeper::JournaledKeeper;
 use scoop_keeper::{Keeper, MemoryKeeper};
 use scoop_link::Link;
 use scoop_message::OutOfMemory;
+use scoop_owner::Owner;
 use scoop_record::Store;
 use scoop_report::{Hints, Status, hint, report};
 use scoop_runtime::{FileFault, NodePlan, OutOfRange, RuntimeError, Serving, open_node_link};
@@ -69,6 +71,7 @@ fn serve_in<T: Threads + Wait + Clock + Net + Sync>(
     };
     let key = read_key(rt, options.key, system)?;
     warn_unsealed(rt, key, place.address);
+    check_owner(rt, options.store, system, Owner::Node(number))?;
     let party = Party {
         system,
         address: place.address,
@@ -195,19 +198,31 @@ fn serve_over<L: Link + RefusesForged, T: Threads + Wait + Clock + Net + Sync>(
     server: &mut Option<Server>,
     link: L,
 ) -> Result<(), End> {
-    match open_store(rt, choice) {
+    match open_store(rt, choice, served) {
         Ok(Some(store)) => serve_stored(rt, threads, served, server, store, link),
         Ok(None) => serve_unstored(rt, threads, served, server, link),
         Err(error) => Err(End::from(error)),
     }
 }
 
-// The store of this choice, if there is one.
-fn open_store(rt: &HostRuntime, choice: StoreChoice<'_>) -> Result<Option<FiledStore>, FileError> {
-    match choice {
-        StoreChoice::New(path) => Ok(Some(create(rt, path)?)),
-        StoreChoice::Old(path) => Ok(Some(adopt(rt, path)?)),
-        StoreChoice::None => Ok(None),
+// The store of this choice, if there is one. It knows its owner from then on.
+fn open_store(
+    rt: &HostRuntime,
+    choice: StoreChoice<'_>,
+    served: &Served<'_>,
+) -> Result<Option<FiledStore>, FileError> {
+    let opened = match choice {
+        StoreChoice::New(path) => create(rt, path),
+        StoreChoice::Old(path) => adopt(rt, path),
+        StoreChoice::None => return Ok(None),
+    };
+    match opened {
+        Ok(store) => {
+            let about = &served.shown.about;
+            note_owner(rt, choice, about.system, Owner::Node(about.place.number));
+            Ok(Some(store))
+        }
+        Err(error) => Err(error),
     }
 }
 
