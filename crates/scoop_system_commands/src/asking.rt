@@ -13,7 +13,7 @@ use scoop_lines::LineSource;
 use scoop_link::Link;
 use scoop_message::{ClientId, OutOfMemory};
 use scoop_owner::Owner;
-use scoop_pacing::{MeasuredLink, SystemTimes};
+use scoop_pacing::{MeasuredLink, SlowNotes, SystemTimes};
 use scoop_report::{Hints, Status, hint, report};
 use scoop_runtime::{
     Backoff, ClientPlan, FileFault, check_script, client_cut, client_run, open_client_link,
@@ -21,7 +21,7 @@ use scoop_runtime::{
 use scoop_seal::{Key, SealedLink};
 use scoop_system::System;
 use std::io;
-use std::io::{BufWriter, IsTerminal};
+use std::io::{BufWriter, IsTerminal, Stderr};
 use std::net::Net;
 
 /// Runs the client of the options. Its system, its key and its port come first, and then its store.
@@ -229,6 +229,11 @@ fn run_over<L: Link>(
     }
 }
 
+// Standard error, for at most one line a second.
+fn slow_notes(rt: &HostRuntime) -> SlowNotes<Stderr, SystemTimes<'_, HostRuntime>> {
+    SlowNotes::new(rt.stderr(), SystemTimes::new(rt))
+}
+
 // Runs the client with these lines.
 fn run_lines<L: Link, I: LineSource>(
     rt: &HostRuntime,
@@ -247,8 +252,8 @@ fn run_lines<L: Link, I: LineSource>(
         link,
         journal.map(|file| Journal::new(alloc, file)),
         lines,
-        rt.stderr(),
-        rt.stderr(),
+        slow_notes(rt),
+        slow_notes(rt),
         &mut Backoff::new(rt, plan.place().client),
         &mut output,
         &mut rt.stderr(),
@@ -272,8 +277,8 @@ fn run_cut<L: Link>(
         store,
         link,
         journal.map(|file| Journal::new(alloc, file)),
-        rt.stderr(),
-        rt.stderr(),
+        slow_notes(rt),
+        slow_notes(rt),
         &mut output,
         &mut rt.stderr(),
     )?;

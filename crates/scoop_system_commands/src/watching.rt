@@ -9,6 +9,7 @@ use scoop_journal::JournalFile;
 use scoop_keeper::Keeper;
 use scoop_link::Link;
 use scoop_message::{ClientId, OutOfMemory};
+use scoop_pacing::{SlowNotes, SystemTimes};
 use scoop_report::report;
 use scoop_runtime::{NodePlan, RuntimeError, Serving, node_run};
 use scoop_status::{About, Log, Server, show};
@@ -152,6 +153,7 @@ where
     T: Threads + Wait + Clock + Sync,
 {
     let (plan, serving) = (served.plan, served.serving);
+    let notes = SlowNotes::new(notes, SystemTimes::new(threads));
     match node_run(threads, alloc, plan, serving, keeper, link, notes, output) {
         Ok(keeper) => Ok(keeper.into_inner()),
         Err(error) => Err(error),
