@@ -1,7 +1,7 @@
 //! The round trips of one party.
 
 ghost use Rattle.std.specs.Prelude.{◌≡◌, ◌≤◌};
-ghost use Rattle.scoop_pacing.specs.Estimate.{apart, first_estimate, next_estimate, timeout};
+ghost use Rattle.scoop_pacing.specs.Estimate.{first_estimate, next_estimate, timeout};
 
 // The shortest timeout, in microseconds.
 const MIN_TIMEOUT: u32 = 5_000;
@@ -34,7 +34,7 @@ impl Estimate {
     pub fn next(self, trip: u32) -> Estimate
         ensures { result ≡ next_estimate self trip }
     {
-        let apart = u64::from(apart(self.smooth, trip));
+        let apart = u64::from(self.smooth.abs_diff(trip));
         let variation = (3 * u64::from(self.variation) + apart) / 4;
         let smooth = (7 * u64::from(self.smooth) + u64::from(trip)) / 8;
         Estimate {
@@ -50,13 +50,8 @@ impl Estimate {
     {
         let margin = (4 * u64::from(self.variation)).max(u64::from(MIN_MARGIN));
         let timeout = u64::from(self.smooth) + margin;
-        timeout.clamp(u64::from(MIN_TIMEOUT), u64::from(MAX_TIMEOUT)) as u32
+        timeout
+            .max(u64::from(MIN_TIMEOUT))
+            .min(u64::from(MAX_TIMEOUT)) as u32
     }
-}
-
-// How far two numbers are apart.
-fn apart(left: u32, right: u32) -> u32
-    ensures { result ≡ apart left right }
-{
-    left.abs_diff(right)
 }

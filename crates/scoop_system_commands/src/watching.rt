@@ -96,8 +96,8 @@ fn watch_of(alloc: Global, shown: &Shown<'_>) -> Result<Watch, OutOfMemory> {
     Ok(Watch::new(alloc, settings))
 }
 
-// The clients that the system's file names.
-fn clients_of(alloc: Global, system: &System) -> Result<Vec<ClientId>, OutOfMemory> {
+/// The clients that the system's file names.
+pub(crate) fn clients_of(alloc: Global, system: &System) -> Result<Vec<ClientId>, OutOfMemory> {
     let mut clients = Vec::new(alloc);
     for place in system.clients() {
         clients.push(place.client).map_err(OutOfMemory::from)?;
