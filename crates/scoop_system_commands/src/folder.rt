@@ -1,10 +1,14 @@
 //! A folder with the stores of a system's parties.
 
 use crate::ending::report_plainly;
+use crate::owning::{check_owner, note_owner};
+use scoop_command_line::StoreChoice;
 use scoop_files::{FileError, FiledStore, adopt, adopt_for, create, report_file};
 use scoop_message::{ClientId, OutOfMemory};
+use scoop_owner::Owner;
 use scoop_report::{Hints, Status, hint, report};
 use scoop_runtime::RuntimeError;
+use scoop_system::System;
 use std::fs;
 
 /// Makes the folder if it is missing.
@@ -36,34 +40,60 @@ pub(crate) fn store_path(
     }
 }
 
-/// The store of a node in this file, and whether it was there. A missing one is made.
-pub(crate) fn open_node_store(rt: &HostRuntime, path: &str) -> Result<(FiledStore, bool), Status> {
-    let is_old = has_file(rt, path)?;
+/// The store of a node in this file, and whether it was there. A missing one is made. One of another owner is refused.
+pub(crate) fn open_node_store(
+    rt: &HostRuntime,
+    path: &str,
+    system: &System,
+    node: u32,
+) -> Result<(FiledStore, bool), Status> {
+    let (choice, is_old) = choice_of(rt, path)?;
+    let owner = Owner::Node(node);
+    check_owner(rt, choice, system, owner)?;
     let opened = if is_old {
         adopt(rt, path)
     } else {
         create(rt, path)
     };
     match opened {
-        Ok(store) => Ok((store, is_old)),
+        Ok(store) => {
+            note_owner(rt, choice, system, owner);
+            Ok((store, is_old))
+        }
         Err(error) => Err(report_file(rt, Hints::Always, path, error)),
     }
 }
 
-/// The store of this client in this file. A missing one is made.
+/// The store of this client in this file. A missing one is made. One of another owner is refused.
 pub(crate) fn open_client_store(
     rt: &HostRuntime,
     path: &str,
+    system: &System,
     client: ClientId,
 ) -> Result<FiledStore, Status> {
-    let opened = if has_file(rt, path)? {
+    let (choice, is_old) = choice_of(rt, path)?;
+    let owner = Owner::Client(client);
+    check_owner(rt, choice, system, owner)?;
+    let opened = if is_old {
         adopt_for(rt, path, client)
     } else {
         create(rt, path)
     };
     match opened {
-        Ok(store) => Ok(store),
+        Ok(store) => {
+            note_owner(rt, choice, system, owner);
+            Ok(store)
+        }
         Err(error) => Err(report_file(rt, Hints::Always, path, error)),
+    }
+}
+
+// The store in this file, or a new one, and whether it is there.
+fn choice_of<'a>(rt: &HostRuntime, path: &'a str) -> Result<(StoreChoice<'a>, bool), Status> {
+    if has_file(rt, path)? {
+        Ok((StoreChoice::Old(path), true))
+    } else {
+        Ok((StoreChoice::New(path), false))
     }
 }
 

@@ -139,7 +139,7 @@ fn run_stored<T: Threads + Wait + Clock + Net + Sync>(
     let hosts = open_stored(rt, threads, plan.system(), dir)?;
     let client = plan.place().client;
     let path = store_path(rt, dir, "client", client.0)?;
-    let mut store = open_client_store(rt, &path, client)?;
+    let mut store = open_client_store(rt, &path, plan.system(), client)?;
     let (hosts, ran) = run_together(rt, threads, hosts, plan, &mut store);
     let closed = close_store(rt, &path, store);
     let ended = close_hosts(rt, hosts);
@@ -158,7 +158,7 @@ fn open_stored<T: Net>(
     let mut hosts = Vec::new(rt.alloc());
     for place in system.nodes() {
         let path = store_path(rt, dir, "node", place.number)?;
-        let (store, is_old) = open_node_store(rt, &path)?;
+        let (store, is_old) = open_node_store(rt, &path, system, place.number)?;
         let Ok(serving) = serving(is_old) else {
             return Ok(hosts);
         };
