@@ -60,8 +60,14 @@ fn stranger_in(clients: &[ClientId], bytes: &[u8]) -> Option<Sender>
     ensures { MatchOption result (IsAdmitted clients.now bytes.now) (λ _. IsStranger clients.now bytes.now) }
 {
     match sender_of(bytes) {
-        Some(sender) if !is_listed(clients, sender.client) => Some(sender),
-        _ => None,
+        None => None,
+        Some(sender) => {
+            if is_listed(clients, sender.client) {
+                None
+            } else {
+                Some(sender)
+            }
+        }
     }
 }
 

@@ -9,7 +9,7 @@ ghost use Rattle.scoop_owner.specs.Owner.{has_line};
 pub fn first_missing<'a>(wanted: &'a str, found: &str) -> Option<&'a str>
     ensures { option_map (λ line. line.now) result ≡ find (λ line. not (has_line found.now line)) (lines wanted.now) }
 {
-    wanted.lines().find(|line| !has_line(found, line))
+    wanted.lines().find(|line| !has_line(found, *line))
 }
 
 // Whether a text has this line.

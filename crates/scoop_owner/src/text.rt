@@ -26,7 +26,10 @@ pub fn owner_text(alloc: Global, system: &System, owner: Owner) -> Result<String
     if print_owner(alloc, system, owner, &mut text).is_err() {
         return Err(OutOfMemory);
     }
-    String::from_utf8(text).map_err(|_| OutOfMemory)
+    match String::from_utf8(text) {
+        Ok(text) => Ok(text),
+        Err(_) => Err(OutOfMemory),
+    }
 }
 
 fn print_owner(alloc: Global, system: &System, owner: Owner, text: &mut Vec<u8>) -> io::Result<()> {

@@ -42,22 +42,26 @@ abbrev pub repeat_timeout : Option ℕ → ℕ → ℕ
 repeat_timeout None timeout = min (timeout * 2) MAX_TIMEOUT
 repeat_timeout (Some at) timeout = timeout
 
-abbrev pub sent_at : Ask → List ℕ → ℕ → ℕ → ℕ → ℕ → Ask
-sent_at a datagram now seed repeated timeout = record a {
+-- the repetitions and the timeout of the next datagram: a repeat, or another one
+abbrev pub counts_of : Ask → List ℕ → ℕ × ℕ
+counts_of a datagram =
+    if bytes_eq a.datagram datagram then (min (a.repeated + 1) (2 ^ 64 - 1), repeat_timeout a.answered a.timeout) else (0, a.timeout)
+
+abbrev pub sent_at : Ask → List ℕ → ℕ → ℕ → ℕ × ℕ → Ask
+sent_at a datagram now seed counts = record {
+  party = a.party;
   datagram = datagram;
   sent = now;
-  repeated = repeated;
+  repeated = counts.0;
   answered = None;
-  pause = pause_of timeout seed;
-  timeout = timeout;
+  pause = pause_of counts.1 seed;
+  timeout = counts.1;
+  estimate = a.estimate;
 }
 
--- the next datagram to the party: a repeat, or another one
+-- the next datagram to the party
 abbrev pub asked_again : Ask → List ℕ → ℕ → ℕ → Ask
-asked_again a datagram now seed =
-    if bytes_eq a.datagram datagram
-    then sent_at a datagram now seed (min (a.repeated + 1) (2 ^ 64 - 1)) (repeat_timeout a.answered a.timeout)
-    else sent_at a datagram now seed 0 a.timeout
+asked_again a datagram now seed = sent_at a datagram now seed (counts_of a datagram)
 
 -- how long a round trip took
 abbrev pub trip_of : ℕ → ℕ → ℕ

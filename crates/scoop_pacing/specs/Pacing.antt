@@ -1,6 +1,6 @@
 -- The last datagrams to all parties, and which datagrams pass.
 use Rattle.std.specs.Prelude.{ℕ, ◌+◌, ◌*◌, ◌/◌, ◌%◌, nat_lt, not, ◌||◌, Bool, true, List, [], ◌∷◌, ◌++◌, length, map, find, position}
-use Rattle.std.specs.Prelude.{slice_set, slice_get, bytes_eq, Option, Some, None, if◌then◌else◌}
+use Rattle.std.specs.Prelude.{slice_set, bytes_eq, Option, Some, None, if◌then◌else◌}
 use Rattle.scoop_link.specs.declared.party.Party.{Party}
 use Rattle.scoop_link.specs.Party.{same_party}
 use Rattle.scoop_pacing.specs.declared.ask.Ask.{Ask}
@@ -30,14 +30,21 @@ passes_after now datagram (Some a) = not (bytes_eq a.datagram datagram) || may_r
 abbrev pub passes : PacingValue → ℕ → Party → List ℕ → Bool
 passes p now to datagram = passes_after now datagram (last_to p.asks to)
 
-abbrev pub asked_at : List Ask → ℕ → List ℕ → ℕ → ℕ → Option Ask → List Ask
-asked_at asks place datagram now seed None = asks
-asked_at asks place datagram now seed (Some a) = slice_set asks place (asked_again a datagram now seed)
+abbrev pub next_after : Party → List ℕ → ℕ → ℕ → Option Ask → Ask
+next_after to datagram now seed None = asked_first to datagram now seed
+next_after to datagram now seed (Some a) = asked_again a datagram now seed
 
--- a datagram that was passed on, at its party's place, or after the others if there is room
-abbrev pub ask_at : ℕ → List Ask → Party → List ℕ → ℕ → ℕ → Option ℕ → List Ask
-ask_at room asks to datagram now seed (Some place) = asked_at asks place datagram now seed (slice_get asks place)
-ask_at room asks to datagram now seed None = if nat_lt (length asks) room then asks ++ asked_first to datagram now seed ∷ [] else asks
+-- a party's last datagram, once this one is passed on
+abbrev pub next_ask : List Ask → Party → List ℕ → ℕ → ℕ → Ask
+next_ask asks to datagram now seed = next_after to datagram now seed (last_to asks to)
+
+abbrev pub put_at : ℕ → List Ask → Ask → Option ℕ → List Ask
+put_at room asks ask (Some i) = slice_set asks i ask
+put_at room asks ask None = if nat_lt (length asks) room then asks ++ ask ∷ [] else asks
+
+-- a last datagram in place of its party's, or after the others if there is room
+abbrev pub put_ask : ℕ → List Ask → Ask → List Ask
+put_ask room asks ask = put_at room asks ask (place_to asks ask.party)
 
 -- the next seed
 abbrev pub next_seed : ℕ → ℕ
@@ -45,7 +52,7 @@ next_seed seed = (seed * 1103515245 + 12345) / 65536 % 32768
 
 abbrev pub after_passing : PacingValue → ℕ → Party → List ℕ → PacingValue
 after_passing p now to datagram = record p {
-  asks = ask_at p.room p.asks to datagram now p.seed (place_to p.asks to);
+  asks = put_ask p.room p.asks (next_ask p.asks to datagram now p.seed);
   seed = next_seed p.seed;
 }
 

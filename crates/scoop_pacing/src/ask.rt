@@ -1,8 +1,7 @@
 //! The last datagram to a party.
 
 ghost use Rattle.std.specs.Prelude.{◌≡◌, bytes_eq};
-ghost use Rattle.std.specs.Option.{option_map};
-ghost use Rattle.scoop_pacing.specs.Ask.{may_repeat, after_answer, asked_first, asked_again, pause_of, trip_of, estimate_after, timeout_of, poll_of, repeat_timeout};
+ghost use Rattle.scoop_pacing.specs.Ask.{may_repeat, after_answer, answered_at, asked_first, asked_again, counts_of, pause_of, trip_of, estimate_after, poll_of, repeat_timeout};
 
 use crate::estimate::{Estimate, MAX_TIMEOUT};
 use scoop_link::{Datagram, Party};
@@ -72,29 +71,51 @@ impl Ask {
         }
     }
 
-    /// Passes on the next datagram to its party.
-    pub(crate) fn ask(&mut self, datagram: Datagram, now: u64, seed: u32)
-        ensures { self.new ≡ asked_again self.old datagram now seed }
+    /// The next datagram to the party, passed on after this one.
+    pub(crate) fn again(&self, datagram: Datagram, now: u64, seed: u32) -> Ask
+        ensures { result ≡ asked_again self.now datagram now seed }
     {
-        if self.is_of(&datagram) {
-            self.timeout = repeat_timeout(self.answered, self.timeout);
-            self.repeated = self.repeated.saturating_add(1);
-        } else {
-            self.repeated = 0;
+        let (repeated, timeout) = self.counts_of(&datagram);
+        Ask {
+            party: self.party,
+            datagram,
+            sent: now,
+            repeated,
+            answered: None,
+            pause: pause_of(timeout, seed),
+            timeout,
+            estimate: self.estimate,
         }
-        self.datagram = datagram;
-        self.pause = pause_of(self.timeout, seed);
-        self.sent = now;
-        self.answered = None;
     }
 
-    /// Hears a reply of its party. The first one to a datagram that went once measures a round trip.
+    // The repetitions and the timeout of the next datagram: a repeat, or another one.
+    fn counts_of(&self, datagram: &Datagram) -> (u64, u32)
+        ensures { result ≡ counts_of self.now datagram.now }
+    {
+        if self.is_of(datagram) {
+            (
+                self.repeated.saturating_add(1),
+                repeat_timeout(self.answered, self.timeout),
+            )
+        } else {
+            (0, self.timeout)
+        }
+    }
+
+    /// Hears a reply of its party. Only the first one counts.
     pub(crate) fn answer(&mut self, now: u64)
         ensures { self.new ≡ after_answer now self.old }
     {
-        if self.answered.is_some() {
-            return;
+        match self.answered {
+            Some(_) => {}
+            None => self.measure(now),
         }
+    }
+
+    // Notes the first reply. It measures a round trip if the datagram went once.
+    fn measure(&mut self, now: u64)
+        ensures { self.new ≡ answered_at self.old now }
+    {
         self.answered = Some(now);
         if self.repeated == 0 {
             let estimate = estimate_after(self.estimate, trip_of(self.sent, now));

@@ -134,11 +134,13 @@ impl<L: Link, C: Times, A: Allocator> Link for MeasuredLink<L, C, A> {
         ensures nothing { result ≡ Ok None → self.new.pacing ≡ self.old.pacing }
         ensures failed { OnErr result (self.new.pacing ≡ self.old.pacing) }
     {
-        let got = self.inner.receive(buffer)?;
-        if let Some(len) = got {
-            self.hear(&buffer[..len]);
+        match self.inner.receive(buffer)? {
+            Some(len) => {
+                self.hear(&buffer[..len]);
+                Ok(Some(len))
+            }
+            None => Ok(None),
         }
-        Ok(got)
     }
 
     fn faults(&self) -> u64 {

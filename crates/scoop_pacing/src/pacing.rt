@@ -1,9 +1,8 @@
 //! The last datagrams to all parties.
 
-ghost use Rattle.std.specs.Prelude.{◌≡◌, ◌≤◌, map, position, IfOk, vec_len, vec_capacity};
+ghost use Rattle.std.specs.Prelude.{◌≡◌, ◌≤◌, map, IfOk, vec_len, vec_capacity};
 ghost use Rattle.std.specs.Option.{option_copied};
-ghost use Rattle.scoop_link.specs.Party.{same_party};
-ghost use Rattle.scoop_pacing.specs.Pacing.{fresh_pacing, last_to, passes, place_to, ask_at, after_passing, after_reply, hears, next_seed};
+ghost use Rattle.scoop_pacing.specs.Pacing.{fresh_pacing, last_to, passes, place_to, next_ask, put_ask, after_passing, after_reply, hears, next_seed};
 
 use crate::ask::Ask;
 use scoop_link::{Datagram, Party};
@@ -44,23 +43,26 @@ fn place_to(asks: &[Ask], to: Party) -> Option<usize>
     asks.iter().position(|ask| ask.party == to)
 }
 
-// Notes a datagram that was passed on: at its party's place, or after the others if there is room.
-fn note<A: Allocator>(
-    asks: &mut Vec<Ask, A>,
-    room: usize,
-    to: Party,
-    datagram: Datagram,
-    now: u64,
-    seed: u32,
-)
+// The party's last datagram, once this one is passed on.
+fn next(asks: &[Ask], to: Party, datagram: Datagram, now: u64, seed: u32) -> Ask
+    ensures { result ≡ next_ask asks.now to datagram now seed }
+{
+    match last_to(asks, to) {
+        Some(last) => last.again(datagram, now, seed),
+        None => Ask::first(to, datagram, now, seed),
+    }
+}
+
+// Puts a last datagram in place of its party's, or after the others if there is room.
+fn put<A: Allocator>(asks: &mut Vec<Ask, A>, room: usize, ask: Ask)
     requires { room ≤ vec_capacity asks.old }
-    ensures items { asks.new.items ≡ ask_at room asks.old.items to datagram now seed (place_to asks.old.items to) }
+    ensures items { asks.new.items ≡ put_ask room asks.old.items ask }
     ensures len { vec_len asks.old ≤ room → vec_len asks.new ≤ room }
     ensures capacity { vec_capacity asks.new ≡ vec_capacity asks.old }
 {
-    match place_to(asks.as_slice(), to) {
-        Some(place) => asks[place].ask(datagram, now, seed),
-        None if asks.len() < room => asks.push_reserved(Ask::first(to, datagram, now, seed)),
+    match place_to(asks, ask.party) {
+        Some(i) => asks[i] = ask,
+        None if asks.len() < room => asks.push_reserved(ask),
         None => {}
     }
 }
@@ -103,7 +105,7 @@ impl<A: Allocator> Pacing<A> {
     pub(crate) fn passes(&self, now: u64, to: Party, datagram: &Datagram) -> bool
         ensures { result ≡ passes self.now now to datagram.now }
     {
-        match last_to(self.asks.as_slice(), to) {
+        match last_to(&self.asks, to) {
             Some(last) if last.is_of(datagram) => last.may_repeat(now),
             _ => true,
         }
@@ -113,7 +115,8 @@ impl<A: Allocator> Pacing<A> {
     pub(crate) fn pass(&mut self, now: u64, to: Party, datagram: Datagram)
         ensures { self.new ≡ after_passing self.old now to datagram }
     {
-        note(&mut self.asks, self.room, to, datagram, now, self.seed);
+        let ask = next(&self.asks, to, datagram, now, self.seed);
+        put(&mut self.asks, self.room, ask);
         self.seed = next_seed(self.seed);
     }
 

@@ -73,7 +73,7 @@ fn compare(rt: &HostRuntime, path: &str, found: &str, wanted: &str) -> Result<()
 /// Writes the owner of a store into the file beside it: of a new one, and of an old one that has no such file, with a note. A
 /// file that can't be written is noted too.
 pub(crate) fn note_owner(rt: &HostRuntime, store: StoreChoice<'_>, system: &System, owner: Owner) {
-    let (StoreChoice::New(path) | StoreChoice::Old(path)) = store else {
+    let Some(path) = store.path() else {
         return;
     };
     let Ok(file) = owner_file(rt, path) else {
