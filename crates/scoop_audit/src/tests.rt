@@ -4,7 +4,7 @@ mod changes;
 mod storm;
 
 use crate::{AuditError, Journal, audit, chart_of, print_explained, unexplained_text};
-use scoop_system::System;
+use scoop_system_file::read_system;
 use std::alloc::Global;
 use std::process::Abort;
 use std::test::Fail;
@@ -12,7 +12,7 @@ use storm::{SYSTEM, Storm};
 
 // The outcome of an audit as a text: what is printed, or why there is no explanation.
 fn outcome(alloc: Global, system: &str, journals: &[&[u8]]) -> Result<String, Fail> {
-    let system = System::read(alloc, system).ok().ok_or("system")?;
+    let system = read_system(alloc, system).ok().ok_or("system")?;
     let mut given = Vec::new(alloc);
     for bytes in journals {
         given.push(Journal { bytes })?;
@@ -60,7 +60,7 @@ fn nothing_is_explained(rt: HostRuntime) -> Result<(), Fail> {
 #[test]
 fn a_client_alone_is_explained(rt: HostRuntime) -> Result<(), Fail> {
     let alloc = rt.alloc();
-    let system = System::read(alloc, SYSTEM).ok().ok_or("system")?;
+    let system = read_system(alloc, SYSTEM).ok().ok_or("system")?;
     let bytes = b"scoop journal 1 client 7 1 1\nturn none\n".as_slice();
     let Ok(run) = audit(alloc, &system, &[Journal { bytes }], false) else {
         panic!(rt; "unexplained");
@@ -94,7 +94,7 @@ fn a_run_has_a_chart(rt: HostRuntime) -> Result<(), Fail> {
     let alloc = rt.alloc();
     let storm = Storm::played(alloc, 2, 300)?;
     let journals = of_storm(alloc, &storm)?;
-    let system = System::read(alloc, SYSTEM).ok().ok_or("system")?;
+    let system = read_system(alloc, SYSTEM).ok().ok_or("system")?;
     let mut given = Vec::new(alloc);
     for bytes in journals {
         given.push(Journal { bytes })?;

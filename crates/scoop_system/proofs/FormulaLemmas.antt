@@ -17,8 +17,7 @@ use Rattle.scoop_message.specs.declared.limits.TheConstants.{MAX_ARGS, MAX_WORDS
 use Rattle.scoop_object.specs.declared.term.Term.{Term}
 use Rattle.scoop_object.specs.declared.term.Term.TheVariants.{Const, Word, Arg}
 use Rattle.scoop_object.specs.declared.term.Write.{Write}
-use Rattle.scoop_system.specs.Terms.{term_of, test_formula, write_formula}
-use Rattle.scoop_system.specs.Formulas.{test_words, write_words}
+use Rattle.scoop_system.specs.Formulas.{term_of, test_words, test_formula, write_words, write_formula}
 use Rattle.scoop_system.specs.SystemText.{term_text, test_formula_text, write_text}
 use Rattle.scoop_system.specs.ReadBack.{TermFits, WriteFits, ReadsTest, ReadsWrite}
 

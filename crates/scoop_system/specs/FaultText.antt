@@ -1,5 +1,5 @@
 -- Texts of faults.
-use Rattle.std.specs.Prelude.{ℕ, List, [], ◌++◌, codes, Option, Some, None}
+use Rattle.std.specs.Prelude.{ℕ, List, [], ◌++◌, codes}
 use Rattle.std.specs.Fmt.{decimal}
 use Rattle.scoop_message.specs.declared.limits.TheConstants.{MAX_WORDS}
 use Rattle.scoop_system.specs.declared.error.Place.{Place}
@@ -7,8 +7,6 @@ use Rattle.scoop_system.specs.declared.error.Place.TheVariants as place
 use Rattle.scoop_system.specs.declared.error.Wrong.{Wrong}
 use Rattle.scoop_system.specs.declared.error.Wrong.TheVariants as wrong
 use Rattle.scoop_system.specs.declared.error.Fault.{Fault as TheFault}
-use Rattle.scoop_system.specs.declared.error.SystemError.{SystemError}
-use Rattle.scoop_system.specs.declared.error.SystemError.TheVariants.{Toml, Fault, OutOfMemory}
 use Rattle.scoop_system.specs.KeyText.{key_text, hint_text}
 
 abbrev pub quoted : List ℕ → List ℕ
@@ -68,9 +66,3 @@ placed (place.NamelessOperation count class) text = place_text (place.NamelessOp
 -- the place and its fault; the whole file is no place to print
 abbrev pub fault_text : TheFault → List ℕ
 fault_text f = placed f.place (wrong_text f.wrong)
-
--- the text of an error; TOML's own faults are left open
-abbrev pub system_error_text : SystemError → Option (List ℕ)
-system_error_text (Toml fault) = None
-system_error_text (Fault fault) = Some (fault_text fault)
-system_error_text OutOfMemory = Some (codes "out of memory")

@@ -8,16 +8,8 @@ pub mod System
 pub mod Arguments
 pub mod Line
 pub mod LineText
-pub mod Address
 pub mod KeyText
 pub mod FaultText
-pub mod Value
-pub mod Place
 pub mod Formulas
-pub mod Terms
-pub mod Classes
-pub mod Meaning
-pub mod Stop
-pub mod File
 pub mod SystemText
 pub mod ReadBack

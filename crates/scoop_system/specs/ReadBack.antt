@@ -4,7 +4,7 @@ use Rattle.scoop_message.specs.declared.limits.TheConstants.{MAX_ARGS, MAX_WORDS
 use Rattle.scoop_object.specs.declared.term.Term.{Term}
 use Rattle.scoop_object.specs.declared.term.Term.TheVariants.{Const, Word, Arg}
 use Rattle.scoop_object.specs.declared.term.Write.{Write}
-use Rattle.scoop_system.specs.Terms.{test_formula, write_formula}
+use Rattle.scoop_system.specs.Formulas.{test_formula, write_formula}
 use Rattle.scoop_system.specs.SystemText.{test_formula_text, write_text}
 
 -- a term that a class of this many words may have

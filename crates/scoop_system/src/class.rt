@@ -34,8 +34,8 @@ impl Model for OwnClass {
 }
 
 impl OwnClass {
-    // The class with its name, and its operations with theirs.
-    pub(crate) fn new(name: Name, class: Class, operations: Vec<OwnOperation>) -> OwnClass
+    /// The class with its name, and its operations with theirs.
+    pub fn new(name: Name, class: Class, operations: Vec<OwnOperation>) -> OwnClass
         ensures { result ≡ record { name = name; table = class; operations = operations.items } }
     {
         OwnClass {
@@ -77,11 +77,8 @@ impl OwnClass {
     }
 }
 
-// The operation of this name, if there is one.
-pub(crate) fn operation_named<'a>(
-    operations: &'a [OwnOperation],
-    name: &[u8],
-) -> Option<&'a OwnOperation>
+/// The operation of this name, if there is one.
+pub fn operation_named<'a>(operations: &'a [OwnOperation], name: &[u8]) -> Option<&'a OwnOperation>
     ensures { option_copied result ≡ find (λ o. same_text o.name name.now) operations.now }
 {
     operations
@@ -89,8 +86,8 @@ pub(crate) fn operation_named<'a>(
         .find(|operation| operation.name.as_bytes() == name)
 }
 
-// The class of this name, if there is one.
-pub(crate) fn class_named<'a>(classes: &'a [OwnClass], name: &[u8]) -> Option<&'a OwnClass>
+/// The class of this name, if there is one.
+pub fn class_named<'a>(classes: &'a [OwnClass], name: &[u8]) -> Option<&'a OwnClass>
     ensures { option_copied result ≡ class_named classes.now name.now }
 {
     classes.iter().find(|class| class.name.as_bytes() == name)

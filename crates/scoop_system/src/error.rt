@@ -1,30 +1,7 @@
-//! Faults in the text of a system.
+//! Faults in the text of a system, with their places.
 
 use crate::name::Name;
-use std::error::Error;
 use std::fmt;
-
-/// Why a text is no system. Printed after the file's name.
-#[derive(Clone, Copy, Debug)]
-pub enum SystemError {
-    /// The text isn't TOML.
-    Toml(TomlFault),
-    /// The text is TOML, and describes no system.
-    Fault(Fault),
-    /// A growth of memory was refused.
-    OutOfMemory,
-}
-
-/// A fault of TOML, with its line and column counted from 1.
-#[derive(Clone, Copy, Debug)]
-pub struct TomlFault {
-    pub line: usize,
-    /// In characters, not bytes.
-    pub column: usize,
-    pub error: toml::de::Error,
-    /// The kind of a table in single brackets, as `[node]`, before a fault at a later table.
-    pub single: Option<Key>,
-}
 
 /// A fault and its place. Printed as `node 1: unknown key "adress"`.
 #[derive(Clone, Copy, Debug)]
@@ -130,34 +107,6 @@ pub enum Wrong {
     WrittenTwice(u8),
 }
 
-impl fmt::Display for SystemError {
-    ghost use Rattle.scoop_system.specs.FaultText.{system_error_text};
-
-    // TOML's own faults have TOML's texts.
-    ghost output = { system_error_text };
-
-    fn fmt<W: fmt::Write>(&self, f: &mut fmt::Formatter<W>) -> fmt::Result {
-        match self {
-            SystemError::Toml(
-                TomlFault {
-                    line,
-                    column,
-                    error,
-                    single,
-                },
-            ) => {
-                let message = error.message();
-                let hint = single.map_or("", Key::hint);
-                write!(f, "line {line}, column {column}: {message}{hint}")
-            }
-            SystemError::Fault(fault) => write!(f, "{fault}"),
-            SystemError::OutOfMemory => f.write_str("out of memory"),
-        }
-    }
-}
-
-impl Error for SystemError {}
-
 impl fmt::Display for Fault {
     ghost use Rattle.std.specs.Prelude.{Some};
     ghost use Rattle.scoop_system.specs.FaultText.{fault_text};
@@ -221,8 +170,8 @@ impl Key {
         }
     }
 
-    // How the tables of the key are written, as a hint for a table in single brackets.
-    fn hint(self) -> &'static str
+    /// How the tables of the key are written, as a hint for a table in single brackets.
+    pub fn hint(self) -> &'static str
         ensures { result.now ≡ hint_text self }
     {
         match self {

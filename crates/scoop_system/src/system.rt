@@ -33,8 +33,8 @@ impl Model for System {
 }
 
 impl System {
-    // The system of these parts.
-    pub(crate) fn new(
+    /// The system of these parts.
+    pub fn new(
         classes: Vec<OwnClass>,
         nodes: Vec<NodePlace>,
         handlers: Vec<HandlerPlace>,
@@ -151,8 +151,8 @@ impl System {
     }
 }
 
-// Whether an optional name is this one.
-pub(crate) fn has_name(own: Option<Name>, name: &[u8]) -> bool
+/// Whether an optional name is this one.
+pub fn has_name(own: Option<Name>, name: &[u8]) -> bool
     ensures { result ≡ has_name own name.now }
 {
     match own {

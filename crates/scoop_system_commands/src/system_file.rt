@@ -5,7 +5,8 @@ use scoop_message::OutOfMemory;
 use scoop_report::{Hints, Status, hint, hint_of_file, report};
 use scoop_runtime::{FileFault, RuntimeError};
 use scoop_seal::{Key, KeyError};
-use scoop_system::{System, SystemError};
+use scoop_system::System;
+use scoop_system_file::{SystemError, read_system};
 use std::fmt::Display;
 use std::io::ErrorKind;
 use std::{fs, io};
@@ -51,7 +52,7 @@ fn report_unread(rt: &HostRuntime, path: &str, error: &io::Error) -> Status {
 /// The system that a file says.
 pub(crate) fn read_system(rt: &HostRuntime, path: &str) -> Result<System, Status> {
     let text = read_text(rt, path)?;
-    match System::read(rt.alloc(), &text) {
+    match read_system(rt.alloc(), &text) {
         Ok(system) => Ok(system),
         Err(SystemError::OutOfMemory) => Err(report_memory(rt)),
         Err(error) => Err(report_fault(rt, path, error, FileFault::NoSystem)),

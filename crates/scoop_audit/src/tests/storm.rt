@@ -9,6 +9,7 @@ use scoop_message::{Args, ClientId, HandlerId, Message, Request, Words};
 use scoop_object::{Class, Table};
 use scoop_record::{image, pending_row};
 use scoop_system::System;
+use scoop_system_file::read_system;
 use std::alloc::Global;
 use std::test::Fail;
 
@@ -143,7 +144,7 @@ fn run(node: &mut Node) -> Result<(), Fail> {
 impl Storm {
     /// A storm of so many steps.
     pub fn played(alloc: Global, seed: u64, steps: u32) -> Result<Storm, Fail> {
-        let system = System::read(alloc, SYSTEM).ok().ok_or("system")?;
+        let system = read_system(alloc, SYSTEM).ok().ok_or("system")?;
         let mut nodes = Vec::new(alloc);
         nodes.push(node_of(alloc, &system, 1)?)?;
         nodes.push(node_of(alloc, &system, 2)?)?;

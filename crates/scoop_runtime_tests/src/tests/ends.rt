@@ -8,6 +8,7 @@ use scoop_link::TapeLink;
 use scoop_message::{Block, ClientId, HandlerId};
 use scoop_runtime::{ClientPlan, ClientStop, Progress, RuntimeError, Unended, client_run};
 use scoop_system::System;
+use scoop_system_file::read_system;
 use std::alloc::Global;
 use std::test::Fail;
 
@@ -80,7 +81,7 @@ fn plan_in(system: &System) -> Option<ClientPlan<'_>> {
 #[test]
 fn a_client_that_nobody_welcomes_names_the_handler(rt: HostRuntime) -> Result<(), Fail> {
     let alloc = rt.alloc();
-    let system = System::read(alloc, CELL)?;
+    let system = read_system(alloc, CELL)?;
     let plan = plan_in(&system).ok_or("no plan")?;
     let (ended, output) = ask_planned(alloc, &plan, &[], b"reserve 1\n").ok_or("no client")?;
     let progress = Progress {
@@ -98,7 +99,7 @@ fn a_client_that_nobody_welcomes_names_the_handler(rt: HostRuntime) -> Result<()
 #[test]
 fn a_client_that_nobody_answers_names_the_handler(rt: HostRuntime) -> Result<(), Fail> {
     let alloc = rt.alloc();
-    let system = System::read(alloc, CELL)?;
+    let system = read_system(alloc, CELL)?;
     let plan = plan_in(&system).ok_or("no plan")?;
     let (ended, output) = ask_planned(alloc, &plan, &[WELCOME], b"reserve 1\n").ok_or("no client")?;
     let progress = Progress {
@@ -116,7 +117,7 @@ fn a_client_that_nobody_answers_names_the_handler(rt: HostRuntime) -> Result<(),
 #[test]
 fn a_strict_client_ends_after_its_first_refusal(rt: HostRuntime) -> Result<(), Fail> {
     let alloc = rt.alloc();
-    let system = System::read(alloc, CELL)?;
+    let system = read_system(alloc, CELL)?;
     let plan = plan_in(&system).ok_or("no plan")?;
     let lines = b"# two ends\nend\nend\n";
     let (ended, output) = ask_planned(alloc, &plan, &[WELCOME], lines).ok_or("no client")?;

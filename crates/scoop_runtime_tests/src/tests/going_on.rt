@@ -4,7 +4,7 @@ use scoop_keeper::{Keeper, KeeperError, MemoryKeeper};
 use scoop_link::TapeLink;
 use scoop_message::HandlerId;
 use scoop_runtime::{NodePlan, RuntimeError, Serving, node_run};
-use scoop_system::System;
+use scoop_system_file::read_system;
 use std::alloc::Global;
 use std::process::Abort;
 use std::sync::Wait;
@@ -33,7 +33,7 @@ words = [5]
 
 // The node of this text.
 fn node_of(alloc: Global, text: &str) -> Option<NodePlan> {
-    let system = System::read(alloc, text).ok()?;
+    let system = read_system(alloc, text).ok()?;
     NodePlan::of(alloc, &system, system.node(1)?).ok()
 }
 

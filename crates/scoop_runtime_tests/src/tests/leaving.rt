@@ -10,6 +10,7 @@ use scoop_link::UdpLink;
 use scoop_message::{Block, ClientId, HandlerId};
 use scoop_runtime::{ClientPlan, RuntimeError, Unended, client_cut};
 use scoop_system::{LineFault, ShownWord, System};
+use scoop_system_file::read_system;
 use std::alloc::Global;
 use std::net::Net;
 use std::process::Abort;
@@ -139,7 +140,18 @@ impl Pair {
             let (waits, faults) = (Vec::new(alloc), Vec::new(alloc));
             let mut notes = Vec::new(alloc);
             let cut = &mut self.cut;
-            client_cut(alloc, &seven, keeper, link, None::<Journal<Vec<u8>>>, waits, faults, cut, &mut notes).ok()?;
+            client_cut(
+                alloc,
+                &seven,
+                keeper,
+                link,
+                None::<Journal<Vec<u8>>>,
+                waits,
+                faults,
+                cut,
+                &mut notes,
+            )
+            .ok()?;
         }
         let eight = plan_of(system, 8, false)?;
         let keeper = &mut MemoryKeeper::new(alloc);
@@ -185,7 +197,7 @@ fn run_pair<R: Threads + Wait + Clock + Net + Sync + Abort>(
 ) -> Result<Pair, Fail> {
     let words = ["NODE", "SEVEN", "EIGHT"];
     let text = with_ports(alloc, ACCOUNTS, &words, &free_ports::<_, 3>(rt)?)?;
-    let system = System::read(alloc, &text)?;
+    let system = read_system(alloc, &text)?;
     let node = node_link(rt, alloc, &system, 1).ok_or("no node")??;
     let mut pair = Pair::open(rt, alloc, &system)?;
     assert!(rt; live_beside(rt, alloc, &system, node, &mut pair, run));
@@ -219,7 +231,10 @@ const UNTOUCHED: &str = "reserved 8.1.1\nanswer 100\nanswer 0\nended\n";
 fn a_fault_in_a_line_leaves_no_block(rt: HostRuntime) -> Result<(), Fail> {
     let run = Run::of(b"reserve 1 2\nquery 1 withdraw 30\nquery 2 balanc\n");
     let pair = run_pair(&rt, rt.alloc(), &run)?;
-    let fault = Err(RuntimeError::Line(3, LineFault::NoSuchOperation(HandlerId(2), ShownWord::of(b"balanc"))));
+    let fault = Err(RuntimeError::Line(
+        3,
+        LineFault::NoSuchOperation(HandlerId(2), ShownWord::of(b"balanc")),
+    ));
     let text = "reserved 7.1.1\nanswer 70\ncut 7.1.1\n";
     ended(&rt, pair.first.as_ref(), fault, Unended::Cut(BLOCK), text)?;
     goes_on(&rt, &pair, "reserved 8.1.1\nanswer 70\nanswer 0\nended\n")

@@ -9,6 +9,7 @@ use scoop_message::{Block, ClientId, HandlerId};
 use scoop_runtime::{Progress, RuntimeError, Unended};
 use scoop_seal::{Key, SealedLink};
 use scoop_system::{LineFault, ShownWord, System};
+use scoop_system_file::read_system;
 use std::alloc::Global;
 use std::net::Net;
 use std::process::Abort;
@@ -208,7 +209,7 @@ fn accounts<R: Net>(rt: &R, alloc: Global) -> Result<System, Fail> {
         &["NODE", "CLIENT"],
         &free_ports::<_, 2>(rt)?,
     )?;
-    Ok(System::read(alloc, &text)?)
+    Ok(read_system(alloc, &text)?)
 }
 
 // The line of the node that is ready.

@@ -7,6 +7,7 @@ use scoop_keeper::MemoryKeeper;
 use scoop_lines::{LineBytes, LineSource, SourceError};
 use scoop_link::UdpLink;
 use scoop_system::System;
+use scoop_system_file::read_system;
 use std::alloc::Global;
 use std::net::Net;
 use std::process::Abort;
@@ -135,7 +136,7 @@ fn a_client_that_pauses_in_its_block_keeps_no_lock(rt: HostRuntime) -> Result<()
         &["NODE", "SEVEN", "EIGHT"],
         &free_ports::<_, 3>(&rt)?,
     )?;
-    let system = System::read(alloc, &text).ok().ok_or("no system")?;
+    let system = read_system(alloc, &text).ok().ok_or("no system")?;
     let mut lines = PausingLines {
         alloc,
         system: &system,

@@ -13,6 +13,7 @@ use scoop_link::UdpLink;
 use scoop_message::HandlerId;
 use scoop_runtime::RuntimeError;
 use scoop_system::System;
+use scoop_system_file::read_system;
 use std::alloc::Global;
 use std::net::Net;
 use std::process::Abort;
@@ -364,7 +365,7 @@ fn blocks_keep_one_order_through_a_storm(rt: HostRuntime) -> Result<(), Fail> {
     let alloc = rt.alloc();
     let words = ["ONE", "TWO", "SEVEN", "EIGHT", "NINE"];
     let text = with_ports(alloc, PURSES, &words, &free_ports::<_, 5>(&rt)?)?;
-    let system = System::read(alloc, &text).ok().ok_or("no system")?;
+    let system = read_system(alloc, &text).ok().ok_or("no system")?;
     let mut parties = Parties::new(alloc);
     plays(&rt, alloc, &system, &mut parties)
 }

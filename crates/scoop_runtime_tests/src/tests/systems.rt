@@ -8,6 +8,7 @@ mod names;
 use scoop_classes::DemoClass;
 use scoop_message::{ClientId, HandlerId};
 use scoop_system::{HandlerClass, Name, System, is_name, print_system};
+use scoop_system_file::read_system;
 use std::alloc::Global;
 use std::process::Abort;
 use std::test::Fail;
@@ -71,7 +72,7 @@ class stock 2 words
 ";
 
 fn printed(alloc: Global, text: &str) -> Result<Vec<u8>, Fail> {
-    let system = System::read(alloc, text)?;
+    let system = read_system(alloc, text)?;
     let mut output = Vec::new(alloc);
     print_system(&system, &mut output)?;
     Ok(output)
@@ -124,7 +125,7 @@ fn has_parts(rt: &impl Abort, system: &System) -> Result<(), Fail> {
 
 #[test]
 fn parts_are_looked_up(rt: HostRuntime) -> Result<(), Fail> {
-    let system = System::read(rt.alloc(), SYSTEM)?;
+    let system = read_system(rt.alloc(), SYSTEM)?;
     has_parts(&rt, &system)
 }
 
@@ -157,14 +158,14 @@ fn has_known_classes(rt: &impl Abort, alloc: Global, system: &System) -> Result<
 
 #[test]
 fn classes_are_those_of_the_handlers(rt: HostRuntime) -> Result<(), Fail> {
-    let system = System::read(rt.alloc(), SYSTEM)?;
+    let system = read_system(rt.alloc(), SYSTEM)?;
     has_stock(&rt, rt.alloc(), &system)?;
     has_known_classes(&rt, rt.alloc(), &system)
 }
 
 #[test]
 fn operations_are_looked_up_by_name(rt: HostRuntime) -> Result<(), Fail> {
-    let system = System::read(rt.alloc(), SYSTEM)?;
+    let system = read_system(rt.alloc(), SYSTEM)?;
     assert_eq!(rt; system.operation(HandlerId(1), b"left"), Some(2));
     assert_eq!(rt; system.operation(HandlerId(1), b"balance"), None);
     assert_eq!(rt; system.operation(HandlerId(3), b"balance"), Some(3));

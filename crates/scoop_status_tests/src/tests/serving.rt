@@ -5,6 +5,7 @@ use jiff::Timestamp;
 use mio::net::TcpListener;
 use scoop_status::{About, Pages, Server};
 use scoop_system::System;
+use scoop_system_file::read_system;
 use scoop_watch::{LogLevel, Watch};
 use std::alloc::Global;
 use std::hash::RandomState;
@@ -118,7 +119,7 @@ const CASES: [(&[u8], &str); 9] = [
 
 #[test]
 fn each_request_gets_its_answer_in_time(rt: HostRuntime) -> Result<(), Fail> {
-    let system = System::read(rt.alloc(), SYSTEM)?;
+    let system = read_system(rt.alloc(), SYSTEM)?;
     let about = about(&rt, &system)?;
     let watch: Watch = watch(rt.alloc(), LogLevel::Off)?;
     let mut served = serve(&rt)?;
@@ -139,7 +140,7 @@ fn each_request_gets_its_answer_in_time(rt: HostRuntime) -> Result<(), Fail> {
 
 #[test]
 fn a_head_that_is_too_long_is_refused(rt: HostRuntime) -> Result<(), Fail> {
-    let system = System::read(rt.alloc(), SYSTEM)?;
+    let system = read_system(rt.alloc(), SYSTEM)?;
     let about = about(&rt, &system)?;
     let watch: Watch = watch(rt.alloc(), LogLevel::Off)?;
     let mut served = serve(&rt)?;
@@ -159,7 +160,7 @@ fn a_head_that_is_too_long_is_refused(rt: HostRuntime) -> Result<(), Fail> {
 
 #[test]
 fn silent_connections_leave_room(rt: HostRuntime) -> Result<(), Fail> {
-    let system = System::read(rt.alloc(), SYSTEM)?;
+    let system = read_system(rt.alloc(), SYSTEM)?;
     let about = about(&rt, &system)?;
     let watch: Watch = watch(rt.alloc(), LogLevel::Off)?;
     let mut served = serve(&rt)?;

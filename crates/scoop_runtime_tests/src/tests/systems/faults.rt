@@ -1,6 +1,6 @@
 //! The first fault of a text.
 
-use scoop_system::{System, SystemError};
+use scoop_system_file::{SystemError, read_system};
 use std::alloc::Global;
 use std::test::Fail;
 
@@ -209,7 +209,7 @@ const NO_TOML: [(&str, &str); 4] = [
 ];
 
 fn told(alloc: Global, text: &str) -> Result<String, Fail> {
-    let Err(error) = System::read(alloc, text) else {
+    let Err(error) = read_system(alloc, text) else {
         return Err(Fail::from("a system"));
     };
     Ok(format!(in alloc; "{error}")?)
@@ -227,7 +227,7 @@ fn the_first_fault_is_told(rt: HostRuntime) -> Result<(), Fail> {
 
 #[test]
 fn what_is_not_toml_is_told_with_its_place(rt: HostRuntime) -> Result<(), Fail> {
-    let Err(SystemError::Toml(fault)) = System::read(rt.alloc(), "[[node]]\nnumber = = 1\n") else {
+    let Err(SystemError::Toml(fault)) = read_system(rt.alloc(), "[[node]]\nnumber = = 1\n") else {
         return Err("no fault of TOML".into());
     };
     assert_eq!(rt; fault.line, 2);

@@ -6,6 +6,7 @@ use scoop_system::{
     ClientLine, NamedCondition, NamedConditions, NamedHandlers, System, Test, TooManyNamed,
     read_line,
 };
+use scoop_system_file::read_system;
 use std::alloc::Global;
 use std::process::Abort;
 use std::test::Fail;
@@ -76,7 +77,7 @@ fn asks_a_client(rt: &impl Abort, system: &System) -> Result<(), Fail> {
 
 #[test]
 fn lines_ask_a_client(rt: HostRuntime) -> Result<(), Fail> {
-    let system = System::read(rt.alloc(), SYSTEM)?;
+    let system = read_system(rt.alloc(), SYSTEM)?;
     asks_a_client(&rt, &system)
 }
 
@@ -101,13 +102,13 @@ fn waits_for_a_balance(rt: &impl Abort, system: &System) -> Result<(), Fail> {
 
 #[test]
 fn a_condition_stands_after_when(rt: HostRuntime) -> Result<(), Fail> {
-    let system = System::read(rt.alloc(), SYSTEM)?;
+    let system = read_system(rt.alloc(), SYSTEM)?;
     waits_for_a_balance(&rt, &system)
 }
 
 #[test]
 fn each_fault_of_a_line(rt: HostRuntime) -> Result<(), Fail> {
-    let system = System::read(rt.alloc(), SYSTEM)?;
+    let system = read_system(rt.alloc(), SYSTEM)?;
     for (line, fault) in &FAULTS {
         assert_eq!(rt; told(rt.alloc(), &system, line)?.as_str(), *fault);
     }

@@ -6,6 +6,7 @@ use scoop_system::{
     ClientLine, LineFaultIn, NamedCondition, NamedConditions, NamedHandlers, System, Test,
     TooManyConditions, read_line,
 };
+use scoop_system_file::read_system;
 use std::alloc::Global;
 use std::process::Abort;
 use std::test::Fail;
@@ -53,7 +54,7 @@ fn has_names(rt: &impl Abort, system: &System) -> Result<(), Fail> {
 
 #[test]
 fn a_name_stands_for_its_handler(rt: HostRuntime) -> Result<(), Fail> {
-    let system = System::read(rt.alloc(), SYSTEM)?;
+    let system = read_system(rt.alloc(), SYSTEM)?;
     has_names(&rt, &system)
 }
 
@@ -84,7 +85,7 @@ fn has_conditions(rt: &impl Abort, system: &System) -> Result<(), Fail> {
 
 #[test]
 fn a_line_has_several_conditions(rt: HostRuntime) -> Result<(), Fail> {
-    let system = System::read(rt.alloc(), SYSTEM)?;
+    let system = read_system(rt.alloc(), SYSTEM)?;
     has_conditions(&rt, &system)?;
     let nine = [condition(1, 3, Test::Is(5))?; 9];
     assert_eq!(rt; NamedConditions::of(&nine), Err(TooManyConditions));
@@ -94,7 +95,7 @@ fn a_line_has_several_conditions(rt: HostRuntime) -> Result<(), Fail> {
 
 #[test]
 fn single_words_are_lines(rt: HostRuntime) -> Result<(), Fail> {
-    let system = System::read(rt.alloc(), SYSTEM)?;
+    let system = read_system(rt.alloc(), SYSTEM)?;
     for (line, wanted) in [
         (&b"giveup"[..], ClientLine::GiveUp),
         (b"help", ClientLine::Help),
@@ -145,7 +146,7 @@ const FAULTS: [(&[u8], &str); 9] = [
 
 #[test]
 fn a_fault_names_what_the_system_has(rt: HostRuntime) -> Result<(), Fail> {
-    let system = System::read(rt.alloc(), SYSTEM)?;
+    let system = read_system(rt.alloc(), SYSTEM)?;
     for (line, wanted) in &FAULTS {
         assert_eq!(rt; told(rt.alloc(), &system, line)?.as_str(), *wanted);
     }

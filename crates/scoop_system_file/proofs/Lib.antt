@@ -1,0 +1,6 @@
+mod AddressLemmas
+mod RowLemmas
+mod ClassRowLemmas
+mod ViewLemmas
+mod ReadLemmas
+mod SystemLemmas

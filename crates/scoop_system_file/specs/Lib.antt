@@ -1,0 +1,9 @@
+pub mod Address
+pub mod Value
+pub mod Place
+pub mod Terms
+pub mod Classes
+pub mod Meaning
+pub mod ErrorText
+pub mod Stop
+pub mod File
