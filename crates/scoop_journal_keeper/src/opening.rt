@@ -5,10 +5,10 @@ ghost use Rattle.scoop_keeper.specs.Keeper.{IsPutError, IsSame, Stays};
 
 use hex::encode;
 use scoop_handler::HandlerState;
+use scoop_images::{image, pending_row};
 use scoop_journal::{AppendError, Journal, Line};
 use scoop_keeper::{Keeper, KeeperError};
 use scoop_message::{HandlerId, OutOfMemory};
-use scoop_record::{image, pending_row};
 use std::alloc::Allocator;
 use std::io::Write;
 

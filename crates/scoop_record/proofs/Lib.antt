@@ -1,11 +1,3 @@
-pub mod Places
-pub mod Firsts
-pub mod Bytes
-pub mod Reading
-pub mod Front
-pub mod Queues
-pub mod WithEntries
-pub mod Stored
 pub mod MapLemmas
 pub mod MigrateLemmas
 pub mod NumberLemmas

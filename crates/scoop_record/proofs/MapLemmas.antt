@@ -3,7 +3,7 @@ use Rattle.std.proofs.Common.{Result, Ok, Err, OnOk, List, ◌≡◌, ◌↔◌,
 use Rattle.sqlite_value.specs.declared.value.Value.{Value}
 use Rattle.sqlite.specs.Effect.{Database}
 use Rattle.scoop_handler.specs.State.{HandlerState}
-use Rattle.scoop_record.specs.Reading.{IsStored}
+use Rattle.scoop_images.specs.Reading.{IsStored}
 use Rattle.scoop_keeper.specs.Keeper.{Stored, Stays, Keeps, IsSame, Sets, next_of, last_incarnation}
 use Rattle.scoop_record.specs.Tables.{value_at}
 use Rattle.scoop_record.specs.Store.{inc_in, incs_in, Has, handlers_in, PutsBoth, Advances}

@@ -14,9 +14,9 @@ use Rattle.sqlite_rules.specs.Lists.{Has}
 use Rattle.sqlite_rules.proofs.ListLemmas.{all_from, all_has, has_found}
 use Rattle.sqlite.specs.Effect.{Database, IsDatabase}
 use Rattle.scoop_handler.specs.State.{HandlerState, IsState}
-use Rattle.scoop_record.specs.Range.{InRange}
-use Rattle.scoop_record.specs.Image.{image, pending_row}
-use Rattle.scoop_record.specs.Reading.{IsStored, IsStoredWithEntries}
+use Rattle.scoop_images.specs.Range.{InRange}
+use Rattle.scoop_images.specs.Image.{image, pending_row}
+use Rattle.scoop_images.specs.Reading.{IsStored, IsStoredWithEntries}
 use Rattle.scoop_keeper.specs.Keeper.{Stored, Missing, Holds, Damaged, IsTheOne}
 use Rattle.scoop_record.specs.Tables.{first_schema, record_schema, value_at, Puts, Makes}
 use Rattle.scoop_record.specs.Store.{handlers_in, Saves}

@@ -4,7 +4,7 @@ use Rattle.sqlite_value.specs.declared.value.Value.{Value}
 use Rattle.sqlite_value.specs.declared.value.Value.TheVariants.{Null, Int, Real, Text, Blob}
 use Rattle.scoop_message.specs.declared.name.HandlerId.{HandlerId}
 use Rattle.scoop_handler.specs.State.{HandlerState}
-use Rattle.scoop_record.specs.Reading.{IsStored}
+use Rattle.scoop_images.specs.Reading.{IsStored}
 use Rattle.scoop_keeper.specs.Keeper.{Stored, Missing, Holds, Damaged, IsTheOne}
 use Rattle.scoop_record.specs.Store.{Has, AreRowsOf, number_of}
 

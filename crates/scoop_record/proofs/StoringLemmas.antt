@@ -3,7 +3,7 @@ use Rattle.std.proofs.Common.{List, [], ◌∷◌, ◌++◌, refl, ◌∙◌, in
 use Rattle.sqlite.specs.State.{State, HasCleanDisk, KeepsCommit, Survives}
 use Rattle.sqlite.proofs.StateLemmas.{survives_then}
 use Rattle.scoop_handler.specs.State.{HandlerState, IsState}
-use Rattle.scoop_record.specs.Range.{InRange}
+use Rattle.scoop_images.specs.Range.{InRange}
 use Rattle.scoop_record.specs.Store.{IsSound, IsRecord, Saves}
 use Rattle.scoop_record.specs.Migrate.{SavesAll}
 use Rattle.scoop_record.proofs.MigrateLemmas.{saves_push, schema_stays}

@@ -1,9 +1,5 @@
 pub use Rattle.scoop_handler.specs.State
-pub mod Range
-pub mod Image
-pub mod Places
-pub mod Reading
-pub mod Faults
+pub use Rattle.scoop_images.specs.Image
 pub mod Tables
 pub mod Store
 pub mod Migrate

@@ -8,8 +8,8 @@ use Rattle.sqlite_trees.specs.Tree.{Trees, IsAscending, rowid}
 use Rattle.sqlite.specs.Effect.{Database, IsDatabase}
 use Rattle.scoop_handler.specs.State.{HandlerState}
 use Rattle.scoop_handler.specs.State.{IsState}
-use Rattle.scoop_record.specs.Range.{InRange}
-use Rattle.scoop_record.specs.Reading.{IsStoredWithEntries}
+use Rattle.scoop_images.specs.Range.{InRange}
+use Rattle.scoop_images.specs.Reading.{IsStoredWithEntries}
 use Rattle.scoop_keeper.specs.Keeper.{Stored, Missing, Holds, Damaged, stored_of, IsTheOne}
 use Rattle.scoop_record.specs.Tables.{first_schema, record_schema, value_at}
 use Rattle.scoop_record.specs.Store.{handlers_in, version_in, Saves}

@@ -8,8 +8,8 @@ use Rattle.sqlite.specs.Store.{Ghosts}
 use Rattle.sqlite.specs.Held.{Held, state}
 use Rattle.sqlite.specs.State.{State, HasCleanDisk}
 use Rattle.scoop_handler.specs.State.{HandlerState}
-use Rattle.scoop_record.specs.Image.{image, pending_row}
-use Rattle.scoop_record.specs.Reading.{IsStored}
+use Rattle.scoop_images.specs.Image.{image, pending_row}
+use Rattle.scoop_images.specs.Reading.{IsStored}
 use Rattle.scoop_keeper.specs.Keeper.{Stored, Missing, Holds, Damaged, last_incarnation, next_of}
 use Rattle.scoop_record.specs.Tables.{first_schema, record_schema, row_of, value_at, Puts}
 

@@ -10,11 +10,11 @@ ghost use Rattle.sqlite.specs.declared.types.Value.TheVariants.{Blob};
 ghost use Rattle.scoop_record.specs.Tables.{value_at, Puts};
 ghost use Rattle.scoop_record.specs.Store.{IsRecord, IsSound, IsReady, IsOpenOnOk, Has, handlers_in, PutsBoth};
 ghost use Rattle.scoop_keeper.specs.Keeper.{IsPutError, IsTheOne, stored_of, Damaged};
-ghost use Rattle.scoop_record.specs.Reading.{IsStored};
+ghost use Rattle.scoop_images.specs.Reading.{IsStored};
 
-use crate::images::{ReadError, image, pending_row, read_image};
 use crate::refusal::refusal;
 use scoop_handler::HandlerState;
+use scoop_images::{ReadError, image, pending_row, read_image};
 use scoop_keeper::KeeperError;
 use scoop_message::{HandlerId, OutOfMemory};
 use sqlite::{Alter, Connection, Error, Row, Transaction, params};

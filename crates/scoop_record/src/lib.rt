@@ -21,7 +21,6 @@ mod adopt;
 mod clients;
 mod create;
 mod handlers;
-mod images;
 mod migrate;
 mod refusal;
 mod schema;
@@ -31,7 +30,7 @@ mod version;
 
 pub use adopt::adopt_tables;
 pub use create::create_tables;
-pub use images::{ReadError, image, pending_row, read_image, read_image_with_entries};
+pub use scoop_images::{ReadError, image, pending_row, read_image, read_image_with_entries};
 pub use scoop_keeper::{
     FailingKeeper, JobRefusal, Keeper, KeeperError, MemoryKeeper, Unfinished, finish_and_store,
     finish_beside, hear_and_store, hear_beside,

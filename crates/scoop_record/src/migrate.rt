@@ -8,7 +8,7 @@ ghost use Rattle.sqlite.specs.State.{HasCleanDisk, IsUnchanged, KeepsCommit, Sho
 ghost use Rattle.sqlite.specs.declared.types.Value.TheVariants.{Int};
 ghost use Rattle.sqlite_value.specs.Order.{column};
 ghost use Rattle.scoop_handler.specs.State.{IsState};
-ghost use Rattle.scoop_record.specs.Range.{InRange};
+ghost use Rattle.scoop_images.specs.Range.{InRange};
 ghost use Rattle.scoop_record.specs.Store.{IsSound, IsOpenOnOk, IsRecord, IsOfVersionOne, Saves};
 ghost use Rattle.scoop_record.specs.Tables.{value_at, Puts};
 ghost use Rattle.scoop_keeper.specs.Keeper.{IsPutError, IsAdoptError};
@@ -17,9 +17,9 @@ ghost use Rattle.scoop_record.specs.Migrate.{IsLowestBad, HasOtherNumber};
 
 use crate::create::create_pending;
 use crate::handlers::{images_of, put_both};
-use crate::images::{ReadError, read_image_with_entries};
 use crate::refusal::refusal;
 use scoop_handler::HandlerState;
+use scoop_images::{ReadError, read_image_with_entries};
 use scoop_keeper::KeeperError;
 use scoop_message::HandlerId;
 use sqlite::{Alter, Connection, Error, Row, Transaction, params};

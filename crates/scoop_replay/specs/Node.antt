@@ -7,7 +7,7 @@ use Rattle.scoop_message.specs.Lists.{NoRepeats}
 use Rattle.scoop_object.specs.Class.{ClassTable}
 use Rattle.scoop_handler.specs.State.{HandlerState, new_state}
 use Rattle.scoop_handler.specs.Local.{LocalHandler, number_in, opening_handler}
-use Rattle.scoop_record.specs.Image.{image, pending_row}
+use Rattle.scoop_images.specs.Image.{image, pending_row}
 use Rattle.scoop_message.specs.declared.name.Block.{Block}
 use Rattle.scoop_handler.specs.declared.note.Heard.{Heard}
 use Rattle.scoop_handler.specs.declared.ran.Ran.{Ran}

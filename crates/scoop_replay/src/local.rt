@@ -9,9 +9,9 @@ ghost use Rattle.scoop_weave.specs.NodeHistories.{reopened};
 ghost use Rattle.scoop_replay.specs.Node.{AreBlobs, new_local, IsStoredAs};
 
 use scoop_handler::{Handler, HandlerState, Heard, Job, Ran};
+use scoop_images::{image, pending_row};
 use scoop_message::{Block, HandlerId, Message, OutOfMemory, Words};
 use scoop_object::{Class, Table};
-use scoop_record::{image, pending_row};
 use std::alloc::Global;
 use std::marker::Model;
 

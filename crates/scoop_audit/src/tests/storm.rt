@@ -4,10 +4,10 @@
 use scoop_client::{Client, Command, HandlerList, Phase};
 use scoop_frame::Version;
 use scoop_handler::{Handler, HandlerState};
+use scoop_images::{image, pending_row};
 use scoop_journal::{Arrival, Line, write};
 use scoop_message::{Args, ClientId, HandlerId, Message, Request, Words};
 use scoop_object::{Class, Table};
-use scoop_record::{image, pending_row};
 use scoop_system::System;
 use scoop_system_file::read_system;
 use std::alloc::Global;

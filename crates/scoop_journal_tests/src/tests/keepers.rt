@@ -1,10 +1,10 @@
 //! A keeper that writes a journal.
 
 use scoop_handler::{Heard, Note};
+use scoop_images::read_image;
 use scoop_journal_keeper::JournaledKeeper;
 use scoop_keeper::{FailingKeeper, Keeper, KeeperError, MemoryKeeper};
 use scoop_message::{ClientId, HandlerId, Message};
-use scoop_record::read_image;
 use std::alloc::Global;
 use std::io;
 use std::io::{Error, ErrorKind, Write};

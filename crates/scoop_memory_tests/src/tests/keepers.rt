@@ -3,9 +3,9 @@
 use super::growths::{Calling, Heap, Trial, Trying, add, answered, each_grows, shown, tried};
 use super::handlers::{add_state, made};
 use scoop_handler::HandlerState;
+use scoop_images::{ReadError, image, pending_row, read_image, read_image_with_entries};
 use scoop_keeper::{Keeper, KeeperError, MemoryKeeper};
 use scoop_message::{ClientId, HandlerId, OutOfMemory};
-use scoop_record::{ReadError, image, pending_row, read_image, read_image_with_entries};
 use scoop_refusing::Refusing;
 use std::alloc::{Allocator, Global};
 use std::net::Net;

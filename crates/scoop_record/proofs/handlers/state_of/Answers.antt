@@ -1,5 +1,5 @@
 use Rattle.std.proofs.Common.{refl}
-use Rattle.scoop_record.proofs.Stored.{same_state}
+use Rattle.scoop_images.proofs.Stored.{same_state}
 use Rattle.scoop_record.proofs.StoredLemmas.{missing_one, held_one, none_there, lone}
 use Rattle.scoop_record.proofs.handlers.state_of.Goals as goal
 
