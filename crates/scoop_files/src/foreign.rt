@@ -1,6 +1,6 @@
 //! Files that are no databases.
 
-use crate::error::FileError;
+use scoop_file_errors::FileError;
 use std::fs;
 use std::fs::File;
 use std::io::Read;

@@ -22,11 +22,10 @@
 //! ```
 #![tactic(auto)]
 
-mod error;
 mod foreign;
 mod report;
 mod store;
 
-pub use error::FileError;
 pub use report::report_file;
+pub use scoop_file_errors::FileError;
 pub use store::{FiledStore, adopt, adopt_for, close, create};

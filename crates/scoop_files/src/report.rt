@@ -1,6 +1,6 @@
 //! The report of a store in a file that isn't opened or closed.
 
-use crate::error::FileError;
+use scoop_file_errors::FileError;
 use scoop_report::{FOLDER, Hints, Status, hint_of_file, is_folder, report};
 
 /// Reports the error of the store in this file, which isn't a refusal of the store itself.

@@ -1,7 +1,7 @@
 //! Stores that are in files.
 
-use crate::error::FileError;
 use crate::foreign::refuse_foreign;
+use scoop_file_errors::FileError;
 use scoop_keeper::KeeperError;
 use scoop_message::ClientId;
 use scoop_record::{Store, adopt_tables};

@@ -4,8 +4,8 @@ use Rattle.std.specs.Fmt.{decimal}
 use Rattle.scoop_keeper.specs.Text.{error_text as keeper_text}
 use Rattle.scoop_keeper.specs.declared.keeper.KeeperError.{KeeperError}
 use Rattle.scoop_keeper.specs.declared.keeper.KeeperError.TheVariants as keeper
-use Rattle.scoop_files.specs.declared.error.FileError.{FileError}
-use Rattle.scoop_files.specs.declared.error.FileError.TheVariants.{NoFile, Taken, InUse, Unopened, Foreign, NoStore, NoIncarnation, Unclosed, Store}
+use Rattle.scoop_file_errors.specs.declared.error.FileError.{FileError}
+use Rattle.scoop_file_errors.specs.declared.error.FileError.TheVariants.{NoFile, Taken, InUse, Unopened, Foreign, NoStore, NoIncarnation, Unclosed, Store}
 
 abbrev pub refusal_text : KeeperError → List ℕ
 refusal_text keeper.OutOfMemory = codes "out of memory"

@@ -1,7 +1,7 @@
 //! Errors of a store in a file.
 
 ghost use Rattle.std.specs.Prelude.{◌≡◌};
-ghost use Rattle.scoop_files.specs.Errors.{advice_text};
+ghost use Rattle.scoop_file_errors.specs.Errors.{advice_text};
 
 use scoop_keeper::KeeperError;
 use scoop_message::ClientId;
@@ -74,7 +74,7 @@ impl FileError {
 
 impl fmt::Display for FileError {
     ghost use Rattle.std.specs.Prelude.{Some};
-    ghost use Rattle.scoop_files.specs.Errors.{error_text};
+    ghost use Rattle.scoop_file_errors.specs.Errors.{error_text};
 
     ghost output = { λ e. Some (error_text e) };
 
