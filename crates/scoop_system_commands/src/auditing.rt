@@ -6,13 +6,14 @@ use scoop_audit::{
     AuditError, Explained, Fault, Journal, Move, Wrong, audit, chart_of, print_explained,
     unexplained_text,
 };
-use scoop_chart::ChartError;
+use scoop_chart::{Chart, ChartError};
 use scoop_command_line::AuditOptions;
 use scoop_errors::PartyError;
 use scoop_message::OutOfMemory;
 use scoop_report::{Hints, Status, hint_of_file, report};
 use scoop_runtime::RuntimeError;
 use scoop_system::System;
+use std::alloc::Global;
 use std::fs::File;
 use std::io::{BufWriter, ErrorKind, Write};
 use std::{fs, io};
@@ -118,14 +119,21 @@ fn draw(
     options: &AuditOptions<'_>,
     path: &str,
 ) -> Result<(), Status> {
-    let chart = match chart_of(rt.alloc(), system, run, options.from, options.to) {
-        Ok(chart) => chart,
-        Err(ChartError::TooLong) => return Err(report_long(rt, path)),
-        Err(ChartError::OutOfMemory) => return Err(report_memory(rt)),
-    };
-    let Ok(file) = File::create(rt, path) else {
-        return Err(report_unwritten(rt, path));
-    };
+    match chart_of(rt.alloc(), system, run, options.from, options.to) {
+        Ok(chart) => write_chart(rt, &chart, path),
+        Err(ChartError::TooLong) => Err(report_long(rt, path)),
+        Err(ChartError::OutOfMemory) => Err(report_memory(rt)),
+    }
+}
+
+fn write_chart(rt: &HostRuntime, chart: &Chart, path: &str) -> Result<(), Status> {
+    match File::create(rt, path) {
+        Ok(file) => write_into(rt, chart, file, path),
+        Err(_) => Err(report_unwritten(rt, path)),
+    }
+}
+
+fn write_into(rt: &HostRuntime, chart: &Chart, file: File, path: &str) -> Result<(), Status> {
     let Ok(mut output) = BufWriter::new(rt.alloc(), file) else {
         return Err(report_memory(rt));
     };
@@ -148,29 +156,59 @@ fn report_unwritten(rt: &HostRuntime, path: &str) -> Status {
 /// Audits the run that the journals tell, and prints its explanation.
 pub fn explain(rt: &HostRuntime, options: &AuditOptions<'_>) -> Result<(), Status> {
     let system = read_system(rt, options.system)?;
+    let contents = read_journals(rt, options.journals)?;
+    explain_all(rt, &system, &contents, options)
+}
+
+// The bytes of the journals, each.
+fn read_journals(rt: &HostRuntime, paths: &[&str]) -> Result<Vec<Vec<u8>>, Status> {
     let mut contents = Vec::new(rt.alloc());
-    for path in options.journals {
+    for path in paths {
         let bytes = read_journal(rt, path)?;
         if contents.push(bytes).is_err() {
             return Err(report_memory(rt));
         }
     }
-    let mut journals = Vec::new(rt.alloc());
-    for bytes in contents.as_slice() {
-        if journals.push(Journal { bytes }).is_err() {
-            return Err(report_memory(rt));
-        }
-    }
-    let run = match audit(rt.alloc(), &system, &journals, options.chart.is_some()) {
-        Ok(run) => run,
-        Err(error) => return Err(report_error(rt, options.journals, error)),
+    Ok(contents)
+}
+
+// Audits the run that the journals of these bytes tell. What is owned is lent, so that no early return has to drop it.
+fn explain_all(
+    rt: &HostRuntime,
+    system: &System,
+    contents: &[Vec<u8>],
+    options: &AuditOptions<'_>,
+) -> Result<(), Status> {
+    let Ok(journals) = journals_of(rt.alloc(), contents) else {
+        return Err(report_memory(rt));
     };
-    match print_run(rt, &run, options.lists_blocks) {
+    match audit(rt.alloc(), system, &journals, options.chart.is_some()) {
+        Ok(run) => show_run(rt, system, &run, options),
+        Err(error) => Err(report_error(rt, options.journals, error)),
+    }
+}
+
+fn journals_of(alloc: Global, contents: &[Vec<u8>]) -> Result<Vec<Journal<'_>>, OutOfMemory> {
+    let mut journals = Vec::new(alloc);
+    for bytes in contents {
+        journals.push(Journal { bytes }).map_err(OutOfMemory::from)?;
+    }
+    Ok(journals)
+}
+
+// Prints the run, and draws its chart if one is wanted.
+fn show_run(
+    rt: &HostRuntime,
+    system: &System,
+    run: &Explained,
+    options: &AuditOptions<'_>,
+) -> Result<(), Status> {
+    match print_run(rt, run, options.lists_blocks) {
         Ok(()) => {}
         Err(error) => return Err(report_plainly(rt, RuntimeError::from(error))),
     }
     match options.chart {
-        Some(path) => draw(rt, &system, &run, options, path),
+        Some(path) => draw(rt, system, run, options, path),
         None => Ok(()),
     }
 }

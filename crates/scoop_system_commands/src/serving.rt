@@ -188,7 +188,7 @@ fn serve_at<T: Threads + Wait + Clock + Net + Sync>(
 }
 
 // Serves the node over the store of this choice, if there is one.
-fn serve_over<L: Link + RefusesForged, T: Threads + Wait + Clock + Net + Sync>(
+fn serve_over<L: Link + RefusesForged + Send, T: Threads + Wait + Clock + Net + Sync>(
     rt: &HostRuntime,
     threads: &T,
     choice: StoreChoice<'_>,
@@ -214,7 +214,7 @@ fn open_store(rt: &HostRuntime, choice: StoreChoice<'_>) -> Result<Option<FiledS
 
 // Serves the node over this store, and closes it. A function that names the files' type does one thing alone: the prover
 // takes too many steps at more.
-fn serve_stored<L: Link + RefusesForged, T: Threads + Wait + Clock + Net + Sync>(
+fn serve_stored<L: Link + RefusesForged + Send, T: Threads + Wait + Clock + Net + Sync>(
     rt: &HostRuntime,
     threads: &T,
     served: &Served<'_>,
@@ -241,14 +241,14 @@ fn serve_kept<S, L, T>(
 ) -> Result<Store<S>, RuntimeError>
 where
     S: Alter + Drop + Send,
-    L: Link + RefusesForged,
+    L: Link + RefusesForged + Send,
     T: Threads + Wait + Clock + Net + Sync,
 {
     serve_with(rt, threads, served, server, store, link)
 }
 
 // Serves the node over a record that is in memory alone.
-fn serve_unstored<L: Link + RefusesForged, T: Threads + Wait + Clock + Net + Sync>(
+fn serve_unstored<L: Link + RefusesForged + Send, T: Threads + Wait + Clock + Net + Sync>(
     rt: &HostRuntime,
     threads: &T,
     served: &Served<'_>,
@@ -275,7 +275,7 @@ fn serve_with<K, L, T>(
 ) -> Result<K, RuntimeError>
 where
     K: Keeper<Global> + Send,
-    L: Link + RefusesForged,
+    L: Link + RefusesForged + Send,
     T: Threads + Wait + Clock + Net + Sync,
 {
     let Some(journal) = served.journal else {

@@ -203,9 +203,26 @@ fn add_stored<T: Net>(
     hosts: &mut Vec<Host<FiledStore>>,
 ) -> Result<(), Status> {
     let path = store_path(rt, dir, "node", place.number)?;
-    let (store, is_old) = open_node_store(rt, &path)?;
+    match open_node_store(rt, &path) {
+        Ok(opened) => add_opened(rt, net, system, place, serving, opened, path, hosts),
+        Err(status) => Err(status),
+    }
+}
+
+// Adds the node over the keeper that was opened in this file, and goes on with what it holds if it is old.
+fn add_opened<K: Keeper<Global> + Send, T: Net>(
+    rt: &HostRuntime,
+    net: &T,
+    system: &System,
+    place: &NodePlace,
+    serving: Serving,
+    opened: (K, bool),
+    path: String,
+    hosts: &mut Vec<Host<K>>,
+) -> Result<(), Status> {
+    let (keeper, is_old) = opened;
     let serving = if is_old { serving.going_on() } else { serving };
-    add_host(rt, net, system, place, serving, store, Some(path), hosts)
+    add_host(rt, net, system, place, serving, keeper, Some(path), hosts)
 }
 
 // Runs the nodes beside the client, and reports why the client ends early.

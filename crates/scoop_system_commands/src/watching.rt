@@ -18,7 +18,7 @@ use scoop_watch::{
 };
 use std::alloc::Global;
 use std::hash::RandomState;
-use std::io::{BufWriter, Stderr, Write};
+use std::io::{BufWriter, Stderr, Stdout};
 use std::net::SocketAddr;
 use std::sync::Wait;
 use std::thread::Threads;
@@ -103,89 +103,58 @@ fn clients_of(alloc: Global, system: &System) -> Result<Vec<ClientId>, OutOfMemo
     Ok(clients)
 }
 
-// Work that is done beside the thread that shows a node.
-trait Task {
-    type Output;
-
-    fn run(self) -> Self::Output;
-}
-
-// A node before it runs.
+// A node under its watch. Its thread takes the keeper and the link, and leaves how the node ended.
 #[derive(Drop)]
-struct Unrun<'s, 'w, K, L, W, T> {
-    threads: &'s T,
-    alloc: Global,
-    served: &'s Served<'s>,
-    keeper: WatchedKeeper<'w, K, T>,
-    link: WatchedLink<'w, L>,
-    notes: Stderr,
-    output: W,
+struct WatchedNode<'s, 'w, K: Keeper<Global>, L: Link, T> {
+    plan: &'s NodePlan,
+    serving: &'s Serving,
+    watch: &'w Watch,
+    keeper: Option<WatchedKeeper<'w, K, T>>,
+    link: Option<WatchedLink<'w, L>>,
+    ended: Option<Result<K, RuntimeError>>,
 }
 
-impl<'s, 'w, K, L, W, T> Task for Unrun<'s, 'w, K, L, W, T>
+impl<'s, 'w, K, L, T> WatchedNode<'s, 'w, K, L, T>
 where
     K: Keeper<Global> + Send,
     L: Link + RefusesForged,
-    W: Write + Drop,
     T: Threads + Wait + Clock + Sync,
 {
-    type Output = Result<K, RuntimeError>;
+    // Runs the node, and lets its watch end.
+    fn run(&mut self, threads: &T, alloc: Global, output: Stdout, notes: Stderr) {
+        if let (Some(keeper), Some(link)) = (self.keeper.take(), self.link.take()) {
+            let ended = self.serve(threads, alloc, keeper, link, output, notes);
+            self.ended = Some(ended);
+        }
+        self.watch.end();
+    }
 
-    fn run(self) -> Result<K, RuntimeError> {
-        let Unrun {
+    // Runs the node, and returns the keeper under its watch.
+    fn serve(
+        &self,
+        threads: &T,
+        alloc: Global,
+        keeper: WatchedKeeper<'w, K, T>,
+        link: WatchedLink<'w, L>,
+        output: Stdout,
+        notes: Stderr,
+    ) -> Result<K, RuntimeError> {
+        let output = BufWriter::new(alloc, output).map_err(|_| OutOfMemory)?;
+        let mut output = WatchedOutput::new(output, threads, self.watch);
+        let (plan, serving) = (self.plan, self.serving);
+        match node_run(
             threads,
             alloc,
-            served,
+            plan,
+            serving,
             keeper,
             link,
             notes,
-            mut output,
-        } = self;
-        run_node(threads, alloc, served, keeper, link, notes, &mut output)
-    }
-}
-
-// Does the task in this thread, and shows the node in another one until then. `None` if there is no thread.
-fn show_beside<J: Task + Drop, T: Threads + Wait + Clock + Sync>(
-    threads: &T,
-    alloc: Global,
-    watch: &Watch,
-    about: &About<'_>,
-    server: Option<Server>,
-    log: Log<Stderr>,
-    task: J,
-) -> Option<J::Output> {
-    thread::scope(thread::scope_env(), threads, move |scope| {
-        let spawned = scope.spawn(move || show(threads, alloc, watch, about, server, log));
-        if spawned.is_err() {
-            return None;
+            &mut output,
+        ) {
+            Ok(keeper) => Ok(keeper.into_inner()),
+            Err(error) => Err(error),
         }
-        let ended = task.run();
-        watch.end();
-        Some(ended)
-    })
-}
-
-// Runs the node, and returns the keeper under its watch.
-fn run_node<K, L, W, T>(
-    threads: &T,
-    alloc: Global,
-    served: &Served<'_>,
-    keeper: WatchedKeeper<'_, K, T>,
-    link: WatchedLink<'_, L>,
-    notes: Stderr,
-    output: &mut W,
-) -> Result<K, RuntimeError>
-where
-    K: Keeper<Global> + Send,
-    L: Link + RefusesForged,
-    W: Write,
-    T: Threads + Wait + Clock + Sync,
-{
-    let (plan, serving) = (served.plan, served.serving);
-    match node_run(threads, alloc, plan, serving, keeper, link, notes, output) {
-        Ok(keeper) => Ok(keeper.into_inner()),
-        Err(error) => Err(error),
     }
 }
 
@@ -201,29 +170,46 @@ pub(crate) fn run_watched<K, L, T>(
 ) -> Result<K, RuntimeError>
 where
     K: Keeper<Global> + Send,
-    L: Link + RefusesForged,
+    L: Link + RefusesForged + Send,
     T: Threads + Wait + Clock + Sync,
 {
-    let alloc = rt.alloc();
-    let watch = watch_of(alloc, served.shown)?;
-    let output = BufWriter::new(alloc, io::writer(rt)).map_err(|_| OutOfMemory)?;
-    let output = WatchedOutput::new(output, threads, &watch);
-    let keeper = WatchedKeeper::new(keeper, threads, &watch);
-    let link = WatchedLink::new(link, &watch);
-    let server = server.take();
-    let about = &served.shown.about;
-    let notes = rt.stderr();
-    let log = Log::new(notes, about.place.number, served.shown.log);
-    let task = Unrun {
-        threads,
-        alloc,
-        served,
-        keeper,
-        link,
-        notes,
-        output,
+    let watch = watch_of(rt.alloc(), served.shown)?;
+    let node = WatchedNode {
+        plan: served.plan,
+        serving: served.serving,
+        watch: &watch,
+        keeper: Some(WatchedKeeper::new(keeper, threads, &watch)),
+        link: Some(WatchedLink::new(link, &watch)),
+        ended: None,
     };
-    match show_beside(threads, alloc, &watch, about, server, log, task) {
+    show_beside(rt, threads, &watch, served.shown, server.take(), node)
+}
+
+// Starts a thread for the node, shows the node in this one until it has ended, and returns its keeper.
+fn show_beside<K, L, T>(
+    rt: &HostRuntime,
+    threads: &T,
+    watch: &Watch,
+    shown: &Shown<'_>,
+    server: Option<Server>,
+    mut node: WatchedNode<'_, '_, K, L, T>,
+) -> Result<K, RuntimeError>
+where
+    K: Keeper<Global> + Send,
+    L: Link + RefusesForged + Send,
+    T: Threads + Wait + Clock + Sync,
+{
+    let (alloc, output, notes) = (rt.alloc(), rt.stdout(), rt.stderr());
+    let about = &shown.about;
+    let log = Log::new(notes, about.place.number, shown.log);
+    let lent = &mut node;
+    thread::scope(thread::scope_env(), threads, move |scope| {
+        let spawned = scope.spawn(move || lent.run(threads, alloc, output, notes));
+        if spawned.is_ok() {
+            show(threads, alloc, watch, about, server, log);
+        }
+    });
+    match node.ended {
         Some(ended) => ended,
         None => Err(RuntimeError::from(PartyError::NoThread)),
     }
