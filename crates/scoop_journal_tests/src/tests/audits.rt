@@ -1,6 +1,9 @@
 //! Audits of a short run's journals, and of the same journals with one change each, which is found.
 
-use scoop_audit::{AuditError, Journal, audit, chart_of, print_explained, unexplained_text};
+use scoop_audit::{
+    AuditError, Explained, Journal, audit, chart_of, print_explained, unexplained_text,
+};
+use scoop_chart::Chart;
 use scoop_system::System;
 use std::alloc::Global;
 use std::process::Abort;
@@ -219,11 +222,41 @@ fn a_party_without_its_journal_is_named(rt: HostRuntime) -> Result<(), Fail> {
     ends_alone(&rt, alloc, &client, wanted)
 }
 
+// What is owned is lent in these functions, so that no early return has to drop it.
+fn draws(rt: &impl Abort, alloc: Global, system: &System, run: &Explained) -> Result<(), Fail> {
+    let chart = chart_of(alloc, system, run, 1, u64::MAX)?;
+    assert!(rt; chart.rows() > 20);
+    is_drawn(rt, alloc, &chart)?;
+    let part = chart_of(alloc, system, run, 10, 20)?;
+    assert!(rt; part.rows() <= 11);
+    Ok(())
+}
+
+fn is_drawn(rt: &impl Abort, alloc: Global, chart: &Chart) -> Result<(), Fail> {
+    let mut picture = Vec::new(alloc);
+    chart.draw(&mut picture)?;
+    assert!(rt; picture.starts_with(b"<svg "));
+    Ok(())
+}
+
+fn explained(
+    rt: &impl Abort,
+    alloc: Global,
+    system: &System,
+    journals: &[Journal<'_>],
+) -> Result<(), Fail> {
+    match audit(alloc, system, journals, true) {
+        Ok(run) => draws(rt, alloc, system, &run),
+        Err(_) => Err(Fail::from("unexplained")),
+    }
+}
+
 #[test]
 fn a_run_has_a_chart(rt: HostRuntime) -> Result<(), Fail> {
     let alloc = rt.alloc();
     let node = joined(alloc, &NODE)?;
     let client = joined(alloc, &CLIENT)?;
+    let system = System::read(alloc, SYSTEM).ok().ok_or("system")?;
     let journals = [
         Journal {
             bytes: node.as_bytes(),
@@ -232,18 +265,7 @@ fn a_run_has_a_chart(rt: HostRuntime) -> Result<(), Fail> {
             bytes: client.as_bytes(),
         },
     ];
-    let system = System::read(alloc, SYSTEM).ok().ok_or("system")?;
-    let Ok(run) = audit(alloc, &system, &journals, true) else {
-        panic!(rt; "unexplained");
-    };
-    let chart = chart_of(alloc, &system, &run, 1, u64::MAX)?;
-    assert!(rt; chart.rows() > 20);
-    let mut picture = Vec::new(alloc);
-    assert!(rt; chart.draw(&mut picture).is_ok());
-    assert!(rt; picture.starts_with(b"<svg "));
-    let part = chart_of(alloc, &system, &run, 10, 20)?;
-    assert!(rt; part.rows() <= 11);
-    Ok(())
+    explained(&rt, alloc, &system, &journals)
 }
 
 #[test]

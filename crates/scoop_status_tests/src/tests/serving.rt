@@ -10,7 +10,8 @@ use scoop_watch::{LogLevel, Watch};
 use std::alloc::Global;
 use std::hash::RandomState;
 use std::io::{ErrorKind, Read, Write};
-use std::net::{SocketAddr, TcpStream};
+use std::net::{Net, SocketAddr, TcpStream};
+use std::process::Abort;
 use std::sync::Wait;
 use std::test::Fail;
 use std::thread;
@@ -117,68 +118,99 @@ const CASES: [(&[u8], &str); 9] = [
     (b"GET / HTTP/1.1\r\nHost: h\r\n", ""),
 ];
 
-#[test]
-fn each_request_gets_its_answer_in_time(rt: HostRuntime) -> Result<(), Fail> {
-    let system = System::read(rt.alloc(), SYSTEM)?;
+// What is owned is lent in these functions, so that no early return has to drop it.
+fn answers_each<R: Wait + Clock + Abort + Net<Stream = TcpStream>>(
+    rt: &R,
+    alloc: Global,
+    system: &System,
+    watch: &Watch,
+    served: &mut Served,
+) -> Result<(), Fail> {
     let place = system.node(1).ok_or("no node")?;
-    let about = about(&system, place, Timestamp::now(&rt)?);
-    let watch: Watch = watch(rt.alloc(), LogLevel::Off)?;
-    let mut served = serve(&rt)?;
+    let about = about(system, place, Timestamp::now(rt)?);
     let mut pages = Pages {
-        rt: &rt,
-        alloc: rt.alloc(),
-        watch: &watch,
+        rt,
+        alloc,
+        watch,
         about: &about,
     };
     for (request, wanted) in CASES {
-        let stream = TcpStream::connect(&rt, served.address)?;
-        let (back, took) = ask(&rt, rt.alloc(), &mut served, &mut pages, stream, request)?;
+        let (back, took) = asked(rt, alloc, served, &mut pages, request)?;
         assert!(rt; back.starts_with(wanted.as_bytes()), "{wanted}");
         assert!(rt; took < Duration::from_secs(2), "{wanted}");
     }
-    let mut long = b"GET / HTTP/1.1\r\nHost: h\r\nX: ".to_vec(rt.alloc())?;
+    let mut long = b"GET / HTTP/1.1\r\nHost: h\r\nX: ".to_vec(alloc)?;
     long.resize(5_000, b'a')?;
-    let stream = TcpStream::connect(&rt, served.address)?;
-    let (back, _) = ask(&rt, rt.alloc(), &mut served, &mut pages, stream, &long)?;
+    let (back, _) = asked(rt, alloc, served, &mut pages, &long)?;
     assert!(rt; back.starts_with(b"HTTP/1.1 431 "));
+    Ok(())
+}
+
+// What comes back to these bytes over a connection of its own, and after how long.
+fn asked<R: Wait + Clock + Abort + Net<Stream = TcpStream>>(
+    rt: &R,
+    alloc: Global,
+    served: &mut Served,
+    pages: &mut Pages<'_, R>,
+    bytes: &[u8],
+) -> Result<(Vec<u8>, Duration), Fail> {
+    let stream = TcpStream::connect(rt, served.address)?;
+    ask(rt, alloc, served, pages, stream, bytes)
+}
+
+#[test]
+fn each_request_gets_its_answer_in_time(rt: HostRuntime) -> Result<(), Fail> {
+    let system = System::read(rt.alloc(), SYSTEM)?;
+    let watch: Watch = watch(rt.alloc(), LogLevel::Off)?;
+    let mut served = serve(&rt)?;
+    answers_each(&rt, rt.alloc(), &system, &watch, &mut served)
+}
+
+// Connections that send nothing take all places, until their time is over.
+fn leaves_room<R: Wait + Clock + Abort + Net<Stream = TcpStream>>(
+    rt: &R,
+    alloc: Global,
+    system: &System,
+    watch: &Watch,
+    served: &mut Served,
+    silent: &mut Vec<TcpStream>,
+) -> Result<(), Fail> {
+    let place = system.node(1).ok_or("no node")?;
+    let about = about(system, place, Timestamp::now(rt)?);
+    let mut pages = Pages {
+        rt,
+        alloc,
+        watch,
+        about: &about,
+    };
+    for _ in 0..40 {
+        silent.push(TcpStream::connect(rt, served.address)?)?;
+    }
+    let start = Instant::now(rt)?;
+    served.server.turn(rt, &mut pages);
+    served.server.turn(rt, &mut pages);
+    // all places are taken
+    let (back, took) = asked(rt, alloc, served, &mut pages, b"")?;
+    assert!(rt; back.starts_with(b"HTTP/1.1 503 ") && took < Duration::from_secs(1));
+    // their time is over
+    for _ in 0..400 {
+        served.server.turn(rt, &mut pages);
+        if start.elapsed(rt)? > Duration::from_millis(1_600) {
+            break;
+        }
+        thread::sleep(rt, Duration::from_millis(5));
+    }
+    let request = b"GET /metrics HTTP/1.1\r\nHost: h\r\n\r\n";
+    let (back, _) = asked(rt, alloc, served, &mut pages, request)?;
+    assert!(rt; back.starts_with(b"HTTP/1.1 200 OK\r\n"));
     Ok(())
 }
 
 #[test]
 fn silent_connections_leave_room(rt: HostRuntime) -> Result<(), Fail> {
     let system = System::read(rt.alloc(), SYSTEM)?;
-    let place = system.node(1).ok_or("no node")?;
-    let about = about(&system, place, Timestamp::now(&rt)?);
     let watch: Watch = watch(rt.alloc(), LogLevel::Off)?;
     let mut served = serve(&rt)?;
-    let mut pages = Pages {
-        rt: &rt,
-        alloc: rt.alloc(),
-        watch: &watch,
-        about: &about,
-    };
     let mut silent = Vec::new(rt.alloc());
-    for _ in 0..40 {
-        silent.push(TcpStream::connect(&rt, served.address)?)?;
-    }
-    let start = Instant::now(&rt)?;
-    served.server.turn(&rt, &mut pages);
-    served.server.turn(&rt, &mut pages);
-    // all places are taken
-    let stream = TcpStream::connect(&rt, served.address)?;
-    let (back, took) = ask(&rt, rt.alloc(), &mut served, &mut pages, stream, b"")?;
-    assert!(rt; back.starts_with(b"HTTP/1.1 503 ") && took < Duration::from_secs(1));
-    // their time is over
-    for _ in 0..400 {
-        served.server.turn(&rt, &mut pages);
-        if start.elapsed(&rt)? > Duration::from_millis(1_600) {
-            break;
-        }
-        thread::sleep(&rt, Duration::from_millis(5));
-    }
-    let stream = TcpStream::connect(&rt, served.address)?;
-    let request = b"GET /metrics HTTP/1.1\r\nHost: h\r\n\r\n";
-    let (back, _) = ask(&rt, rt.alloc(), &mut served, &mut pages, stream, request)?;
-    assert!(rt; back.starts_with(b"HTTP/1.1 200 OK\r\n"));
-    Ok(())
+    leaves_room(&rt, rt.alloc(), &system, &watch, &mut served, &mut silent)
 }
