@@ -41,11 +41,20 @@ pub fn run_up<T: Threads + Wait + Clock + Net + Sync>(
     };
     let system = read_system(rt, options.system)?;
     let Some(place) = client_place(&system, options.client) else {
-        return Err(report_fault(rt, options.system, "no such client", FileFault::NoClient));
+        return Err(report_no_client(rt, options));
     };
     match plan_of(rt, &system, place, options.is_strict) {
         Ok(plan) => run_in(rt, threads, options, serving, &plan),
         Err(range) => Err(report_range(rt, range)),
+    }
+}
+
+// Reports that the system's file lacks the client that the options name, or any client.
+fn report_no_client(rt: &HostRuntime, options: &UpOptions<'_>) -> Status {
+    let (path, fault) = (options.system, FileFault::NoClient);
+    match options.client {
+        Some(number) => report_fault(rt, path, format_args!("no client {number}"), fault),
+        None => report_fault(rt, path, "it has no clients", fault),
     }
 }
 
