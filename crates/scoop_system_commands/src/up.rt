@@ -9,9 +9,11 @@ use scoop_command_line::UpOptions;
 use scoop_files::{FiledStore, close, report_file};
 use scoop_keeper::{Keeper, MemoryKeeper};
 use scoop_message::{ClientId, OutOfMemory};
+use scoop_record::Store;
 use scoop_report::{Hints, Status, report};
 use scoop_runtime::{ClientPlan, FileFault, OutOfRange, RuntimeError, Serving, open_client_link};
 use scoop_system::{ClientPlace, NodePlace, System};
+use sqlite::Alter;
 use std::alloc::Global;
 use std::io::IsTerminal;
 use std::mem;
@@ -212,26 +214,43 @@ fn add_stored<T: Net>(
     hosts: &mut Vec<Host<FiledStore>>,
 ) -> Result<(), Status> {
     let path = store_path(rt, dir, "node", place.number)?;
-    match open_node_store(rt, &path) {
-        Ok(opened) => add_opened(rt, net, system, place, serving, opened, path, hosts),
-        Err(status) => Err(status),
-    }
+    add_filed(rt, net, system, place, serving, &path, hosts)
 }
 
-// Adds the node over the keeper that was opened in this file, and goes on with what it holds if it is old.
-fn add_opened<K: Keeper<Global> + Send, T: Net>(
+// Adds the node over the store in this file. A function that names the files' type does one thing alone: the prover takes too
+// many steps at more.
+fn add_filed<T: Net>(
     rt: &HostRuntime,
     net: &T,
     system: &System,
     place: &NodePlace,
     serving: Serving,
-    opened: (K, bool),
-    path: String,
-    hosts: &mut Vec<Host<K>>,
+    path: &str,
+    hosts: &mut Vec<Host<FiledStore>>,
 ) -> Result<(), Status> {
-    let (keeper, is_old) = opened;
+    match open_node_store(rt, path) {
+        Ok(opened) => add_opened(rt, net, system, place, serving, opened, path, hosts),
+        Err(status) => Err(status),
+    }
+}
+
+// Adds the node over the store that was opened in this file, and goes on with what it holds if it is old.
+fn add_opened<S: Alter + Drop + Send, T: Net>(
+    rt: &HostRuntime,
+    net: &T,
+    system: &System,
+    place: &NodePlace,
+    serving: Serving,
+    opened: (Store<S>, bool),
+    path: &str,
+    hosts: &mut Vec<Host<Store<S>>>,
+) -> Result<(), Status> {
+    let (store, is_old) = opened;
     let serving = if is_old { serving.going_on() } else { serving };
-    add_host(rt, net, system, place, serving, keeper, Some(path), hosts)
+    let Ok(path) = String::from_str(rt.alloc(), path) else {
+        return Err(report_plainly(rt, RuntimeError::from(OutOfMemory)));
+    };
+    add_host(rt, net, system, place, serving, store, Some(path), hosts)
 }
 
 // Runs the nodes beside the client, and reports why the client ends early.

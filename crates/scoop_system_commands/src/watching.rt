@@ -103,15 +103,14 @@ fn clients_of(alloc: Global, system: &System) -> Result<Vec<ClientId>, OutOfMemo
     Ok(clients)
 }
 
-// A node under its watch. Its thread takes the keeper and the link, and leaves how the node ended.
+// A node under its watch, before it runs.
 #[derive(Drop)]
 struct WatchedNode<'s, 'w, K: Keeper<Global>, L: Link, T> {
     plan: &'s NodePlan,
     serving: &'s Serving,
     watch: &'w Watch,
-    keeper: Option<WatchedKeeper<'w, K, T>>,
-    link: Option<WatchedLink<'w, L>>,
-    ended: Option<Result<K, RuntimeError>>,
+    keeper: WatchedKeeper<'w, K, T>,
+    link: WatchedLink<'w, L>,
 }
 
 impl<'s, 'w, K, L, T> WatchedNode<'s, 'w, K, L, T>
@@ -120,28 +119,36 @@ where
     L: Link + RefusesForged,
     T: Threads + Wait + Clock + Sync,
 {
-    // Runs the node, and lets its watch end.
-    fn run(&mut self, threads: &T, alloc: Global, output: Stdout, notes: Stderr) {
-        if let (Some(keeper), Some(link)) = (self.keeper.take(), self.link.take()) {
-            let ended = self.serve(threads, alloc, keeper, link, output, notes);
-            self.ended = Some(ended);
-        }
-        self.watch.end();
-    }
-
-    // Runs the node, and returns the keeper under its watch.
-    fn serve(
-        &self,
+    // Runs the node, lets its watch end, and returns the keeper.
+    fn run(
+        self,
         threads: &T,
         alloc: Global,
-        keeper: WatchedKeeper<'w, K, T>,
-        link: WatchedLink<'w, L>,
         output: Stdout,
         notes: Stderr,
     ) -> Result<K, RuntimeError> {
+        let watch = self.watch;
+        let ended = self.serve(threads, alloc, output, notes);
+        watch.end();
+        ended
+    }
+
+    fn serve(
+        self,
+        threads: &T,
+        alloc: Global,
+        output: Stdout,
+        notes: Stderr,
+    ) -> Result<K, RuntimeError> {
+        let WatchedNode {
+            plan,
+            serving,
+            watch,
+            keeper,
+            link,
+        } = self;
         let output = BufWriter::new(alloc, output).map_err(|_| OutOfMemory)?;
-        let mut output = WatchedOutput::new(output, threads, self.watch);
-        let (plan, serving) = (self.plan, self.serving);
+        let mut output = WatchedOutput::new(output, threads, watch);
         match node_run(
             threads,
             alloc,
@@ -178,9 +185,8 @@ where
         plan: served.plan,
         serving: served.serving,
         watch: &watch,
-        keeper: Some(WatchedKeeper::new(keeper, threads, &watch)),
-        link: Some(WatchedLink::new(link, &watch)),
-        ended: None,
+        keeper: WatchedKeeper::new(keeper, threads, &watch),
+        link: WatchedLink::new(link, &watch),
     };
     show_beside(rt, threads, &watch, served.shown, server.take(), node)
 }
@@ -192,7 +198,7 @@ fn show_beside<K, L, T>(
     watch: &Watch,
     shown: &Shown<'_>,
     server: Option<Server>,
-    mut node: WatchedNode<'_, '_, K, L, T>,
+    node: WatchedNode<'_, '_, K, L, T>,
 ) -> Result<K, RuntimeError>
 where
     K: Keeper<Global> + Send,
@@ -202,15 +208,13 @@ where
     let (alloc, output, notes) = (rt.alloc(), rt.stdout(), rt.stderr());
     let about = &shown.about;
     let log = Log::new(notes, about.place.number, shown.log);
-    let lent = &mut node;
     thread::scope(thread::scope_env(), threads, move |scope| {
-        let spawned = scope.spawn(move || lent.run(threads, alloc, output, notes));
-        if spawned.is_ok() {
-            show(threads, alloc, watch, about, server, log);
+        match scope.spawn(move || node.run(threads, alloc, output, notes)) {
+            Ok(running) => {
+                show(threads, alloc, watch, about, server, log);
+                running.join(threads)
+            }
+            Err(_) => Err(RuntimeError::from(PartyError::NoThread)),
         }
-    });
-    match node.ended {
-        Some(ended) => ended,
-        None => Err(RuntimeError::from(PartyError::NoThread)),
-    }
+    })
 }
