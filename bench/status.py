@@ -13,7 +13,6 @@ from ports import free_ports
 
 NODES, CLIENTS = [1, 2], [11, 12]
 STRANGER = 99
-FRAME = b"SQ" + bytes([1, 1]) + bytes(18)
 
 
 def text_of(ports, statuses, clients):
