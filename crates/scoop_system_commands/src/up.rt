@@ -304,11 +304,33 @@ fn close_hosts(
 
 // Reports why a node ended early, or closes its store.
 fn close_host(rt: &HostRuntime, system: &System, host: Host<FiledStore>) -> Result<(), Status> {
-    let ended = host.report(rt, system);
-    let (keeper, path) = host.into_keeper();
-    match keeper {
+    match store_of(rt, system, host) {
+        Ok((store, path)) => close_kept(rt, path, store),
+        Err(status) => Err(status),
+    }
+}
+
+// Reports why a node ended early, or returns its store and the file of that.
+fn store_of<S: Alter + Drop + Send>(
+    rt: &HostRuntime,
+    system: &System,
+    host: Host<Store<S>>,
+) -> Result<(Option<Store<S>>, Option<String>), Status> {
+    match host.report(rt, system) {
+        Ok(()) => Ok(host.into_keeper()),
+        Err(status) => Err(status),
+    }
+}
+
+// Closes the store of a node, which is in this file.
+fn close_kept(
+    rt: &HostRuntime,
+    path: Option<String>,
+    store: Option<FiledStore>,
+) -> Result<(), Status> {
+    match store {
         Some(store) => close_store(rt, path.as_deref().unwrap_or(""), store),
-        None => ended,
+        None => Ok(()),
     }
 }
 
