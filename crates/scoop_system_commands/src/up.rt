@@ -196,11 +196,39 @@ fn run_stored_in<T: Threads + Wait + Clock + Net + Sync>(
     }
     let client = plan.place().client;
     let path = store_path(rt, dir, "client", client.0)?;
-    let mut store = open_client_store(rt, &path, client)?;
+    match open_client_store(rt, &path, client) {
+        Ok(store) => run_filed(rt, threads, plan, hosts, &path, store),
+        Err(status) => Err(status),
+    }
+}
+
+// The same over the client's store in this file, which is closed then.
+fn run_filed<T: Threads + Wait + Clock + Net + Sync>(
+    rt: &HostRuntime,
+    threads: &T,
+    plan: &ClientPlan<'_>,
+    hosts: &mut Vec<Host<FiledStore>>,
+    path: &str,
+    store: FiledStore,
+) -> Result<(), Status> {
+    let (ran, store) = run_kept(rt, threads, plan, hosts, store);
+    let closed = close_store(rt, path, store);
+    match ran {
+        Ok(()) => closed,
+        Err(status) => Err(status),
+    }
+}
+
+// The same over a store in any place, which is returned.
+fn run_kept<S: Alter + Drop + Send, T: Threads + Wait + Clock + Net + Sync>(
+    rt: &HostRuntime,
+    threads: &T,
+    plan: &ClientPlan<'_>,
+    hosts: &mut Vec<Host<Store<S>>>,
+    mut store: Store<S>,
+) -> (Result<(), Status>, Store<S>) {
     let ran = run_together(rt, threads, hosts, plan, &mut store);
-    let closed = close_store(rt, &path, store);
-    ran?;
-    closed
+    (ran, store)
 }
 
 // Adds the node at this place, over its store.
