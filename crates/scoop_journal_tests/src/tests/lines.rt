@@ -69,18 +69,21 @@ const FAULTS: [(&str, LineFault); 24] = [
 
 // The texts are lent to these functions, and what is read is matched: the borrow checker covers that.
 fn is_written_back(rt: &impl Abort, alloc: Global, text: &str) -> Result<(), Fail> {
-    match read(text.as_bytes()) {
-        Ok(line) => is_written(rt, alloc, &line, text),
-        Err(_) => Err(Fail::from("a fault")),
-    }
-}
-
-fn is_written(rt: &impl Abort, alloc: Global, line: &Line<'_>, text: &str) -> Result<(), Fail> {
     let mut out = Vec::new(alloc);
-    write(line, &mut out).ok().ok_or("memory")?;
+    write_back(text, &mut out)?;
     assert_eq!(rt; out.pop(), Some(b'\n'));
     assert_eq!(rt; out.as_slice(), text.as_bytes());
     Ok(())
+}
+
+fn write_back(text: &str, out: &mut Vec<u8>) -> Result<(), Fail> {
+    match read(text.as_bytes()) {
+        Ok(line) => match write(&line, out) {
+            Ok(()) => Ok(()),
+            Err(error) => Err(Fail::from(error)),
+        },
+        Err(fault) => Err(Fail::from(fault)),
+    }
 }
 
 fn has_fault(text: &str, fault: LineFault) -> bool {
