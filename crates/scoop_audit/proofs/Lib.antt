@@ -3,3 +3,6 @@ mod Clients
 mod Nodes
 mod Told
 mod World
+mod Owned
+mod Steps
+mod Paged
