@@ -6,3 +6,5 @@ mod World
 mod Owned
 mod Steps
 mod Paged
+mod Groups
+mod Files

@@ -9,7 +9,7 @@ use Rattle.scoop_system.specs.declared.place.ClientPlace.{ClientPlace}
 use Rattle.scoop_system.specs.System.{Plan}
 use Rattle.scoop_audit.specs.declared.roster.Member.{Member}
 use Rattle.scoop_audit.specs.Lines.{HasNoNewline}
-use Rattle.scoop_audit.specs.Members.{IsAssigned, IsGiven, client_member, members_in, node_member, places_of, who, with_journal}
+use Rattle.scoop_audit.specs.Members.{IsGiven, client_member, members_in, node_member, places_of, who, with_journal}
 use Rattle.scoop_audit.specs.Parties.{nodes_in}
 use Rattle.scoop_audit.specs.Run.{AreOwned}
 

@@ -1,9 +1,8 @@
 -- The pages of all parties, from what was replayed one after another.
-use Rattle.std.proofs.Common.{◌≡◌, ◌<◌, ◌≤◌, ◌+◌, ◌⊎◌, inl, inr, ℕ, take, get_or, ◌==◌, Bool, true, false, cond, List, [], ◌∷◌, ◌++◌, length, map, refl, sym, ap, ◌∙◌, subst, arith}
+use Rattle.std.proofs.Common.{◌≡◌, ◌<◌, ◌≤◌, ◌+◌, inl, inr, ℕ, take, get_or, ◌==◌, Bool, true, false, cond, List, [], ◌∷◌, ◌++◌, length, map, refl, sym, ap, ◌∙◌, subst, arith}
 use Rattle.std.specs.Prelude.{◌||◌, flat_map, IfOk, Result, Ok, Err}
-use Rattle.std.specs.List.{AllByRecursion, AllZip, filter, list_any}
+use Rattle.std.specs.List.{AllByRecursion, filter, list_any}
 use Rattle.std.proofs.lemmas.List.{length-map, map-append, take_more}
-use Rattle.scoop_message.specs.declared.limits.TheConstants.{MAX_ENTRIES}
 use Rattle.scoop_message.specs.declared.name.HandlerId.{HandlerId}
 use Rattle.scoop_message.specs.declared.message.Message.{Message}
 use Rattle.scoop_message.specs.Lists.{NoRepeats}
@@ -27,9 +26,9 @@ use Rattle.scoop_audit.specs.declared.error.PartyName.TheVariants.{Node, Client}
 use Rattle.scoop_audit.specs.declared.roster.Member.{Member}
 use Rattle.scoop_audit.specs.Members.{AddsTrail, TellMembers, TellsClientOf, TellsMember, TellsNodeOf, TellsPartyOf, client_member, members_in, node_member}
 use Rattle.scoop_audit.specs.Members.{places_of, who}
-use Rattle.scoop_audit.specs.Parties.{MayRun, clients_in, handlers_on, has_handlers, joins, known_in, nodes_in, placed_on, placements_in_file}
+use Rattle.scoop_audit.specs.Parties.{handlers_on, has_handlers, joins, known_in, nodes_in, placed_on, placements_in_file}
 use Rattle.scoop_audit.specs.Run.{AreOwned, Explains, journal_at}
-use Rattle.scoop_audit.specs.Told.{TellsClientLife, TellsLife, joining, placement_on, placements_on}
+use Rattle.scoop_audit.specs.Told.{TellsClientLife, TellsLife, joining, placements_on}
 use Rattle.scoop_audit.specs.World.{ClientPages, IsToldClient, IsToldNode, NodePages, Weaves, placements_in, trails_of}
 use Rattle.scoop_audit.proofs.World.{told_world, zip_append}
 

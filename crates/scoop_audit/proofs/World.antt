@@ -1,25 +1,21 @@
 -- Journals that tell lives, with one order of these, tell a world.
-use Rattle.std.proofs.Common.{◌≡◌, ◌⊎◌, inl, inr, ℕ, List, [], ◌∷◌, ◌++◌, map, refl, sym, ap, ◌∙◌, subst}
-use Rattle.std.specs.Prelude.{flat_map}
+use Rattle.std.proofs.Common.{◌≡◌, inl, inr, ℕ, List, [], ◌∷◌, ◌++◌, map, refl, sym, ap, ◌∙◌, subst}
 use Rattle.std.specs.List.{AllByRecursion, AllZip}
 use Rattle.std.proofs.lemmas.List.{map-append}
-use Rattle.scoop_message.specs.declared.name.HandlerId.{HandlerId}
 use Rattle.scoop_message.specs.declared.message.Message.{Message}
 use Rattle.scoop_message.specs.Lists.{NoRepeats}
 use Rattle.scoop_model.specs.Opening.{MayOpen}
-use Rattle.scoop_model.specs.Step.{Placement, Newcomer}
-use Rattle.scoop_weave.specs.System.{new_client}
-use Rattle.scoop_weave.specs.Lives.{ClientLife, IsClientLife, IsNodeLife, NodeLife, moves_of_client, moves_of_node, newcomers_of, newly, parties_of, placements_of}
+use Rattle.scoop_model.specs.Step.{Placement}
+use Rattle.scoop_weave.specs.Lives.{ClientLife, IsClientLife, IsNodeLife, NodeLife, moves_of_client, moves_of_node, newcomers_of, placements_of}
 use Rattle.scoop_weave.specs.Lives.{words_in}
 use Rattle.scoop_weaver.specs.declared.traffic.Traffic.{Traffic}
-use Rattle.scoop_weaver.specs.declared.trail.Passage.{Passage}
-use Rattle.scoop_weaver.specs.Passing.{IsOfWorld, traffic_by, traffic_of}
+use Rattle.scoop_weaver.specs.Passing.{traffic_by, traffic_of}
 use Rattle.scoop_weaver.specs.Trails.{HasOrder, HasTraffic, HaveTraffic}
 use Rattle.scoop_weaver.proofs.Lifting.{woven_world}
-use Rattle.scoop_audit.specs.Told.{TellsClientLife, newcomer, node_life, placements_on}
+use Rattle.scoop_audit.specs.Told.{newcomer, node_life, placements_on}
 use Rattle.scoop_replay.specs.Client.{after_one_step}
 use Rattle.scoop_audit.specs.Client.{last_turn}
-use Rattle.scoop_audit.specs.World.{AreTold, ClientPages, IsExplained, IsSilent, IsToldClient, IsToldNode, NodePages, Weaves, placements_in, trails_of}
+use Rattle.scoop_audit.specs.World.{AreTold, ClientPages, IsExplained, IsToldClient, IsToldNode, NodePages, Weaves, placements_in, trails_of}
 use Rattle.scoop_audit.specs.World.{IsLifeOfClient, IsLifeOfNode, IsWrittenLife, silent_life}
 
 -- ---- nodes

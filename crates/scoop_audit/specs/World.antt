@@ -5,7 +5,6 @@ use Rattle.scoop_message.specs.declared.message.Message.{Message}
 use Rattle.scoop_message.specs.Lists.{NoRepeats}
 use Rattle.scoop_model.specs.Opening.{MayOpen}
 use Rattle.scoop_model.specs.Step.{Placement, Newcomer}
-use Rattle.scoop_message.specs.declared.name.HandlerId.{HandlerId}
 use Rattle.scoop_journal.specs.declared.line.Line.{Line}
 use Rattle.scoop_weave.specs.System.{new_client}
 use Rattle.scoop_weave.specs.Lives.{ClientLife, NodeLife, newcomers_of, placements_of, words_in}

@@ -521,9 +521,10 @@ fn nothing_replayed(alloc: Global) -> Replayed
 /// Whether the journals are those of a run of the system, and if so, one order of all that happened. If a chart of it is
 /// wanted, the run keeps what the chart shows.
 ///
-/// Each node that has handlers, and each client, has its own journal among these, or none. If a world may open with the
-/// system's handlers and clients (`MayRun`), there is a world in which each party lives the life that its journal tells, and
-/// the order is that of this world.
+/// Each node that has handlers, and each client, has its own journal among these, or none. Each journal with a line is that of
+/// a party. If a world may open with the system's parties (`MayRun`), the order is that of a world, in which each party lives
+/// the life that its journal tells. [`systems_may_run`](crate::systems_may_run) proves `MayRun` of each system that was read
+/// and has a handler.
 pub fn audit(
     alloc: Global,
     system: &System,

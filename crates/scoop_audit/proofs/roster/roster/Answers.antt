@@ -1,4 +1,4 @@
-use Rattle.std.proofs.Common.{◌≡◌, ◌++◌, [], List, length, drop, take, sym, ◌∙◌, subst, arith, map}
+use Rattle.std.proofs.Common.{[], List, sym, ◌∙◌, subst, arith, map}
 use Rattle.scoop_audit.specs.declared.auditing.Journal.{Journal}
 use Rattle.scoop_audit.specs.declared.roster.Member.{Member}
 use Rattle.scoop_audit.specs.Members.{places_of}
