@@ -3,15 +3,23 @@ use Rattle.std.proofs.Common.{◌≡◌, ◌⊎◌, inl, inr, ℕ, zero, suc, �
 use Rattle.std.specs.List.{AllByRecursion}
 use Rattle.std.specs.Option.{option_map}
 use Rattle.std.proofs.lemmas.List.{append-nil, drop_all, length-map, length-take-le, map-append, map-set, take_all, take_more}
-use Rattle.std.proofs.lemmas.Option.{slice_get-map}
+use Rattle.std.proofs.lemmas.Option.{slice_get-get_or, slice_get-map}
 use Rattle.scoop_system.specs.declared.place.NodePlace.{NodePlace}
 use Rattle.scoop_system.specs.declared.place.ClientPlace.{ClientPlace}
 use Rattle.scoop_system.specs.System.{Plan}
+use Rattle.std.specs.Prelude.{unwrap_or}
+use Rattle.std.specs.Bool.{Decides}
+use Rattle.std.proofs.lemmas.Bool.Decides.{Decides-eqb, Decides-like}
+use Rattle.scoop_keeper.proofs.Keyed.{all_set_at}
+use Rattle.scoop_message.proofs.Same.{client_decides}
+use Rattle.scoop_audit.specs.contracts.error.PartyNamePartialEq.TheImpl as on_party
+use Rattle.scoop_audit.specs.declared.error.PartyName.{PartyName}
+use Rattle.scoop_audit.specs.declared.error.PartyName.TheVariants.{Node, Client}
 use Rattle.scoop_audit.specs.declared.roster.Member.{Member}
 use Rattle.scoop_audit.specs.Lines.{HasNoNewline}
-use Rattle.scoop_audit.specs.Members.{IsGiven, client_member, members_in, node_member, places_of, who, with_journal}
+use Rattle.scoop_audit.specs.Members.{HasItsOwn, IsGiven, Owns, client_member, members_in, node_member, places_of, who, with_journal}
 use Rattle.scoop_audit.specs.Parties.{nodes_in}
-use Rattle.scoop_audit.specs.Run.{AreOwned}
+use Rattle.scoop_audit.specs.Run.{AreOwned, journal_at}
 
 -- ---- no party has a journal yet
 
@@ -119,12 +127,13 @@ who_stays (x ∷ ms) (suc i) m place at = ap (λ ws. who x ∷ ws) (who_stays ms
 
 pub given_who : (place : ℕ) (j : List ℕ) (old new : List Member) → IsGiven place j old new → map who new ≡ map who old
 given_who place j old new (inl none) = ap (map who) none.1
-given_who place j old new (inr a) = ap (map who) a.now ∙ who_stays old a.at a.member place a.was
+given_who place j old new (inr given) = let a = given.2 in ap (map who) a.now ∙ who_stays old a.at a.member place a.was
 
 pub given_owned : (js : List (List ℕ)) (j : List ℕ) (old new : List Member) → AreOwned js (places_of old) → IsGiven (length js) j old new
     → AreOwned (js ++ j ∷ []) (places_of new)
 given_owned js j old new owned (inl none) = subst (λ ms. AreOwned (js ++ j ∷ []) (places_of ms)) (sym none.1) (blank_owned js j (places_of old) owned none.0)
-given_owned js j old new owned (inr a) =
+given_owned js j old new owned (inr given) =
+    let a = given.2 in
     let free : slice_get (places_of old) a.at ≡ Some None =
     slice_get-map (λ m. m.journal) old a.at ∙ (ap (option_map (λ m. m.journal)) a.was ∙ ap (λ p. Some p) a.free) in
     let is : places_of new ≡ set (places_of old) a.at (Some (length js)) =
@@ -145,3 +154,40 @@ pub lent_back : {A : Type 0} (n : ℕ) (new items : List A) → length new ≡ l
 lent_back n new items same count =
     let none : drop (length new) items ≡ [] = drop_all (length new) items (omega arith) in
     ap (λ ys. take n (new ++ ys)) none ∙ (ap (take n) (append-nil new) ∙ take_all n new (omega arith))
+
+-- ---- each has its own
+
+pub party_decides : (a b : PartyName) → Decides (on_party.eq-value.it a b) (a ≡ b)
+party_decides (Node m) (Node n) = Decides-like _ (ap Node) (λ e. cc) (Decides-eqb m n)
+party_decides (Node m) (Client d) = (λ e. absurd (cc), λ e. absurd (cc))
+party_decides (Client c) (Node n) = (λ e. absurd (cc), λ e. absurd (cc))
+party_decides (Client c) (Client d) = Decides-like _ (ap Client) (λ e. cc) (client_decides c d)
+
+given_own :
+    (js : List (List ℕ)) (place : ℕ) (j : List ℕ) (old new : List Member) → j ≡ journal_at js (Some place) → AllByRecursion (HasItsOwn js) old
+    → IsGiven place j old new → AllByRecursion (HasItsOwn js) new
+given_own js place j old new is own (inl none) = subst (AllByRecursion (HasItsOwn js)) (sym none.1) own
+given_own js place j old new is own (inr given) =
+    let a = given.2 in
+    let has : HasItsOwn js (with_journal place a.member) =
+    λ k same.
+    let there : place ≡ k = cc (same) in
+    subst (λ i. Owns a.member.party (journal_at js (Some i))) there
+    (subst (λ p. Owns p (journal_at js (Some place))) (sym a.named) (subst (Owns given.0) is given.1)) in
+    subst (AllByRecursion (HasItsOwn js)) (sym a.now) (all_set_at (HasItsOwn js) old a.at (with_journal place a.member) own has)
+
+pub journals_own :
+    {J : Type 0} (f : J → List ℕ) (xs : List J) (i : ℕ) (d : J) (old new : List Member) → i < length xs → AllByRecursion (HasItsOwn (map f xs)) old
+    → IsGiven i (f (get_or xs i d)) old new → AllByRecursion (HasItsOwn (map f xs)) new
+journals_own f xs i d old new less own given =
+    let at : slice_get (map f xs) i ≡ Some (f (get_or xs i d)) =
+    slice_get-map f xs i ∙ ap (option_map f) (slice_get-get_or xs i d less) in
+    given_own (map f xs) i (f (get_or xs i d)) old new (sym (ap (λ o. unwrap_or o []) at)) own given
+
+-- no member has one yet
+without : (js : List (List ℕ)) (ms : List Member) → AllByRecursion (λ p. p ≡ None) (places_of ms) → AllByRecursion (HasItsOwn js) ms
+without js [] none = tt
+without js (m ∷ ms) none = (λ place has. let is : m.journal ≡ None = none.0 in absurd (cc), without js ms none.1)
+
+pub members_own : (js : List (List ℕ)) (s : Plan) → AllByRecursion (HasItsOwn js) (members_in s)
+members_own js s = without js (members_in s) (all_without (nodes_in s) s.clients)

@@ -9,6 +9,9 @@ use Rattle.scoop_system.specs.declared.place.NodePlace.{NodePlace}
 use Rattle.scoop_system.specs.declared.place.ClientPlace.{ClientPlace}
 use Rattle.scoop_system.specs.System.{Plan}
 use Rattle.scoop_weaver.specs.declared.trail.Passage.{Passage}
+use Rattle.scoop_journal.specs.declared.line.Line.{Line}
+use Rattle.scoop_journal.specs.declared.line.Line.TheVariants.{NodeLife, ClientLife, Open, Hear, Begin, Finish, Do, Turn, Broke}
+use Rattle.scoop_journal.specs.Journal.{ended}
 use Rattle.scoop_audit.specs.declared.error.PartyName.{PartyName}
 use Rattle.scoop_audit.specs.declared.error.PartyName.TheVariants.{Node, Client}
 use Rattle.scoop_audit.specs.declared.roster.Member.{Member}
@@ -40,17 +43,42 @@ places_of ms = map (λ m. m.journal) ms
 abbrev pub with_journal : ℕ → Member → Member
 with_journal place m = record m { journal = Some place }
 
--- a party that had no journal has the one at this place
-pub record IsAssigned (place : ℕ) (old new : List Member) : Type 0 where
+-- the line begins a life of the party
+abbrev pub BeginsLifeOf : Line → PartyName → Type 0
+BeginsLifeOf (NodeLife n) party = party ≡ Node n
+BeginsLifeOf (ClientLife id inc batch) party = party ≡ Client id
+BeginsLifeOf (Open h image pending) party = ⊥
+BeginsLifeOf (Hear m reply) party = ⊥
+BeginsLifeOf (Begin h) party = ⊥
+BeginsLifeOf (Finish h) party = ⊥
+BeginsLifeOf (Do x) party = ⊥
+BeginsLifeOf (Turn a) party = ⊥
+BeginsLifeOf (Broke place) party = ⊥
+
+-- the journal is the party's: its first line begins a life of the party
+pub record Owns (party : PartyName) (journal : List ℕ) : Type 0 where
+  pub line : Line
+  pub rest : List ℕ
+  pub begins : journal ≡ ended line ++ rest
+  pub names : BeginsLifeOf line party
+
+-- the journal that a member has is its own
+abbrev pub HasItsOwn : List (List ℕ) → Member → Type 0
+HasItsOwn journals m = (place : ℕ) → m.journal ≡ Some place → Owns m.party (journal_at journals (Some place))
+
+-- the party, which had no journal, has the one at this place
+pub record IsAssigned (party : PartyName) (place : ℕ) (old new : List Member) : Type 0 where
   pub at : ℕ
   pub member : Member
   pub was : slice_get old at ≡ Some member
+  pub named : member.party ≡ party
   pub free : member.journal ≡ None
   pub now : new ≡ slice_set old at (with_journal place member)
 
 -- the journal at this place has its party, or no line
 abbrev pub IsGiven : ℕ → List ℕ → (old new : List Member) → Type 0
-IsGiven place journal old new = (HasNoNewline journal × (new ≡ old)) ⊎ IsAssigned place old new
+IsGiven place journal old new =
+    (HasNoNewline journal × (new ≡ old)) ⊎ ((party : PartyName) × Owns party journal × IsAssigned party place old new)
 
 -- ---- what the journals tell
 

@@ -1,8 +1,9 @@
 //! The parties of a system, each with its journal.
 
-ghost use Rattle.std.specs.Prelude.{◌≡◌, ◌++◌, ◌<◌, [], IfNone, IfOk, IfSome, OnOk, length, map};
+ghost use Rattle.std.specs.Prelude.{◌≡◌, ◌++◌, ◌<◌, [], IfOk, IfSome, MatchOption, OnOk, length, map, slice_get};
+ghost use Rattle.std.specs.List.{AllByRecursion};
 ghost use Rattle.scoop_audit.specs.Lines.{HasNoNewline};
-ghost use Rattle.scoop_audit.specs.Members.{IsAssigned, IsGiven, client_member, members_in, node_member, places_of, who};
+ghost use Rattle.scoop_audit.specs.Members.{HasItsOwn, IsAssigned, IsGiven, Owns, client_member, members_in, node_member, places_of, who};
 ghost use Rattle.scoop_audit.specs.Parties.{has_handlers, nodes_in};
 ghost use Rattle.scoop_audit.specs.Run.{AreOwned};
 
@@ -25,7 +26,7 @@ pub(crate) struct Member {
 
 // The party whose journal this is. `None` if nothing is written in it.
 fn owner(bytes: &[u8]) -> Result<Option<PartyName>, Trouble>
-    ensures { IfOk result (λ party. IfNone party (HasNoNewline bytes.now)) }
+    ensures { IfOk result (λ found. MatchOption found (HasNoNewline bytes.now) (λ party. Owns party bytes.now)) }
 {
     let mut cursor = Cursor::new(bytes);
     match cursor.next() {
@@ -88,8 +89,10 @@ fn members(alloc: Global, system: &System) -> Result<Vec<Member>, OutOfMemory>
 }
 
 // The place of the party, if it is one of the system.
+#[tactic(auto, using(crate::proofs::Owned::party_decides))]
 fn place_of(members: &[Member], party: PartyName) -> Option<usize>
-    ensures { IfSome result (λ at. at < length members.now) }
+    ensures within { IfSome result (λ at. at < length members.now) }
+    ensures named { IfSome result (λ at. IfSome (slice_get members.now at) (λ m. m.party ≡ party)) }
 {
     for (at, member) in members.iter().enumerate() {
         if member.party == party {
@@ -101,7 +104,7 @@ fn place_of(members: &[Member], party: PartyName) -> Option<usize>
 
 // Gives the party the journal at this place.
 fn assign(members: &mut [Member], party: PartyName, place: usize) -> Result<(), Fault>
-    ensures { OnOk result (IsAssigned place members.old members.new) }
+    ensures { OnOk result (IsAssigned party place members.old members.new) }
 {
     let Some(at) = place_of(members, party) else {
         return Err(Fault::NoParty(party));
@@ -134,6 +137,8 @@ fn give(members: &mut [Member], place: usize, bytes: &[u8]) -> Result<(), AuditE
 // Gives each journal to its party.
 fn give_all(members: &mut [Member], journals: &[Journal<'_>]) -> Result<(), AuditError>
     ensures parties { OnOk result (map who members.new ≡ map who members.old) }
+    ensures own { OnOk result (AllByRecursion (HasItsOwn (map (λ j. j.bytes.now) journals.now)) members.old
+        → AllByRecursion (HasItsOwn (map (λ j. j.bytes.now) journals.now)) members.new) }
     ensures owned { OnOk result (AreOwned [] (places_of members.old) → AreOwned (map (λ j. j.bytes.now) journals.now) (places_of members.new)) }
 {
     for (place, journal) in journals.iter().enumerate() {
@@ -152,6 +157,7 @@ pub(crate) fn roster(
     journals: &[Journal<'_>],
 ) -> Result<Vec<Member>, AuditError>
     ensures parties { IfOk result (λ members. map who members.items ≡ map who (members_in system.now)) }
+    ensures own { IfOk result (λ members. AllByRecursion (HasItsOwn (map (λ j. j.bytes.now) journals.now)) members.items) }
     ensures owned { IfOk result (λ members. AreOwned (map (λ j. j.bytes.now) journals.now) (places_of members.items)) }
 {
     let mut members = members(alloc, system)?;
