@@ -17,9 +17,9 @@ pub record AreOwned (journals : List (List ℕ)) (places : List (Option ℕ)) : 
   pub all : (place : ℕ) (bytes : List ℕ) → slice_get journals place ≡ Some bytes
       → HasNoNewline bytes ⊎ ((i : ℕ) × (slice_get places i ≡ Some (Some place)))
 
--- The parties are the file's nodes that have handlers, with these, and its clients. Each has its own one of the journals. If a
--- world may open with the file's parties, the turns are those of an order of the lives that the journals tell, which is that of
--- a world.
+-- The parties are the file's nodes that have handlers, with these, and its clients. Each has its own one of the journals.
+-- The turns are those of an order of the lives that the journals tell. This order is that of a world, if a world may open with
+-- the file's parties.
 pub record Explains (s : Plan) (journals : List (List ℕ)) (turns : List ℕ) : Type 0 where
   pub nodes : List NodePages
   pub clients : List ClientPages

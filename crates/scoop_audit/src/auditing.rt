@@ -33,7 +33,7 @@ pub struct Journal<'a> {
     pub bytes: &'a [u8],
 }
 
-// What the journals tell that were replayed, in the order of the parties.
+// The lives and moves of the parties that were replayed, in their order.
 #[derive(Drop)]
 struct Replayed {
     tales: Vec<Tale>,
