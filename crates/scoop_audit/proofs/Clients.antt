@@ -1,5 +1,5 @@
 -- A client's journal, line by line.
-use Rattle.std.proofs.Common.{◌≡◌, ◌<◌, ℕ, List, [], ◌∷◌, ◌++◌, Option, Some, None, refl, sym, ap, ◌∙◌, subst}
+use Rattle.std.proofs.Common.{◌≡◌, ◌<◌, ℕ, List, [], ◌∷◌, ◌++◌, Some, refl, sym, ap, ◌∙◌}
 use Rattle.scoop_message.specs.declared.name.ClientId.{ClientId}
 use Rattle.scoop_message.specs.declared.message.Message.{Message}
 use Rattle.scoop_driver.specs.declared.step.Step.{Step}
@@ -7,9 +7,9 @@ use Rattle.scoop_journal.specs.declared.line.Line.{Line}
 use Rattle.scoop_journal.specs.declared.line.Line.TheVariants.{NodeLife, ClientLife, Open, Hear, Begin, Finish, Do, Turn, Broke}
 use Rattle.scoop_journal.specs.Journal.{ended}
 use Rattle.scoop_weave.specs.System.{LocalClient}
-use Rattle.scoop_replay.specs.Client.{ClientTale, ClientValue, IsClientTale, RestartsOn, StepsOn, after_one_restart, after_one_step, local_client}
-use Rattle.scoop_audit.specs.Lines.{HasNoNewline, IsJournalOf}
-use Rattle.scoop_audit.specs.Client.{ClientRead, ClientUpTo, ReadsClient, StepsBy, TellsClient, ToldClient, ends_life, last_turn, step_of, tells_life}
+use Rattle.scoop_replay.specs.Client.{ClientValue, RestartsOn, StepsOn, after_one_restart, after_one_step}
+use Rattle.scoop_audit.specs.Lines.{HasNoNewline}
+use Rattle.scoop_audit.specs.Client.{ClientRead, ClientUpTo, ReadsClient, StepsBy, ends_life, last_turn, step_of, tells_life}
 use Rattle.scoop_audit.specs.Client.{tells_nothing, tells_step}
 use Rattle.scoop_audit.proofs.Texts.{text_more}
 

@@ -3,3 +3,8 @@ mod Clients
 mod Nodes
 mod Told
 mod World
+mod Owned
+mod Steps
+mod Paged
+mod Groups
+mod Files

@@ -1,20 +1,18 @@
 -- A node's journal, line by line.
-use Rattle.std.proofs.Common.{◌≡◌, ◌<◌, ◌+◌, ℕ, zero, suc, List, [], ◌∷◌, ◌++◌, length, map, slice_get, Option, Some, None, Result, Ok, Err, refl, sym, ap, ◌∙◌, subst, append_assoc, append-nil, arith}
+use Rattle.std.proofs.Common.{◌≡◌, ◌<◌, ◌+◌, ℕ, zero, suc, List, [], ◌∷◌, ◌++◌, length, map, slice_get, Option, Some, None, Result, Ok, Err, refl, sym, ap, ◌∙◌, subst, append_assoc, arith}
 use Rattle.std.specs.Prelude.{IfSome, OnOk}
 use Rattle.std.proofs.lemmas.List.{length-append}
-use Rattle.scoop_message.specs.declared.name.HandlerId.{HandlerId}
 use Rattle.scoop_message.specs.declared.message.Message.{Message}
 use Rattle.scoop_handler.specs.Local.{LocalHandler}
-use Rattle.scoop_book.specs.Moves.{Entry}
 use Rattle.scoop_journal.specs.declared.line.Line.{Line}
 use Rattle.scoop_journal.specs.declared.line.Line.TheVariants.{NodeLife, ClientLife, Open, Hear, Begin, Finish, Do, Turn, Broke}
 use Rattle.scoop_journal.specs.Journal.{ended}
 use Rattle.scoop_weave.specs.NodeHistories.{reopened}
-use Rattle.scoop_replay.specs.Node.{GoesOn, IsNodeTale, NodeTale, NodeValue, OpensAgain, after_entry, after_reopening}
-use Rattle.scoop_audit.specs.Lines.{HasNoNewline, IsJournalOf, text_of_all}
-use Rattle.scoop_audit.specs.Node.{BeginsLife, EntersBy, IsEntryOf, NodeRead, NodeUpTo, Opens, OpensAs, OpensFrom, ReadsNode, TellsEntry, TellsNode, ToldNode}
+use Rattle.scoop_replay.specs.Node.{GoesOn, IsNodeTale, NodeValue, OpensAgain, after_entry, after_reopening}
+use Rattle.scoop_audit.specs.Lines.{HasNoNewline, text_of_all}
+use Rattle.scoop_audit.specs.Node.{BeginsLife, EntersBy, IsEntryOf, NodeRead, NodeUpTo, Opens, OpensAs, OpensFrom, ReadsNode, TellsEntry, TellsNode}
 use Rattle.scoop_audit.specs.Node.{leaves_out, tells_entry, tells_life, tells_nothing}
-use Rattle.scoop_audit.proofs.Texts.{one_text, text_more, texts_more}
+use Rattle.scoop_audit.proofs.Texts.{text_more, texts_more}
 
 line_entry : (l : Line) (old new : NodeValue) (post more : List Message) → EntersBy l old new post more → GoesOn (IsEntryOf l) old new post more
 line_entry (NodeLife n) old new post more by = absurd by

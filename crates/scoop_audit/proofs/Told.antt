@@ -1,7 +1,6 @@
 -- A journal that was read to its end tells a life of the theorem.
-use Rattle.std.proofs.Common.{◌≡◌, ◌≤◌, ◌+◌, ℕ, suc, List, [], ◌∷◌, ◌++◌, length, map, Option, Some, None, inr, refl, sym, ap, ◌∙◌, subst, arith}
-use Rattle.std.specs.List.{AllByRecursion, AllZip}
-use Rattle.scoop_message.specs.declared.name.ClientId.{ClientId}
+use Rattle.std.proofs.Common.{◌≡◌, ◌≤◌, ◌+◌, ℕ, suc, List, [], ◌∷◌, length, map, inr, refl, ap, subst, arith}
+use Rattle.std.specs.List.{AllByRecursion}
 use Rattle.scoop_message.specs.declared.name.HandlerId.{HandlerId}
 use Rattle.scoop_message.specs.declared.message.Message.{Message}
 use Rattle.scoop_handler.specs.Local.{LocalHandler}
@@ -12,17 +11,16 @@ use Rattle.scoop_model.specs.Step.{Placement, Newcomer}
 use Rattle.scoop_weave.specs.System.{LocalClient, new_client}
 use Rattle.scoop_weave.specs.NodeHistories as node
 use Rattle.scoop_weave.specs.ClientSteps as client
-use Rattle.scoop_weaver.specs.declared.trail.Passage.{Passage}
-use Rattle.scoop_weaver.specs.Passing.{by_client, by_node, traffic_of}
+use Rattle.scoop_weaver.specs.Passing.{by_client, by_node}
 use Rattle.scoop_weaver.specs.Trails.{HasTraffic}
 use Rattle.scoop_replay.specs.declared.node.Placed.{Placed}
-use Rattle.scoop_replay.specs.Node.{IsNodeTale, NodeTale, NodeValue, Told, new_tale, node_value, passed_by, placed_local}
+use Rattle.scoop_replay.specs.Node.{IsNodeTale, NodeValue, Told, new_tale, node_value, passed_by, placed_local}
 use Rattle.scoop_replay.specs.Client.{ClientTale, ClientValue, IsClientTale, ToldBy, after_one_step, client_value, new_client_tale, passed_of}
 use Rattle.scoop_replay.proofs.Lives.{told_lives}
 use Rattle.scoop_replay.proofs.Drivers.{told_drivers}
 use Rattle.scoop_audit.specs.Node.{NodeRead, TellsNode}
 use Rattle.scoop_audit.specs.Client.{ClientRead, last_turn}
-use Rattle.scoop_audit.specs.Told.{TellsClientLife, TellsLife, first_of, later_of, node_life, newcomer, placements_on}
+use Rattle.scoop_audit.specs.Told.{TellsClientLife, TellsLife, first_of, later_of, placements_on}
 
 -- ---- a node
 

@@ -3,3 +3,6 @@ pub mod Node
 pub mod Client
 pub mod Told
 pub mod World
+pub mod Parties
+pub mod Run
+pub mod Members

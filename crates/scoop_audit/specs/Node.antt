@@ -1,12 +1,11 @@
 -- What the journal of a node tells: its lives, entry by entry.
-use Rattle.std.specs.Prelude.{◌≡◌, ⊤, ℕ, List, [], ◌∷◌, ◌++◌, map, Option}
+use Rattle.std.specs.Prelude.{◌≡◌, ⊤, ℕ, List, [], ◌∷◌, ◌++◌}
 use Rattle.scoop_message.specs.declared.name.HandlerId.{HandlerId}
 use Rattle.scoop_message.specs.declared.message.Message.{Message}
 use Rattle.scoop_handler.specs.Local.{LocalHandler, number_in}
 use Rattle.scoop_book.specs.Moves.{Entry}
 use Rattle.scoop_journal.specs.declared.line.Line.{Line}
 use Rattle.scoop_journal.specs.declared.line.Line.TheVariants.{NodeLife, ClientLife, Open, Hear, Begin, Finish, Do, Turn, Broke}
-use Rattle.scoop_weave.specs.NodeHistories.{reopened}
 use Rattle.scoop_replay.specs.Node.{BeganSo, GoesOn, HeardSo, IsNodeTale, IsStoredAs, NodeTale, NodeValue, OpensAgain, RanSo, after_entry, after_reopening}
 use Rattle.scoop_audit.specs.Lines.{IsJournalOf, text_of_all}
 

@@ -1,11 +1,15 @@
 //! The audit of all parties.
 
-ghost use Rattle.std.specs.Prelude.{◌≡◌, ◌≤◌, ℕ, List, length, map, IfOk, OnOk};
+ghost use Rattle.std.specs.Prelude.{◌≡◌, ◌≤◌, ◌++◌, ◌∷◌, [], ℕ, List, length, map, IfOk, IfSome, OnOk};
 ghost use Rattle.scoop_message.specs.declared.limits.TheConstants.{MAX_ENTRIES};
 ghost use Rattle.scoop_message.specs.declared.name.HandlerId.{HandlerId as Name};
 ghost use Rattle.scoop_model.specs.Step.{Placement};
 ghost use Rattle.scoop_weaver.specs.Post.{Grows};
+ghost use Rattle.scoop_audit.specs.Members.{AddsTrail, TellMembers, TellsClientOf, TellsNodeOf, TellsPartyOf};
+ghost use Rattle.scoop_audit.specs.Parties.{handlers_on, known_in, placed_in, placed_on};
+ghost use Rattle.scoop_audit.specs.Run.{Explains, journal_at};
 ghost use Rattle.scoop_audit.specs.Told.{TellsClientLife, TellsLife, joining};
+ghost use Rattle.scoop_audit.specs.World.{Weaves};
 
 use crate::blocks::Blocks;
 use crate::client::{Joined, replay_client};
@@ -16,11 +20,12 @@ use crate::pages::Pages;
 use crate::places::move_at;
 use crate::remarks::Remarks;
 use crate::roster::{Member, roster};
-use scoop_message::{ClientId, HandlerId, Message, OutOfMemory, limits};
+use scoop_message::{HandlerId, Message, OutOfMemory, limits};
 use scoop_replay::{ClientReplay, NodeReplay, Placed};
-use scoop_system::System;
+use scoop_system::{HandlerPlace, System};
 use scoop_weaver::{NoWeave, Post, Trail, weave_trails};
 use std::alloc::Global;
+use std::marker::Model;
 
 /// The bytes of a journal.
 #[derive(Clone, Copy)]
@@ -28,41 +33,56 @@ pub struct Journal<'a> {
     pub bytes: &'a [u8],
 }
 
-/// A run that has an explanation: what each party did, and one order of it.
+// The lives and moves of the parties that were replayed, in their order.
 #[derive(Drop)]
-pub struct Explained {
+struct Replayed {
     tales: Vec<Tale>,
     trails: Vec<Trail>,
     remarks: Vec<Remarks>,
     post: Post,
     blocks: Blocks,
+}
+
+/// A run that has an explanation: what each party did, and one order of it. Contracts see the order: for each move the place of
+/// its party.
+#[derive(Drop)]
+pub struct Explained {
+    replayed: Replayed,
     order: Vec<u32>,
+}
+
+impl Model for Explained {
+    ghost use Rattle.std.specs.Prelude.{List, ℕ};
+
+    ghost Value = { List ℕ };
+
+    ghost view = { λ e. e.order.items };
 }
 
 impl Explained {
     /// The moves of each party.
     pub(crate) fn trails(&self) -> &[Trail] {
-        &self.trails
+        &self.replayed.trails
     }
 
     /// The deeds of each party.
     pub(crate) fn remarks(&self) -> &[Remarks] {
-        &self.remarks
+        &self.replayed.remarks
     }
 
     /// The messages.
     pub(crate) fn post(&self) -> &Post {
-        &self.post
+        &self.replayed.post
     }
 
     /// What each party's journal tells: the nodes in the order of the system's file, then the clients.
     pub fn tales(&self) -> &[Tale] {
-        &self.tales
+        &self.replayed.tales
     }
 
     /// The blocks.
     pub fn blocks(&self) -> &Blocks {
-        &self.blocks
+        &self.replayed.blocks
     }
 
     /// The order: for each move the place of its party.
@@ -97,7 +117,9 @@ fn placed(trouble: Trouble, tale: &Tale) -> AuditError {
 }
 
 // The bytes of the party's journal.
-fn bytes_of<'a>(journals: &[Journal<'a>], place: Option<usize>) -> &'a [u8] {
+fn bytes_of<'a>(journals: &[Journal<'a>], place: Option<usize>) -> &'a [u8]
+    ensures { result.now ≡ journal_at (map (λ j. j.bytes.now) journals.now) place }
+{
     match place {
         Some(place) => match journals.get(place) {
             Some(journal) => journal.bytes,
@@ -107,23 +129,42 @@ fn bytes_of<'a>(journals: &[Journal<'a>], place: Option<usize>) -> &'a [u8] {
     }
 }
 
+// A handler with its class. `None` if the system has no such class.
+fn placed_in(
+    alloc: Global,
+    system: &System,
+    place: &HandlerPlace,
+) -> Result<Option<Placed>, OutOfMemory>
+    ensures { IfOk result (λ placed. placed ≡ placed_in system.now.classes place.now) }
+{
+    let Some(class) = system.class_of(alloc, place.class)? else {
+        return Ok(None);
+    };
+    Ok(Some(Placed {
+        handler: place.handler,
+        class,
+        words: place.words,
+    }))
+}
+
 // The handlers that the system's file places on the node. `None` if one of them has no class there.
 fn placed_on(
     alloc: Global,
     system: &System,
     number: u32,
-) -> Result<Option<Vec<Placed>>, OutOfMemory> {
+) -> Result<Option<Vec<Placed>>, OutOfMemory>
+    ensures placed { IfOk result (λ found. IfSome found (λ placed. placed.items ≡ placed_on system.now number)) }
+    ensures all { IfOk result (λ found. IfSome found (λ placed. map (λ p. p.handler) placed.items
+        ≡ map (λ h. h.handler) (handlers_on number system.now.handlers))) }
+{
     let mut placed = Vec::new(alloc);
-    for place in system.handlers() {
+    let handlers = system.handlers();
+    for place in handlers {
         if place.node == number {
-            let Some(class) = system.class_of(alloc, place.class)? else {
+            let Some(one) = placed_in(alloc, system, place)? else {
                 return Ok(None);
             };
-            placed.push(Placed {
-                handler: place.handler,
-                class,
-                words: place.words,
-            })?;
+            placed.push(one)?;
         }
     }
     Ok(Some(placed))
@@ -161,7 +202,10 @@ fn tell_node(
     bytes: &[u8],
     post: &mut Post,
     pages: &mut Pages<'_>,
-) -> Result<Trail, Trouble> {
+) -> Result<Trail, Trouble>
+    ensures grows { OnOk result (Grows post.old post.new) }
+    ensures told { IfOk result (TellsNodeOf system.now number bytes.now post.new) }
+{
     let Some(placed) = placed_on(alloc, system, number)? else {
         return Err(Trouble::OutOfMemory);
     };
@@ -199,24 +243,48 @@ fn read_client(
 // Replays a client. One without a journal does nothing.
 fn tell_client(
     alloc: Global,
-    system: &System,
-    id: ClientId,
+    joined: &Joined,
     known: &[HandlerId],
     bytes: &[u8],
     post: &mut Post,
     pages: &mut Pages<'_>,
-) -> Result<Trail, Trouble> {
-    let Some(place) = system.client(id) else {
-        return Ok(Trail::new(alloc));
-    };
-    if bytes.is_empty() || place.batch < 1 || place.batch as usize > limits::MAX_ENTRIES {
+) -> Result<Trail, Trouble>
+    ensures grows { OnOk result (Grows post.old post.new) }
+    ensures told { IfOk result (TellsClientOf known.now (joining joined.now.id joined.now.batch) bytes.now post.new) }
+{
+    if bytes.is_empty() {
         return Ok(Trail::new(alloc));
     }
-    let joined = Joined {
-        id,
-        batch: place.batch,
-    };
-    read_client(alloc, &joined, known, bytes, post, pages)
+    let batch = joined.batch;
+    if batch < 1 || batch as usize > limits::MAX_ENTRIES {
+        return Ok(Trail::new(alloc));
+    }
+    read_client(alloc, joined, known, bytes, post, pages)
+}
+
+// Replays a party.
+fn tell_party(
+    alloc: Global,
+    system: &System,
+    known: &[HandlerId],
+    member: &Member,
+    bytes: &[u8],
+    post: &mut Post,
+    pages: &mut Pages<'_>,
+) -> Result<Trail, Trouble>
+    ensures grows { OnOk result (Grows post.old post.new) }
+    ensures told { IfOk result (λ trail. TellsPartyOf system.now known.now bytes.now post.new trail member.now.batch member.now.party) }
+{
+    match member.party {
+        PartyName::Node(number) => tell_node(alloc, system, number, bytes, post, pages),
+        PartyName::Client(id) => {
+            let joined = Joined {
+                id,
+                batch: member.batch,
+            };
+            tell_client(alloc, &joined, known, bytes, post, pages)
+        }
+    }
 }
 
 // What the party's journal tells.
@@ -229,7 +297,10 @@ fn tell(
     post: &mut Post,
     blocks: &mut Blocks,
     has_chart: bool,
-) -> Result<(Tale, Trail, Remarks), AuditError> {
+) -> Result<(Tale, Trail, Remarks), AuditError>
+    ensures grows { OnOk result (Grows post.old post.new) }
+    ensures told { IfOk result (λ told. TellsPartyOf system.now known.now bytes.now post.new told.1 member.now.batch member.now.party) }
+{
     let mut remarks = Remarks::new(alloc, has_chart);
     let mut tale = Tale::new(alloc, member.party, member.journal);
     let mut pages = Pages {
@@ -237,25 +308,33 @@ fn tell(
         blocks,
         remarks: &mut remarks,
     };
-    let told = match member.party {
-        PartyName::Node(number) => tell_node(alloc, system, number, bytes, post, &mut pages),
-        PartyName::Client(id) => tell_client(alloc, system, id, known, bytes, post, &mut pages),
-    };
-    match told {
+    match tell_party(alloc, system, known, member, bytes, post, &mut pages) {
         Ok(trail) => Ok((tale, trail, remarks)),
         Err(trouble) => Err(placed(trouble, &tale)),
     }
 }
 
-// The handlers of the system, node by node: every client knows them in this order.
-fn known_handlers(alloc: Global, system: &System) -> Result<Vec<HandlerId>, OutOfMemory> {
-    let mut known = Vec::new(alloc);
-    for node in system.nodes() {
-        for place in system.handlers() {
-            if place.node == node.number {
-                known.push(place.handler)?;
-            }
+// Adds the handlers on the node of this number.
+fn add_known(system: &System, number: u32, known: &mut Vec<HandlerId>) -> Result<(), OutOfMemory>
+    ensures { OnOk result (known.new.items ≡ known.old.items ++ map (λ h. h.handler) (handlers_on number system.now.handlers)) }
+{
+    let handlers = system.handlers();
+    for place in handlers {
+        if place.node == number {
+            known.push(place.handler)?;
         }
+    }
+    Ok(())
+}
+
+// The handlers of the system, node by node: every client knows them in this order.
+fn known_handlers(alloc: Global, system: &System) -> Result<Vec<HandlerId>, OutOfMemory>
+    ensures { IfOk result (λ known. known.items ≡ known_in system.now) }
+{
+    let mut known = Vec::new(alloc);
+    let nodes = system.nodes();
+    for node in nodes {
+        add_known(system, node.number, &mut known)?;
     }
     Ok(known)
 }
@@ -312,7 +391,9 @@ fn order_of(
     tales: &[Tale],
     trails: &[Trail],
     post: &Post,
-) -> Result<Vec<u32>, AuditError> {
+) -> Result<Vec<u32>, AuditError>
+    ensures { IfOk result (λ order. Weaves post.now trails.now order.items) }
+{
     match weave_trails(alloc, post, trails) {
         Ok(order) => Ok(order),
         Err(NoWeave::OutOfMemory) => Err(AuditError::OutOfMemory),
@@ -322,44 +403,139 @@ fn order_of(
     }
 }
 
+// Adds what the party did.
+fn add(
+    tale: Tale,
+    trail: Trail,
+    remarks: Remarks,
+    replayed: &mut Replayed,
+) -> Result<(), OutOfMemory>
+    ensures trail { OnOk result (replayed.new.trails.items ≡ replayed.old.trails.items ++ trail ∷ []) }
+    ensures post { replayed.new.post ≡ replayed.old.post }
+{
+    replayed.tales.push(tale)?;
+    replayed.trails.push(trail)?;
+    replayed.remarks.push(remarks)?;
+    Ok(())
+}
+
+// Replays the party's journal, and adds what it tells.
+fn replay(
+    alloc: Global,
+    system: &System,
+    known: &[HandlerId],
+    member: &Member,
+    bytes: &[u8],
+    has_chart: bool,
+    replayed: &mut Replayed,
+) -> Result<(), AuditError>
+    ensures grows { OnOk result (Grows replayed.old.post replayed.new.post) }
+    ensures adds { OnOk result (AddsTrail system.now known.now bytes.now replayed.new.post member.now replayed.old.trails.items
+        replayed.new.trails.items) }
+{
+    let told = tell(
+        alloc,
+        system,
+        known,
+        member,
+        bytes,
+        &mut replayed.post,
+        &mut replayed.blocks,
+        has_chart,
+    );
+    match told {
+        Ok((tale, trail, remarks)) => {
+            add(tale, trail, remarks, replayed)?;
+            Ok(())
+        }
+        Err(error) => Err(error),
+    }
+}
+
+// Replays the journals of all parties.
+fn replay_all(
+    alloc: Global,
+    system: &System,
+    journals: &[Journal<'_>],
+    known: &[HandlerId],
+    members: &[Member],
+    has_chart: bool,
+    replayed: &mut Replayed,
+) -> Result<(), AuditError>
+    ensures { OnOk result (replayed.old.trails.items ≡ [] → TellMembers system.now known.now (map (λ j. j.bytes.now) journals.now)
+        replayed.new.post members.now replayed.new.trails.items) }
+{
+    for member in members {
+        let bytes = bytes_of(journals, member.journal);
+        match replay(alloc, system, known, member, bytes, has_chart, replayed) {
+            Ok(()) => {}
+            Err(error) => return Err(error),
+        }
+    }
+    Ok(())
+}
+
+// Replays the journals of all parties, and finds one order of their moves.
+fn explain(
+    alloc: Global,
+    system: &System,
+    journals: &[Journal<'_>],
+    has_chart: bool,
+    replayed: &mut Replayed,
+) -> Result<Vec<u32>, AuditError>
+    ensures { IfOk result (λ order. replayed.old.trails.items ≡ []
+        → Explains system.now (map (λ j. j.bytes.now) journals.now) order.items) }
+{
+    let members = roster(alloc, system, journals)?;
+    let known = known_handlers(alloc, system)?;
+    match replay_all(
+        alloc, system, journals, &known, &members, has_chart, replayed,
+    ) {
+        Ok(()) => {}
+        Err(error) => return Err(error),
+    }
+    order_of(
+        alloc,
+        system,
+        journals,
+        &known,
+        &replayed.tales,
+        &replayed.trails,
+        &replayed.post,
+    )
+}
+
+// Nothing is replayed yet.
+fn nothing_replayed(alloc: Global) -> Replayed
+    ensures { result.trails.items ≡ [] }
+{
+    Replayed {
+        tales: Vec::new(alloc),
+        trails: Vec::new(alloc),
+        remarks: Vec::new(alloc),
+        post: Post::new(alloc),
+        blocks: Blocks::new(alloc),
+    }
+}
+
 /// Whether the journals are those of a run of the system, and if so, one order of all that happened. If a chart of it is
 /// wanted, the run keeps what the chart shows.
+///
+/// Each node that has handlers, and each client, has its own journal among these, or none. Each journal with a line is that of
+/// a party. If a world may open with the system's parties (`MayRun`), the order is that of a world, in which each party lives
+/// the life that its journal tells. [`systems_may_run`](crate::systems_may_run) proves `MayRun` of each system that was read
+/// and has a handler.
 pub fn audit(
     alloc: Global,
     system: &System,
     journals: &[Journal<'_>],
     has_chart: bool,
-) -> Result<Explained, AuditError> {
-    let members = roster(alloc, system, journals)?;
-    let known = known_handlers(alloc, system)?;
-    let mut post = Post::new(alloc);
-    let mut blocks = Blocks::new(alloc);
-    let mut tales = Vec::new(alloc);
-    let mut trails = Vec::new(alloc);
-    let mut remarks = Vec::new(alloc);
-    for member in members.as_slice() {
-        let bytes = bytes_of(journals, member.journal);
-        let (tale, trail, deeds) = tell(
-            alloc,
-            system,
-            &known,
-            member,
-            bytes,
-            &mut post,
-            &mut blocks,
-            has_chart,
-        )?;
-        tales.push(tale).map_err(OutOfMemory::from)?;
-        trails.push(trail).map_err(OutOfMemory::from)?;
-        remarks.push(deeds).map_err(OutOfMemory::from)?;
+) -> Result<Explained, AuditError>
+    ensures { IfOk result (Explains system.now (map (λ j. j.bytes.now) journals.now)) }
+{
+    let mut replayed = nothing_replayed(alloc);
+    match explain(alloc, system, journals, has_chart, &mut replayed) {
+        Ok(order) => Ok(Explained { replayed, order }),
+        Err(error) => Err(error),
     }
-    let order = order_of(alloc, system, journals, &known, &tales, &trails, &post)?;
-    Ok(Explained {
-        tales,
-        trails,
-        remarks,
-        post,
-        blocks,
-        order,
-    })
 }

@@ -1,4 +1,4 @@
-use Rattle.std.proofs.Common.{[], refl, sym, subst}
+use Rattle.std.proofs.Common.{sym, subst}
 use Rattle.scoop_weaver.proofs.Along.{grows_same}
 use Rattle.scoop_audit.specs.Client.{ClientUpTo}
 use Rattle.scoop_audit.proofs.Clients.{client_nothing}

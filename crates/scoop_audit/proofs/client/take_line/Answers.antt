@@ -1,5 +1,4 @@
 use Rattle.std.proofs.Common.{◌≡◌, ◌++◌, ap, ◌∙◌, subst, arith}
-use Rattle.scoop_journal.specs.declared.line.Line.{Line}
 use Rattle.scoop_journal.specs.declared.line.Line.TheVariants.{ClientLife}
 use Rattle.scoop_journal.specs.Journal.{ended}
 use Rattle.scoop_audit.specs.Client.{ClientUpTo}
