@@ -154,18 +154,24 @@ module _ (id : ClientId) (batch : ℕ) (known : List HandlerId) where
           are = first_then on.steps [] on.can same;
           by_end = record { once = lives_first on.steps []; idle = on.idle };
         }
-
     ran_lives (Err e) rest last u on parts becomes = ran_early e rest on last u parts becomes
 
   -- no client began
-  pub ran_none : (old new : ℕ → Option ℕ) (honest : Type 0) (e : RuntimeError) → BeginsNone id old new honest
+  ran_early_none : (old new : ℕ → Option ℕ) (honest : Type 0) (e : RuntimeError) → BeginsNone id old new honest
       → RunsLives {E = RuntimeError} id batch known old new honest (Err e) Nothing
-  ran_none old new honest e none =
+  ran_early_none old new honest e none =
       let once = lives_none old new honest none in
       record { lives = once.lives; are = once.are; by_end = once.few }
 
-  pub ran_nowhere : (old : ℕ → Option ℕ) (honest : Type 0) (e : RuntimeError) → RunsLives {E = RuntimeError} id batch known old old honest (Err e) Nothing
-  ran_nowhere old honest e = ran_none old old honest e (it_stays (λ _. same_incarnations old))
+  pub ran_none : (old new : ℕ → Option ℕ) (honest : Type 0) (ended : Result (Unit {0}) RuntimeError) (u : Unended) (e : RuntimeError)
+      → BeginsNone id old new honest → ended ≡ Err e → u ≡ Nothing → RunsLives {E = RuntimeError} id batch known old new honest ended u
+  ran_none old new honest ended u e none is nothing =
+      subst (λ r. RunsLives {E = RuntimeError} id batch known old new honest r u) (sym is)
+      (subst (λ v. RunsLives {E = RuntimeError} id batch known old new honest (Err e) v) (sym nothing) (ran_early_none old new honest e none))
+
+  pub ran_nowhere : (old : ℕ → Option ℕ) (honest : Type 0) (ended : Result (Unit {0}) RuntimeError) (u : Unended) (e : RuntimeError)
+      → ended ≡ Err e → u ≡ Nothing → RunsLives {E = RuntimeError} id batch known old old honest ended u
+  ran_nowhere old honest ended u e is nothing = ran_none old old honest ended u e (it_stays (λ _. same_incarnations old)) is nothing
 
   -- ---- the whole run
 

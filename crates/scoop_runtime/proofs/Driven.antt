@@ -32,6 +32,10 @@ drives_both s t u (xs, first) (ys, then) = (xs ++ ys, goes_on xs ys s t u first 
 pub drives_turned : (s t : Seen) → TakesTurnsOnly s t → Drives s t
 drives_turned s t (xs, goes, silent) = (xs, goes)
 
+-- turns, and then other steps
+pub drives_turned_then : (s t u : Seen) → TakesTurnsOnly s t → Drives t u → Drives s u
+drives_turned_then s t u turned drives = drives_both s t u (drives_turned s t turned) drives
+
 pub drives_called : {T : Type 0} (x : Command) (turns : ℕ) (r : Result T DriverError) (s t : Seen) → Called x turns r s t → Drives s t
 drives_called x turns r s t (xs, does) = (xs, does.goes)
 

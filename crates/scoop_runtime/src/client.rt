@@ -319,6 +319,7 @@ pub(crate) fn client_link<L: Link, E: Write + Drop>(
 }
 
 // Greets, and does what the lines ask. Borrows the session, so that no early return has to drop it.
+#[tactic(auto, using(crate::proofs::Driven::drives_turned, crate::proofs::Driven::drives_turned_then))]
 fn run_session<L: Link, J: Write + Drop, I: LineSource, P: Pause, W: Write, N: Write>(
     plan: &ClientPlan<'_>,
     session: &mut Session<'_, L, J>,
