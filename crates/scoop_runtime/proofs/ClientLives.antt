@@ -175,14 +175,17 @@ module _ (id : ClientId) (batch : ℕ) (known : List HandlerId) where
 
   -- ---- the whole run
 
-  pub client_ran_well : (old new : ℕ → Option ℕ) (honest : Type 0) (u : Unended) → RunsLives {E = RuntimeError} id batch known old new honest (Ok (tt {0})) u
-      → ClientRan id batch known old new honest (Ok (tt {0}))
-  client_ran_well old new honest u runs = record { lives = runs.lives; are = runs.are; by_end = runs.by_end }
+  pub client_ran_well : (old new : ℕ → Option ℕ) (honest : Type 0) (ended : Result (Unit {0}) RuntimeError) (u : Unended) → ended ≡ Ok (tt {0})
+      → RunsLives {E = RuntimeError} id batch known old new honest ended u → ClientRan id batch known old new honest (Ok (tt {0}))
+  client_ran_well old new honest ended u is runs =
+      record { lives = runs.lives; are = runs.are; by_end = subst (λ r. LivesOf {E = RuntimeError} r u runs.lives) is runs.by_end }
 
-  pub client_ran_early : (old new : ℕ → Option ℕ) (honest : Type 0) (e : RuntimeError) (u : Unended) (stop : ClientStop)
-      → RunsLives {E = RuntimeError} id batch known old new honest (Err e) u → stop.progress.unended ≡ u → ClientRan id batch known old new honest (Err stop)
-  client_ran_early old new honest e u stop runs is =
-      record { lives = runs.lives; are = runs.are; by_end = subst (λ v. LivesBy v runs.lives) (sym is) runs.by_end }
+  pub client_ran_early : (old new : ℕ → Option ℕ) (honest : Type 0) (ended : Result (Unit {0}) RuntimeError) (u : Unended) (e : RuntimeError) (stop : ClientStop)
+      → ended ≡ Err e → stop.progress.unended ≡ u → RunsLives {E = RuntimeError} id batch known old new honest ended u
+      → ClientRan id batch known old new honest (Err stop)
+  client_ran_early old new honest ended u e stop is left_so runs =
+      let by : LivesBy u runs.lives = subst (λ r. LivesOf {E = RuntimeError} r u runs.lives) is runs.by_end in
+      record { lives = runs.lives; are = runs.are; by_end = subst (λ v. LivesBy v runs.lives) (sym left_so) by }
 
 -- ---- a session
 

@@ -319,7 +319,7 @@ pub(crate) fn client_link<L: Link, E: Write + Drop>(
 }
 
 // Greets, and does what the lines ask. Borrows the session, so that no early return has to drop it.
-#[tactic(auto, using(crate::proofs::Driven::drives_turned, crate::proofs::Driven::drives_turned_then))]
+#[tactic(auto, using(crate::proofs::Driven::drives_turned))]
 fn run_session<L: Link, J: Write + Drop, I: LineSource, P: Pause, W: Write, N: Write>(
     plan: &ClientPlan<'_>,
     session: &mut Session<'_, L, J>,
@@ -441,6 +441,7 @@ where
 }
 
 // Makes the client's link, begins the client, runs it, and cuts the block that it left.
+#[tactic(auto, using(crate::proofs::ClientLives::ran_nowhere))]
 fn run_begun<K, L, J, I, E, P, W, N>(
     alloc: Global,
     plan: &ClientPlan<'_>,
@@ -518,6 +519,7 @@ where
 /// - `InsideBlock` and `InsideWhen` if the input ends inside a block;
 /// - `SomeRefused` after the last line of a script, if lines of it were refused;
 /// - `write fault`, also of the journal, and `out of memory`.
+#[tactic(auto, using(crate::proofs::ClientLives::client_ran_well, crate::proofs::ClientLives::client_ran_early))]
 pub fn client_run<K, L, J, I, E, P, W, N>(
     alloc: Global,
     plan: &ClientPlan<'_>,
