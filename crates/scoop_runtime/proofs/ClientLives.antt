@@ -1,5 +1,5 @@
 -- A client's lives, one after another. A cut is a life, and so is a client's run; a begun client's life is followed by what cuts its block.
-use Rattle.std.proofs.Common.{◌≡◌, ℕ, Bool, true, false, List, [], ◌∷◌, length, Option, Some, None, Result, Ok, Err, refl, sym, ap, subst, ◌∙◌, arith}
+use Rattle.std.proofs.Common.{◌≡◌, ℕ, Bool, true, false, List, [], ◌∷◌, Option, Some, None, Result, Ok, Err, refl, sym, ap, subst, ◌∙◌, arith}
 use Rattle.std.specs.Prelude.{◌≤◌, OnOk}
 use Rattle.scoop_message.specs.declared.name.Block.{Block}
 use Rattle.scoop_message.specs.declared.name.ClientId.{ClientId}
@@ -9,7 +9,7 @@ use Rattle.scoop_client.specs.declared.phase.Phase.TheVariants.{Greeting, Idle, 
 use Rattle.scoop_client.specs.State.{ClientState, phase_of}
 use Rattle.scoop_keeper.specs.Keeper.{IsSame, Sets, last_incarnation, next_of}
 use Rattle.scoop_driver.specs.declared.step.Step.{Step}
-use Rattle.scoop_driver.specs.Steps.{AllCan, commands_by, walk}
+use Rattle.scoop_driver.specs.Steps.{AllCan, walk}
 use Rattle.scoop_driver.specs.State.{Seen}
 use Rattle.scoop_runtime.specs.declared.error.RuntimeError.{RuntimeError}
 use Rattle.scoop_runtime.specs.declared.parting.Left.{Left}
@@ -18,11 +18,11 @@ use Rattle.scoop_runtime.specs.declared.progress.ClientStop.{ClientStop}
 use Rattle.scoop_runtime.specs.declared.progress.Unended.{Unended}
 use Rattle.scoop_runtime.specs.declared.progress.Unended.TheVariants.{Nothing, When, GivenUp, Cut, Held}
 use Rattle.scoop_runtime.specs.Beginnings.{BeginsNext}
-use Rattle.scoop_runtime.specs.ClientLives.{AreLives, BeginsNone, ClientLife, ClientRan, LivesAgain, LivesAtMostOnce, LivesBy, LivesIdle, LivesOf, LivesOn}
-use Rattle.scoop_runtime.specs.ClientLives.{LivesOnceOrTwice, LivesThen, RunsLives, Lived, Unbegun, it_stays, it_takes}
-use Rattle.scoop_runtime.specs.Cutting.{BecomesOf, Cuts, IsNotGivenUp, Parts, PartsFrom}
-use Rattle.scoop_runtime.specs.Obeying.{Drives, TakesTurnsOnly}
-use Rattle.scoop_runtime.specs.Parting.{Leaves, owes}
+use Rattle.scoop_runtime.specs.ClientLives.{AreLives, BeginsNone, ClientLife, ClientRan, LivesAtMostOnce, LivesBy, LivesOf, LivesOn}
+use Rattle.scoop_runtime.specs.ClientLives.{LivesThen, RunsLives, Lived, Unbegun, it_stays, it_takes}
+use Rattle.scoop_runtime.specs.Cutting.{BecomesOf, Cuts, PartsFrom}
+use Rattle.scoop_runtime.specs.Obeying.{Drives}
+use Rattle.scoop_runtime.specs.Parting.{Leaves}
 use Rattle.scoop_runtime.specs.Progress.{input_ended}
 use Rattle.scoop_runtime.proofs.Driven.{drives_both}
 
@@ -30,15 +30,6 @@ same_incarnations : (i : ℕ → Option ℕ) → IsSame i i
 same_incarnations i = record { each = λ c. refl }
 
 -- ---- one life
-
--- a keeper gave an incarnation, with which no client began
-pub takes_none : (id : ClientId) (old new : ℕ → Option ℕ) (honest : Type 0) (inc : ℕ) → inc ≤ last_incarnation → (honest → inc ≡ next_of (old id.0))
-    → (honest → Sets old new id.0 inc) → BeginsNone id old new honest
-takes_none id old new honest inc limit next stored =
-    it_takes (λ h. record {
-      limit = subst (λ n. n ≤ last_incarnation) (next h) limit;
-      sets = subst (λ n. Sets old new id.0 n) (next h) (stored h);
-    })
 
 module _ (id : ClientId) (batch : ℕ) (known : List HandlerId) where
   -- a keeper that is honest later was honest then
@@ -59,11 +50,6 @@ module _ (id : ClientId) (batch : ℕ) (known : List HandlerId) where
     are = (subst (λ c. BeginsNext id batch known old new honest c) (sym is) begins, goes.can, λ _. same_incarnations new);
     few = omega arith;
   }
-
-  pub lives_cut : (old new : ℕ → Option ℕ) (honest : Type 0) (handlers : List HandlerId) → Cuts id batch known handlers old new honest
-      → LivesAtMostOnce id batch known old new honest
-  lives_cut old new honest handlers cuts =
-      record { lives = Lived cuts.fresh cuts.steps new ∷ []; are = (cuts.begins, cuts.can, λ _. same_incarnations new); few = omega arith }
 
   -- ---- a client that begins, and what comes after its first life
 

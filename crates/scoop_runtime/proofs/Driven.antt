@@ -1,5 +1,5 @@
 -- Each line of a client takes steps of its driver, whatever its outcome.
-use Rattle.std.proofs.Common.{◌≡◌, ℕ, List, [], ◌∷◌, ◌++◌, Option, Some, None, Result, Ok, Err, inl, inr, refl, sym, subst}
+use Rattle.std.proofs.Common.{◌≡◌, ℕ, List, [], ◌++◌, Option, Some, None, Result, Ok, Err, inl, inr, sym, subst}
 use Rattle.std.specs.Prelude.{OnOk}
 use Rattle.scoop_message.specs.declared.name.HandlerId.{HandlerId}
 use Rattle.scoop_message.specs.declared.request.Answer.{Answer}
@@ -9,7 +9,7 @@ use Rattle.scoop_client.specs.declared.command.Command.TheVariants.{Reserve as D
 use Rattle.scoop_client.specs.declared.phase.Phase.TheVariants.{Idle}
 use Rattle.scoop_client.specs.State.{phase_of}
 use Rattle.scoop_driver.specs.declared.error.DriverError.{DriverError}
-use Rattle.scoop_driver.specs.State.{Seen, Goes}
+use Rattle.scoop_driver.specs.State.{Seen}
 use Rattle.scoop_driver.specs.Calls.{Called, Queried}
 use Rattle.scoop_driver.proofs.StepLists.{goes_nothing, goes_on}
 use Rattle.scoop_system.specs.declared.line.ClientLine.{ClientLine}
