@@ -1,13 +1,13 @@
 -- A client's lives, one after another. A cut is a life, and so is a client's run; a begun client's life is followed by what cuts its block.
 use Rattle.std.proofs.Common.{◌≡◌, ℕ, Bool, true, false, List, [], ◌∷◌, Option, Some, None, Result, Ok, Err, refl, sym, ap, subst, ◌∙◌, arith}
-use Rattle.std.specs.Prelude.{◌≤◌, OnOk}
+use Rattle.std.specs.Prelude.{OnOk}
 use Rattle.scoop_message.specs.declared.name.Block.{Block}
 use Rattle.scoop_message.specs.declared.name.ClientId.{ClientId}
 use Rattle.scoop_message.specs.declared.name.HandlerId.{HandlerId}
 use Rattle.scoop_client.specs.declared.phase.Phase.{Phase}
 use Rattle.scoop_client.specs.declared.phase.Phase.TheVariants.{Greeting, Idle, Locking, Opening, Running, Ending, GivingUp}
 use Rattle.scoop_client.specs.State.{ClientState, phase_of}
-use Rattle.scoop_keeper.specs.Keeper.{IsSame, Sets, last_incarnation, next_of}
+use Rattle.scoop_keeper.specs.Keeper.{IsSame}
 use Rattle.scoop_driver.specs.declared.step.Step.{Step}
 use Rattle.scoop_driver.specs.Steps.{AllCan, walk}
 use Rattle.scoop_driver.specs.State.{Seen}
@@ -20,7 +20,7 @@ use Rattle.scoop_runtime.specs.declared.progress.Unended.TheVariants.{Nothing, W
 use Rattle.scoop_runtime.specs.Beginnings.{BeginsNext}
 use Rattle.scoop_runtime.specs.ClientLives.{AreLives, BeginsNone, ClientLife, ClientRan, LivesAtMostOnce, LivesBy, LivesOf, LivesOn}
 use Rattle.scoop_runtime.specs.ClientLives.{LivesThen, RunsLives, Lived, Unbegun, it_stays, it_takes}
-use Rattle.scoop_runtime.specs.Cutting.{BecomesOf, Cuts, PartsFrom}
+use Rattle.scoop_runtime.specs.Cutting.{BecomesOf, PartsFrom}
 use Rattle.scoop_runtime.specs.Obeying.{Drives}
 use Rattle.scoop_runtime.specs.Parting.{Leaves}
 use Rattle.scoop_runtime.specs.Progress.{input_ended}
@@ -166,8 +166,8 @@ module _ (id : ClientId) (batch : ℕ) (known : List HandlerId) where
   client_ran_well old new honest ended u is runs =
       record { lives = runs.lives; are = runs.are; by_end = subst (λ r. LivesOf {E = RuntimeError} r u runs.lives) is runs.by_end }
 
-  pub client_ran_early : (old new : ℕ → Option ℕ) (honest : Type 0) (ended : Result (Unit {0}) RuntimeError) (u : Unended) (e : RuntimeError) (stop : ClientStop)
-      → ended ≡ Err e → stop.progress.unended ≡ u → RunsLives {E = RuntimeError} id batch known old new honest ended u
+  pub client_ran_early : (old new : ℕ → Option ℕ) (honest : Type 0) (ended : Result (Unit {0}) RuntimeError) (u : Unended) (e : RuntimeError)
+      (stop : ClientStop) → ended ≡ Err e → stop.progress.unended ≡ u → RunsLives {E = RuntimeError} id batch known old new honest ended u
       → ClientRan id batch known old new honest (Err stop)
   client_ran_early old new honest ended u e stop is left_so runs =
       let by : LivesBy u runs.lives = subst (λ r. LivesOf {E = RuntimeError} r u runs.lives) is runs.by_end in

@@ -23,14 +23,14 @@ pub record TakesNext (id : ClientId) (old new : ℕ → Option ℕ) : Type 0 whe
   pub limit : next_of (old id.0) ≤ last_incarnation
   pub sets : Sets old new id.0 (next_of (old id.0))
 
--- A life of a client, with the incarnations that are stored since it began: the client as it began, and the steps of its
--- driver. Or the next incarnation was taken, no client began with it, and nothing was sent.
+-- A life of a client: the client as it began, the steps of its driver, and the incarnations that are stored since it began.
+-- Or no client began with the incarnation that was taken, as when its journal can't be written.
 pub data ClientLife : Type 0 where
   Lived : ClientState → List Step → (ℕ → Option ℕ) → ClientLife
   Unbegun : (ℕ → Option ℕ) → ClientLife
 
--- These lives followed each other, and no other. Each client began with the next incarnation that an honest keeper gave it,
--- and its driver's steps can be made, one after another.
+-- These lives followed one another, and took each incarnation that the keeper gave meanwhile. Each client began with the next
+-- one of an honest keeper, and its driver's steps can be made, one after another.
 abbrev pub AreLives : ClientId → ℕ → List HandlerId → Type 0 → (ℕ → Option ℕ) → List ClientLife → (ℕ → Option ℕ) → Type 0
 AreLives id batch known is_honest old [] new = is_honest → IsSame old new
 AreLives id batch known is_honest old (Lived fresh steps stored ∷ lives) new =
@@ -51,12 +51,12 @@ pub record LivesThen (lives later : List ClientLife) : Type 0 where
   pub stored : ℕ → Option ℕ
   pub are : lives ≡ Lived fresh steps stored ∷ later
 
--- and at the end of its steps it had no block
+-- one life, after which the client was idle
 pub record LivesIdle (lives : List ClientLife) : Type 0 where
   pub once : LivesThen lives []
   pub idle : phase_of (walk once.fresh once.steps) ≡ Idle
 
--- one more life, which gave no command: each of some handlers welcomed it
+-- two lives, the second of which gave no command, and took turns until nothing was due to these handlers
 pub record LivesAgain (lives : List ClientLife) : Type 0 where
   pub later : List ClientLife
   pub first : LivesThen lives later
@@ -86,7 +86,7 @@ abbrev pub LivesOf : {E : Type 0} → Result (Unit {0}) E → Unended → List C
 LivesOf (Ok u) unended lives = LivesIdle lives
 LivesOf (Err e) unended lives = LivesBy unended lives
 
--- A run of a client had these lives, the first from these incarnations of its keeper; then the keeper had those.
+-- A run of a client had these lives, which took its keeper's incarnations from the old ones to the new ones.
 pub record RunsLives {E : Type 0} (id : ClientId) (batch : ℕ) (known : List HandlerId) (old new : ℕ → Option ℕ) (is_honest : Type 0)
     (ended : Result (Unit {0}) E) (unended : Unended) : Type 0 where
   pub lives : List ClientLife

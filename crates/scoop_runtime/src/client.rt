@@ -425,7 +425,8 @@ where
     P: Pause,
     W: Write,
     N: Write,
-    ensures lives { RunsLives plan.now.place.client plan.now.place.batch known.now (K.incarnations keeper.old) (K.incarnations keeper.new) (K.is_honest keeper.new) result.ended result.unended }
+    ensures lives { RunsLives plan.now.place.client plan.now.place.batch known.now (K.incarnations keeper.old) (K.incarnations keeper.new)
+        (K.is_honest keeper.new) result.ended result.unended }
     ensures honest { K.is_honest keeper.new → K.is_honest keeper.old }
 {
     let client = match begin_client(alloc, plan, keeper, known, journal) {
@@ -502,7 +503,7 @@ where
 /// At its end the client leaves no block behind. It gives up a block whose handlers aren't all locked, and writes
 /// `given up 7.1.1`. It cuts every other unended block by greeting the block's handlers with its next incarnation, and writes
 /// `cut 7.1.1`. Each takes at most 500 turns. If a handler doesn't answer, the client writes to `notes` which, and what
-/// frees them.
+/// frees them. So a run takes at most two incarnations, and has a life with each.
 ///
 /// `notes` is also for a user who types the lines. The client then writes there:
 /// - that every handler has welcomed it, and which lines there are;

@@ -82,7 +82,8 @@ fn greet_anew<K: Keeper<Global>, L: Link, J: Write + Drop, N: Write>(
     notes: &mut N,
 ) -> Result<(), RuntimeError>
     ensures cuts { OnOk result (Cuts plan.now.place.client plan.now.place.batch known.now handlers.now (K.incarnations keeper.old) (K.incarnations keeper.new) (K.is_honest keeper.new)) }
-    ensures lives { LivesAtMostOnce plan.now.place.client plan.now.place.batch known.now (K.incarnations keeper.old) (K.incarnations keeper.new) (K.is_honest keeper.new) }
+    ensures lives { LivesAtMostOnce plan.now.place.client plan.now.place.batch known.now
+        (K.incarnations keeper.old) (K.incarnations keeper.new) (K.is_honest keeper.new) }
     ensures handlers { K.is_honest keeper.new → Stays (K.handlers keeper.old) (K.handlers keeper.new) }
     ensures honest { K.is_honest keeper.new → K.is_honest keeper.old }
 {
@@ -109,7 +110,8 @@ fn cut_block<K: Keeper<Global>, L: Link, J: Write + Drop, N: Write>(
     handlers: &[HandlerId],
     notes: &mut N,
 ) -> Unended
-    ensures parts { Parts plan.now.place.client plan.now.place.batch known.now handlers.now result (K.incarnations keeper.old) (K.incarnations keeper.new) (K.is_honest keeper.new) }
+    ensures parts { Parts plan.now.place.client plan.now.place.batch known.now handlers.now result
+        (K.incarnations keeper.old) (K.incarnations keeper.new) (K.is_honest keeper.new) }
     ensures given_up { IsNotGivenUp result }
     ensures honest { K.is_honest keeper.new → K.is_honest keeper.old }
 {
@@ -133,7 +135,8 @@ pub(crate) fn cut_left<K: Keeper<Global>, L: Link, J: Write + Drop, N: Write>(
     remains: Remains,
     notes: &mut N,
 ) -> Unended
-    ensures parts { PartsFrom plan.now.place.client plan.now.place.batch known.now remains.last result (K.incarnations keeper.old) (K.incarnations keeper.new) (K.is_honest keeper.new) }
+    ensures parts { PartsFrom plan.now.place.client plan.now.place.batch known.now remains.last result
+        (K.incarnations keeper.old) (K.incarnations keeper.new) (K.is_honest keeper.new) }
     ensures left { BecomesOf remains.left result }
     ensures honest { K.is_honest keeper.new → K.is_honest keeper.old }
 {

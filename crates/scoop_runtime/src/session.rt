@@ -3,8 +3,8 @@
 ghost use Rattle.std.specs.Prelude.{◌≡◌, None, Ok, Err, OnOk, IsFalse, IsTrue, IfOk, IfErr, IfSome, ◌≤◌, is_some};
 ghost use Rattle.scoop_client.specs.State.{phase_of};
 ghost use Rattle.scoop_runtime.specs.Answering.{answered};
-ghost use Rattle.scoop_runtime.specs.Obeying.{CallDoes, DoesInside, DoesOutside, Drives, EndDoes, GiveUpDoes, NoteDoes, Obeys, QueryDoes, ReserveDoes, TakesTurnsOnly};
-ghost use Rattle.scoop_runtime.specs.Obeying.{TryDoes, WhenDoes, is_quiet};
+ghost use Rattle.scoop_runtime.specs.Obeying.{CallDoes, DoesInside, DoesOutside, Drives, EndDoes, GiveUpDoes, NoteDoes, Obeys, QueryDoes, ReserveDoes};
+ghost use Rattle.scoop_runtime.specs.Obeying.{TakesTurnsOnly, TryDoes, WhenDoes, is_quiet};
 ghost use Rattle.scoop_runtime.specs.Progress.{input_ended};
 ghost use Rattle.scoop_runtime.specs.Silence.{ended_by, first_awaited, over_at};
 ghost use Rattle.scoop_runtime.specs.Unlocking.{is_unlock, owes_unlock};
