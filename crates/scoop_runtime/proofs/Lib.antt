@@ -1,4 +1,6 @@
+mod ClientLives
 mod Cut
+mod Driven
 mod Gathered
 mod News
 mod NodeLives

@@ -6,11 +6,15 @@ use Rattle.scoop_message.specs.declared.name.ClientId.{ClientId}
 use Rattle.scoop_message.specs.declared.name.HandlerId.{HandlerId}
 use Rattle.scoop_message.specs.Text.{block_text}
 use Rattle.scoop_client.specs.State.{ClientState}
+use Rattle.scoop_keeper.specs.Keeper.{IsSame}
 use Rattle.scoop_driver.specs.declared.step.Step.{Step}
 use Rattle.scoop_driver.specs.Steps.{AllCan, commands_by, walk}
+use Rattle.scoop_runtime.specs.declared.parting.Left.{Left}
+use Rattle.scoop_runtime.specs.declared.parting.Left.TheVariants as left
 use Rattle.scoop_runtime.specs.declared.progress.Unended.{Unended}
 use Rattle.scoop_runtime.specs.declared.progress.Unended.TheVariants as unended
 use Rattle.scoop_runtime.specs.Beginnings.{BeginsNext}
+use Rattle.scoop_runtime.specs.ClientLives.{LivesAtMostOnce}
 use Rattle.scoop_runtime.specs.Parting.{owes}
 use Rattle.scoop_runtime.specs.Texts.{numbers_text}
 
@@ -24,13 +28,13 @@ pub record Cuts (id : ClientId) (batch : ℕ) (known handlers : List HandlerId) 
   pub silent : commands_by steps ≡ []
   pub greeted : owes (walk fresh steps) handlers ≡ false
 
--- a block that is reported as cut is cut
+-- A block that is reported as cut is cut. One that may be held still had at most one more life. Else no incarnation was taken.
 abbrev pub Parts : ClientId → ℕ → List HandlerId → List HandlerId → Unended → (ℕ → Option ℕ) → (ℕ → Option ℕ) → Type 0 → Type 0
 Parts id batch known handlers (unended.Cut b) old new is_honest = Cuts id batch known handlers old new is_honest
-Parts id batch known handlers (unended.Held b) old new is_honest = ⊤
-Parts id batch known handlers (unended.GivenUp b) old new is_honest = ⊤
-Parts id batch known handlers unended.Nothing old new is_honest = ⊤
-Parts id batch known handlers unended.When old new is_honest = ⊤
+Parts id batch known handlers (unended.Held b) old new is_honest = LivesAtMostOnce id batch known old new is_honest
+Parts id batch known handlers (unended.GivenUp b) old new is_honest = is_honest → IsSame old new
+Parts id batch known handlers unended.Nothing old new is_honest = is_honest → IsSame old new
+Parts id batch known handlers unended.When old new is_honest = is_honest → IsSame old new
 
 -- no block is reported as cut
 abbrev pub IsUncut : Unended → Type 0
@@ -40,9 +44,24 @@ IsUncut (unended.GivenUp b) = ⊤
 IsUncut unended.Nothing = ⊤
 IsUncut unended.When = ⊤
 
+-- no block is reported as given up
+abbrev pub IsNotGivenUp : Unended → Type 0
+IsNotGivenUp (unended.Cut b) = ⊤
+IsNotGivenUp (unended.Held b) = ⊤
+IsNotGivenUp (unended.GivenUp b) = ⊥
+IsNotGivenUp unended.Nothing = ⊤
+IsNotGivenUp unended.When = ⊤
+
+-- what becomes of what a session left: of nothing nothing, and only of a block that was given up this
+abbrev pub BecomesOf : Left → Unended → Type 0
+BecomesOf left.Nothing u = u ≡ unended.Nothing
+BecomesOf left.When u = u ≡ unended.When
+BecomesOf left.GivenUp u = ⊤
+BecomesOf left.Open u = IsNotGivenUp u
+
 -- the same of a client's last block and its handlers, if it had one
 abbrev pub PartsFrom : ClientId → ℕ → List HandlerId → Option (Block × List HandlerId) → Unended → (ℕ → Option ℕ) → (ℕ → Option ℕ) → Type 0 → Type 0
-PartsFrom id batch known None unended old new is_honest = IsUncut unended
+PartsFrom id batch known None unended old new is_honest = IsUncut unended × (is_honest → IsSame old new)
 PartsFrom id batch known (Some last) unended old new is_honest = Parts id batch known last.1 unended old new is_honest
 
 -- what frees the handlers that may hold a block of the client

@@ -3,6 +3,7 @@ pub mod Diary
 pub mod Answering
 pub mod Backoff
 pub mod Beginnings
+pub mod ClientLives
 pub mod Conditions
 pub mod Cutting
 pub mod Errors

@@ -1,5 +1,5 @@
 -- The commands and turns of a client for one line, by the reply to it.
-use Rattle.std.specs.Prelude.{◌≡◌, ℕ, ⊤, ◌⊎◌, Bool, true, false, List, [], ◌∷◌, ◌++◌, Option, Some, None, Result, Ok, Err}
+use Rattle.std.specs.Prelude.{◌≡◌, ℕ, ◌⊎◌, Bool, true, false, List, [], ◌∷◌, ◌++◌, Option, Some, None, Result, Ok, Err}
 use Rattle.scoop_message.specs.declared.name.HandlerId.{HandlerId}
 use Rattle.scoop_message.specs.declared.request.Answer.{Answer}
 use Rattle.scoop_message.specs.declared.request.Request.{Request}
@@ -25,6 +25,10 @@ use Rattle.scoop_runtime.specs.Answering.{answered}
 
 -- ---- outside a block that waits for its condition
 
+-- a driver's steps
+abbrev pub Drives : Seen → Seen → Type 0
+Drives old new = (steps : List Step) × Goes steps old new
+
 -- turns alone
 abbrev pub TakesTurnsOnly : Seen → Seen → Type 0
 TakesTurnsOnly old new = (steps : List Step) × Goes steps old new × (commands_by steps ≡ [])
@@ -45,12 +49,12 @@ pub record GaveUp (old new : Seen) : Type 0 where
 
 abbrev pub GivesUp : Result (Unit {0}) DriverError → Seen → Seen → Type 0
 GivesUp (Ok u) old new = GaveUp old new
-GivesUp (Err e) old new = ⊤
+GivesUp (Err e) old new = Drives old new
 
 abbrev pub ReserveDoes : List HandlerId → ℕ → Result Reply DriverError → Seen → Seen → Type 0
 ReserveDoes hs turns (Ok (Reserved block)) old new = RunsBlock hs turns old new
 ReserveDoes hs turns (Ok reply) old new = ⊥
-ReserveDoes hs turns (Err e) old new = ⊤
+ReserveDoes hs turns (Err e) old new = Drives old new
 
 -- the call is in the client's log; its acknowledgement is part of the block's end
 abbrev pub CallDoes : HandlerId → Request → ℕ → Result Reply DriverError → Seen → Seen → Type 0
@@ -71,7 +75,7 @@ EndDoes turns (Err e) old new = Called {T = Unit {0}} DoEnd turns (Err e) old ne
 abbrev pub GiveUpDoes : Result Reply DriverError → Seen → Seen → Type 0
 GiveUpDoes (Ok GivenUp) old new = GaveUp old new
 GiveUpDoes (Ok reply) old new = ⊥
-GiveUpDoes (Err e) old new = ⊤
+GiveUpDoes (Err e) old new = Drives old new
 
 -- nothing is sent yet
 abbrev pub WhenDoes : Result Reply DriverError → Seen → Seen → Type 0

@@ -1,8 +1,12 @@
 //! A client whose commands are the lines of an input.
 
-ghost use Rattle.std.specs.Prelude.{◌≡◌, ◌++◌, None, IfOk, OnOk};
+ghost use Rattle.std.specs.Prelude.{◌≡◌, ◌++◌, None, Ok, Err, IfOk, OnErr, OnOk, is_some};
+ghost use Rattle.scoop_client.specs.State.{phase_of};
 ghost use Rattle.scoop_keeper.specs.Keeper.{Stays};
 ghost use Rattle.scoop_runtime.specs.Beginnings.{BeginsNext, gather, known_in, placed_on};
+ghost use Rattle.scoop_runtime.specs.ClientLives.{BeginsNone, ClientRan, LivesOn, RunsLives};
+ghost use Rattle.scoop_runtime.specs.Obeying.{Drives};
+ghost use Rattle.scoop_runtime.specs.Progress.{input_ended};
 
 use crate::cutting::{Remains, cut_left, tell_unended};
 use crate::error::RuntimeError;
@@ -10,7 +14,7 @@ use crate::lent_link::LentLink;
 use crate::news_link::NewsLink;
 use crate::patient_link::PatientLink;
 use crate::plan::ClientPlan;
-use crate::progress::{ClientStop, Progress};
+use crate::progress::{ClientStop, Progress, Unended};
 use crate::reply::{Reply, print_replies};
 use crate::session::{Session, unwritten};
 use crate::trying::Between;
@@ -22,7 +26,7 @@ use scoop_driver::Pause;
 use scoop_errors::PartyError;
 use scoop_journal::{Journal, Line};
 use scoop_keeper::{Keeper, KeeperError};
-use scoop_lines::LineSource;
+use scoop_lines::{LineBytes, LineSource};
 use scoop_link::{Link, PacedLink, REPEATS};
 use scoop_message::{HandlerId, OutOfMemory};
 use scoop_system::{ClientLine, ClientPlace, HandlerPlace, NodePlace, System, read_line};
@@ -104,6 +108,7 @@ pub(crate) fn begin_client<K: Keeper<Global>, J: Write + Drop>(
     journal: &mut Option<Journal<J>>,
 ) -> Result<Client, RuntimeError>
     ensures begins { IfOk result (BeginsNext plan.now.place.client plan.now.place.batch known.now (K.incarnations keeper.old) (K.incarnations keeper.new) (K.is_honest keeper.new)) }
+    ensures none { OnErr result (BeginsNone plan.now.place.client (K.incarnations keeper.old) (K.incarnations keeper.new) (K.is_honest keeper.new)) }
     ensures handlers { K.is_honest keeper.new → Stays (K.handlers keeper.old) (K.handlers keeper.new) }
     ensures honest { K.is_honest keeper.new → K.is_honest keeper.old }
 {
@@ -177,6 +182,32 @@ enum Next {
     End,
 }
 
+// Does what the line of this number asks, and writes the reply to it.
+fn read_and_obey<L: Link, J: Write + Drop, P: Pause, W: Write, N: Write>(
+    plan: &ClientPlan<'_>,
+    session: &mut Session<'_, L, J>,
+    line: &LineBytes,
+    number: u32,
+    progress: &mut Progress,
+    pause: &mut P,
+    writer: &mut W,
+    notes: &mut N,
+) -> Result<Next, RuntimeError>
+    ensures { Drives session.old.driver.seen session.new.driver.seen }
+{
+    match read_line(plan.system(), line) {
+        Ok(asked) => {
+            progress.has_begun = true;
+            obey_line(plan, session, &asked, pause, writer, notes)
+        }
+        Err(fault) if plan.is_typed() => {
+            tell_misread(plan.system(), number, fault, notes);
+            Ok(Next::Line)
+        }
+        Err(fault) => Err(RuntimeError::Line(number, fault)),
+    }
+}
+
 // Does what each line of the input asks, writes one reply for each, and records the progress. Returns the lines that were
 // refused.
 fn obey_lines<L: Link, J: Write + Drop, I: LineSource, P: Pause, W: Write, N: Write>(
@@ -187,23 +218,21 @@ fn obey_lines<L: Link, J: Write + Drop, I: LineSource, P: Pause, W: Write, N: Wr
     pause: &mut P,
     writer: &mut W,
     notes: &mut N,
-) -> Result<Option<Refusals>, RuntimeError> {
+) -> Result<Option<Refusals>, RuntimeError>
+    ensures { Drives session.old.driver.seen session.new.driver.seen }
+{
     let mut line = ArrayVec::new();
     let mut refusals = None;
     for _ in 0..u64::MAX {
-        let Some(number) = lines.next_line(&mut line)? else {
-            break;
+        let number = match lines.next_line(&mut line) {
+            Ok(Some(number)) => number,
+            Ok(None) => break,
+            Err(error) => return Err(RuntimeError::Input(error)),
         };
-        let next = match read_line(plan.system(), &line) {
-            Ok(asked) => {
-                progress.has_begun = true;
-                obey_line(plan, session, &asked, pause, writer, notes)?
-            }
-            Err(fault) if plan.is_typed() => {
-                tell_misread(plan.system(), number, fault, notes);
-                Next::Line
-            }
-            Err(fault) => return Err(RuntimeError::Line(number, fault)),
+        let obeyed = read_and_obey(plan, session, &line, number, progress, pause, writer, notes);
+        let next = match obeyed {
+            Ok(next) => next,
+            Err(error) => return Err(error),
         };
         progress.has_begun = false;
         progress.answered = Some(number);
@@ -227,7 +256,8 @@ fn obey<L: Link, J: Write + Drop, P: Pause, N: Write>(
     pause: &mut P,
     notes: &mut N,
 ) -> Result<Option<Reply>, RuntimeError>
-    ensures { OnOk result (session.new.driver.diary.failure ≡ None) }
+    ensures written { OnOk result (session.new.driver.diary.failure ≡ None) }
+    ensures drives { Drives session.old.driver.seen session.new.driver.seen }
 {
     let obeyed = session.obey(line, &mut Between::new(pause, notes, plan.is_typed()));
     if let Some(unwritten) = session.unwritten() {
@@ -247,7 +277,9 @@ fn obey_line<L: Link, J: Write + Drop, P: Pause, W: Write, N: Write>(
     pause: &mut P,
     writer: &mut W,
     notes: &mut N,
-) -> Result<Next, RuntimeError> {
+) -> Result<Next, RuntimeError>
+    ensures { Drives session.old.driver.seen session.new.driver.seen }
+{
     match line {
         ClientLine::Help => tell_help(notes),
         ClientLine::Quit => return Ok(Next::End),
@@ -287,6 +319,7 @@ pub(crate) fn client_link<L: Link, E: Write + Drop>(
 }
 
 // Greets, and does what the lines ask. Borrows the session, so that no early return has to drop it.
+#[tactic(auto, using(crate::proofs::Driven::drives_turned))]
 fn run_session<L: Link, J: Write + Drop, I: LineSource, P: Pause, W: Write, N: Write>(
     plan: &ClientPlan<'_>,
     session: &mut Session<'_, L, J>,
@@ -296,7 +329,10 @@ fn run_session<L: Link, J: Write + Drop, I: LineSource, P: Pause, W: Write, N: W
     pause: &mut P,
     writer: &mut W,
     notes: &mut N,
-) -> Result<(), RuntimeError> {
+) -> Result<(), RuntimeError>
+    ensures drives { Drives session.old.driver.seen session.new.driver.seen }
+    ensures ended { OnOk result (input_ended (is_some session.new.wish) (phase_of session.new.driver.seen.client) ≡ Ok (tt {0})) }
+{
     let greeted = session.greet(known, plan.turns());
     if let Some(unwritten) = session.unwritten() {
         return Err(unwritten);
@@ -306,9 +342,14 @@ fn run_session<L: Link, J: Write + Drop, I: LineSource, P: Pause, W: Write, N: W
         Err(error) => return Err(session.ended_by(error, plan.system().handlers())),
     }
     tell_ready(plan.place().client, plan.is_typed(), notes);
-    let refusals = obey_lines(plan, session, lines, progress, pause, writer, notes)?;
-    session.input_ended()?;
-    Refusals::ended(refusals, plan.is_typed())
+    let refusals = match obey_lines(plan, session, lines, progress, pause, writer, notes) {
+        Ok(refusals) => refusals,
+        Err(error) => return Err(error),
+    };
+    match session.input_ended() {
+        Ok(()) => Refusals::ended(refusals, plan.is_typed()),
+        Err(error) => Err(error),
+    }
 }
 
 // Runs the client over its link, and gives its locks back at its end. Returns how it ended, and what it left.
@@ -324,7 +365,9 @@ fn run_life<L: Link, J: Write + Drop, I: LineSource, P: Pause, W: Write, N: Writ
     pause: &mut P,
     writer: &mut W,
     notes: &mut N,
-) -> (Result<(), RuntimeError>, Remains) {
+) -> (Result<(), RuntimeError>, Remains)
+    ensures { LivesOn client result.0 result.1.left }
+{
     let link = LentLink::new(link);
     let mut session = Session::new(alloc, client, link, plan.turns(), journal);
     let ended = run_session(
@@ -342,7 +385,64 @@ fn run_life<L: Link, J: Write + Drop, I: LineSource, P: Pause, W: Write, N: Writ
     (ended, Remains { left, last })
 }
 
-// Begins the client, runs it, and cuts the block that it left.
+// How a client ended, and what became of the block that it left.
+#[derive(Clone, Copy)]
+struct Ran {
+    ended: Result<(), RuntimeError>,
+    unended: Unended,
+}
+
+// A client that didn't begin.
+fn unbegun_after(error: RuntimeError) -> Ran
+    ensures { (result.ended ≡ Err error) × (result.unended ≡ Unended.Nothing) }
+{
+    Ran {
+        ended: Err(error),
+        unended: Unended::Nothing,
+    }
+}
+
+// Begins the client, runs it, and cuts the block that it left. Borrows what it runs over, so that no early return has to
+// drop it.
+fn run_lives<K, L, J, I, P, W, N>(
+    alloc: Global,
+    plan: &ClientPlan<'_>,
+    keeper: &mut K,
+    link: &mut L,
+    journal: &mut Option<Journal<J>>,
+    known: &[HandlerId],
+    lines: &mut I,
+    progress: &mut Progress,
+    pause: &mut P,
+    writer: &mut W,
+    notes: &mut N,
+) -> Ran
+where
+    K: Keeper<Global>,
+    L: Link,
+    J: Write + Drop,
+    I: LineSource,
+    P: Pause,
+    W: Write,
+    N: Write,
+    ensures lives { RunsLives plan.now.place.client plan.now.place.batch known.now (K.incarnations keeper.old) (K.incarnations keeper.new)
+        (K.is_honest keeper.new) result.ended result.unended }
+    ensures honest { K.is_honest keeper.new → K.is_honest keeper.old }
+{
+    let client = match begin_client(alloc, plan, keeper, known, journal) {
+        Ok(client) => client,
+        Err(error) => return unbegun_after(error),
+    };
+    let (ended, remains) = run_life(
+        alloc, plan, client, link, journal, known, lines, progress, pause, writer, notes,
+    );
+    let unended = cut_left(alloc, plan, keeper, link, journal, known, remains, notes);
+    tell_unended(unended, writer);
+    Ran { ended, unended }
+}
+
+// Makes the client's link, begins the client, runs it, and cuts the block that it left.
+#[tactic(auto, using(crate::proofs::ClientLives::ran_nowhere))]
 fn run_begun<K, L, J, I, E, P, W, N>(
     alloc: Global,
     plan: &ClientPlan<'_>,
@@ -356,7 +456,7 @@ fn run_begun<K, L, J, I, E, P, W, N>(
     pause: &mut P,
     writer: &mut W,
     notes: &mut N,
-) -> Result<(), RuntimeError>
+) -> Ran
 where
     K: Keeper<Global>,
     L: Link,
@@ -366,14 +466,22 @@ where
     P: Pause,
     W: Write,
     N: Write,
+    ensures lives { RunsLives plan.now.place.client plan.now.place.batch (known_in plan.now.system.now) (K.incarnations keeper.old) (K.incarnations keeper.new)
+        (K.is_honest keeper.new) result.ended result.unended }
+    ensures honest { K.is_honest keeper.new → K.is_honest keeper.old }
 {
-    let known = known_handlers(alloc, plan.system())?;
-    let mut link = client_link(alloc, link, waits, faults, &known)?;
-    let client = begin_client(alloc, plan, keeper, &known, &mut journal)?;
-    let (ended, remains) = run_life(
+    let known = match known_handlers(alloc, plan.system()) {
+        Ok(known) => known,
+        Err(error) => return unbegun_after(RuntimeError::from(error)),
+    };
+    let mut link = match client_link(alloc, link, waits, faults, &known) {
+        Ok(link) => link,
+        Err(error) => return unbegun_after(RuntimeError::from(error)),
+    };
+    run_lives(
         alloc,
         plan,
-        client,
+        keeper,
         &mut link,
         &mut journal,
         &known,
@@ -382,19 +490,7 @@ where
         pause,
         writer,
         notes,
-    );
-    progress.unended = cut_left(
-        alloc,
-        plan,
-        keeper,
-        &mut link,
-        &mut journal,
-        &known,
-        remains,
-        notes,
-    );
-    tell_unended(progress.unended, writer);
-    ended
+    )
 }
 
 /// Runs a client over a link. It takes its next incarnation from the keeper, greets every handler, and then does what each
@@ -407,7 +503,7 @@ where
 /// At its end the client leaves no block behind. It gives up a block whose handlers aren't all locked, and writes
 /// `given up 7.1.1`. It cuts every other unended block by greeting the block's handlers with its next incarnation, and writes
 /// `cut 7.1.1`. Each takes at most 500 turns. If a handler doesn't answer, the client writes to `notes` which, and what
-/// frees them.
+/// frees them. So a run takes at most two incarnations, and has a life with each.
 ///
 /// `notes` is also for a user who types the lines. The client then writes there:
 /// - that every handler has welcomed it, and which lines there are;
@@ -424,6 +520,7 @@ where
 /// - `InsideBlock` and `InsideWhen` if the input ends inside a block;
 /// - `SomeRefused` after the last line of a script, if lines of it were refused;
 /// - `write fault`, also of the journal, and `out of memory`.
+#[tactic(auto, using(crate::proofs::ClientLives::client_ran_well, crate::proofs::ClientLives::client_ran_early))]
 pub fn client_run<K, L, J, I, E, P, W, N>(
     alloc: Global,
     plan: &ClientPlan<'_>,
@@ -446,6 +543,9 @@ where
     P: Pause,
     W: Write,
     N: Write,
+    ensures ran { ClientRan plan.now.place.client plan.now.place.batch (known_in plan.now.system.now) (K.incarnations keeper.old) (K.incarnations keeper.new)
+        (K.is_honest keeper.new) result }
+    ensures honest { K.is_honest keeper.new → K.is_honest keeper.old }
 {
     let mut progress = Progress::new();
     let ran = run_begun(
@@ -462,7 +562,8 @@ where
         writer,
         notes,
     );
-    match ran {
+    progress.unended = ran.unended;
+    match ran.ended {
         Ok(()) => Ok(()),
         Err(error) => Err(ClientStop { error, progress }),
     }

@@ -4,7 +4,8 @@ ghost use Rattle.std.specs.Prelude.{◌≡◌, OnOk};
 ghost use Rattle.std.specs.Io.KnownBytes.{Appends};
 ghost use Rattle.scoop_keeper.specs.Keeper.{Stays};
 ghost use Rattle.scoop_runtime.specs.Beginnings.{known_in};
-ghost use Rattle.scoop_runtime.specs.Cutting.{Cuts, Parts, PartsFrom, cut_text, freeing_text, held_text, unended_line};
+ghost use Rattle.scoop_runtime.specs.ClientLives.{LivesAtMostOnce};
+ghost use Rattle.scoop_runtime.specs.Cutting.{BecomesOf, Cuts, IsNotGivenUp, Parts, PartsFrom, cut_text, freeing_text, held_text, unended_line};
 
 use crate::client::{begin_client, client_link, known_handlers};
 use crate::error::RuntimeError;
@@ -81,7 +82,10 @@ fn greet_anew<K: Keeper<Global>, L: Link, J: Write + Drop, N: Write>(
     notes: &mut N,
 ) -> Result<(), RuntimeError>
     ensures cuts { OnOk result (Cuts plan.now.place.client plan.now.place.batch known.now handlers.now (K.incarnations keeper.old) (K.incarnations keeper.new) (K.is_honest keeper.new)) }
+    ensures lives { LivesAtMostOnce plan.now.place.client plan.now.place.batch known.now
+        (K.incarnations keeper.old) (K.incarnations keeper.new) (K.is_honest keeper.new) }
     ensures handlers { K.is_honest keeper.new → Stays (K.handlers keeper.old) (K.handlers keeper.new) }
+    ensures honest { K.is_honest keeper.new → K.is_honest keeper.old }
 {
     let client = begin_client(alloc, plan, keeper, known, journal)?;
     let mut session = Session::new(alloc, client, LentLink::new(link), turns, journal);
@@ -106,7 +110,10 @@ fn cut_block<K: Keeper<Global>, L: Link, J: Write + Drop, N: Write>(
     handlers: &[HandlerId],
     notes: &mut N,
 ) -> Unended
-    ensures { Parts plan.now.place.client plan.now.place.batch known.now handlers.now result (K.incarnations keeper.old) (K.incarnations keeper.new) (K.is_honest keeper.new) }
+    ensures parts { Parts plan.now.place.client plan.now.place.batch known.now handlers.now result
+        (K.incarnations keeper.old) (K.incarnations keeper.new) (K.is_honest keeper.new) }
+    ensures given_up { IsNotGivenUp result }
+    ensures honest { K.is_honest keeper.new → K.is_honest keeper.old }
 {
     let turns = PARTING_TURNS;
     match greet_anew(
@@ -128,7 +135,10 @@ pub(crate) fn cut_left<K: Keeper<Global>, L: Link, J: Write + Drop, N: Write>(
     remains: Remains,
     notes: &mut N,
 ) -> Unended
-    ensures { PartsFrom plan.now.place.client plan.now.place.batch known.now remains.last result (K.incarnations keeper.old) (K.incarnations keeper.new) (K.is_honest keeper.new) }
+    ensures parts { PartsFrom plan.now.place.client plan.now.place.batch known.now remains.last result
+        (K.incarnations keeper.old) (K.incarnations keeper.new) (K.is_honest keeper.new) }
+    ensures left { BecomesOf remains.left result }
+    ensures honest { K.is_honest keeper.new → K.is_honest keeper.old }
 {
     match (remains.left, remains.last) {
         (Left::When, _) => Unended::When,
@@ -196,8 +206,11 @@ where
     E: Write + Drop,
     W: Write,
     N: Write,
-    ensures { OnOk result (Cuts plan.now.place.client plan.now.place.batch (known_in plan.now.system.now) (known_in plan.now.system.now)
+    ensures cuts { OnOk result (Cuts plan.now.place.client plan.now.place.batch (known_in plan.now.system.now) (known_in plan.now.system.now)
         (K.incarnations keeper.old) (K.incarnations keeper.new) (K.is_honest keeper.new)) }
+    ensures lives { LivesAtMostOnce plan.now.place.client plan.now.place.batch (known_in plan.now.system.now)
+        (K.incarnations keeper.old) (K.incarnations keeper.new) (K.is_honest keeper.new) }
+    ensures honest { K.is_honest keeper.new → K.is_honest keeper.old }
 {
     let known = known_handlers(alloc, plan.system())?;
     let mut link = client_link(alloc, link, waits, faults, &known)?;

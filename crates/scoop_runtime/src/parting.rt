@@ -1,10 +1,11 @@
 //! The end of a session: the block that it leaves.
 
-ghost use Rattle.std.specs.Prelude.{◌≡◌, ◌++◌, ◌∷◌, [], OnOk, IfOk, IsFalse, is_some, filter};
+ghost use Rattle.std.specs.Prelude.{◌≡◌, ◌++◌, ◌∷◌, [], Ok, OnOk, IfOk, IsFalse, is_some, filter};
 ghost use Rattle.scoop_client.specs.State.{phase_of};
 ghost use Rattle.scoop_client.specs.declared.phase.Phase.TheVariants.{Idle};
-ghost use Rattle.scoop_runtime.specs.Obeying.{GivesUp, TakesTurnsOnly};
+ghost use Rattle.scoop_runtime.specs.Obeying.{Drives, GivesUp, TakesTurnsOnly};
 ghost use Rattle.scoop_runtime.specs.Parting.{Leaves, is_awaited, owes};
+ghost use Rattle.scoop_runtime.specs.Progress.{input_ended};
 
 use crate::session::Session;
 use scoop_client::{HandlerList, Phase};
@@ -124,7 +125,9 @@ impl<'j, L: Link, J: Write + Drop> Session<'j, L, J> {
 
     /// Leaves the block. If its handlers aren't all locked, the client gives the locks back.
     pub(crate) fn leave(&mut self) -> Left
-        ensures { Leaves result (is_some self.old.wish) self.old.driver.seen self.new.driver.seen }
+        ensures leaves { Leaves result (is_some self.old.wish) self.old.driver.seen self.new.driver.seen }
+        ensures drives { Drives self.old.driver.seen self.new.driver.seen }
+        ensures ended { input_ended (is_some self.old.wish) (phase_of self.old.driver.seen.client) ≡ Ok (tt {0}) → result ≡ Left.Nothing }
     {
         if self.wish.is_some() {
             return Left::When;

@@ -3,8 +3,8 @@
 ghost use Rattle.std.specs.Prelude.{◌≡◌, None, Ok, Err, OnOk, IsFalse, IsTrue, IfOk, IfErr, IfSome, ◌≤◌, is_some};
 ghost use Rattle.scoop_client.specs.State.{phase_of};
 ghost use Rattle.scoop_runtime.specs.Answering.{answered};
-ghost use Rattle.scoop_runtime.specs.Obeying.{CallDoes, DoesInside, DoesOutside, EndDoes, GiveUpDoes, NoteDoes, Obeys, QueryDoes, ReserveDoes, TakesTurnsOnly};
-ghost use Rattle.scoop_runtime.specs.Obeying.{TryDoes, WhenDoes, is_quiet};
+ghost use Rattle.scoop_runtime.specs.Obeying.{CallDoes, DoesInside, DoesOutside, Drives, EndDoes, GiveUpDoes, NoteDoes, Obeys, QueryDoes, ReserveDoes};
+ghost use Rattle.scoop_runtime.specs.Obeying.{TakesTurnsOnly, TryDoes, WhenDoes, is_quiet};
 ghost use Rattle.scoop_runtime.specs.Progress.{input_ended};
 ghost use Rattle.scoop_runtime.specs.Silence.{ended_by, first_awaited, over_at};
 ghost use Rattle.scoop_runtime.specs.Unlocking.{is_unlock, owes_unlock};
@@ -187,6 +187,7 @@ impl<'j, L: Link, J: Write + Drop> Session<'j, L, J> {
         ensures replied { IfOk result (λ replied. IfSome replied (λ reply. Obeys line.now self.old.wish self.old.driver.turns (Ok reply) self.new.answers.items self.old.driver.seen self.new.driver.seen)) }
         ensures ended { IfErr result (λ e. Obeys line.now self.old.wish self.old.driver.turns (Err e) self.new.answers.items self.old.driver.seen self.new.driver.seen) }
         ensures quiet { result ≡ Ok None → IsTrue (is_quiet line.now) × (self.new.driver.seen ≡ self.old.driver.seen) }
+        ensures drives { Drives self.old.driver.seen self.new.driver.seen }
     {
         self.answers.clear();
         if is_quiet(line) {
