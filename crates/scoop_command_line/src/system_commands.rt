@@ -186,8 +186,8 @@ pub(crate) const CLIENT: CommandRow = CommandRow {
         reads: set A or get of a cell, add A or get of a counter, deposit A, withdraw A or balance of an account, put A of an \
         exchange; `scoop check` shows those of the file's classes. \
         A line that the client refuses gets `refused` and why (`NotIdle`, `NoBlock`, `NotReserved H`, `Empty`, `TooMany`, \
-        `Repeated H`, `Unknown H`, `NotInWhen`, `Spent`); the client goes on. Empty lines and lines that begin with `#` are \
-        skipped; a line may end in a carriage return and a newline.\n\n\
+        `Repeated H`, `Unknown H`, `NotInWhen`, `TooLate`, `Spent`); the client goes on. Empty lines and lines that begin with `#` \
+        are skipped; a line may end in a carriage return and a newline.\n\n\
         However a client ends, it leaves no block behind as long as its handlers answer. It gives up a block that isn't reserved \
         yet (`given up 7.1.1`), and cuts any other that isn't ended (`cut 7.1.1`): the handlers run what they had received of \
         it, and are free. If one doesn't answer within five seconds, standard error says which, and --cut frees it later.\n\n\

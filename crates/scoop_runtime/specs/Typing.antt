@@ -83,7 +83,7 @@ reply_note (EndedAt n) = []
 reply_note (ConditionFailed n) = []
 reply_note GivenUp = []
 reply_note (Refused e) = codes "hint: " ++ (refusal_advice e ++ 10 ∷ [])
-reply_note NotInWhen = codes "hint: a waiting block takes only calls, queries and end" ++ 10 ∷ []
+reply_note NotInWhen = codes "hint: a waiting block takes only calls, queries, end and giveup" ++ 10 ∷ []
 
 -- a script gets no note
 abbrev pub note_text : Bool → Reply → List ℕ

@@ -104,8 +104,8 @@ impl RuntimeError {
                 this client ran before with another store, resume that one and never this one. Else raise --turns"
             }
             RuntimeError::NotAnswered(_) => {
-                "it has not answered, or another client's block is in front. Check that its node runs. If a client stopped \
-                inside a block, start it again. Else raise --turns"
+                "it has not answered, or another client's block is in front. Check that its node runs. If a client was killed \
+                inside a block, run it with --cut. Else raise --turns"
             }
             RuntimeError::Refused(_) => {
                 "the last answer in the output says why; without --strict the client goes on after it"

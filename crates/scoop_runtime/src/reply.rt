@@ -33,7 +33,7 @@ pub enum Reply {
     GivenUp,
     /// The client refuses the command, and goes on.
     Refused(ClientError),
-    /// A block that waits for its condition takes only calls, queries and its end.
+    /// A block that waits for its condition takes only calls, queries, its end and `giveup`.
     NotInWhen,
 }
 

@@ -117,7 +117,7 @@ fn print_reply_note<N: Write>(reply: &Reply, notes: &mut N) -> io::Result<()>
         }
         Reply::NotInWhen => writeln!(
             notes,
-            "hint: a waiting block takes only calls, queries and end"
+            "hint: a waiting block takes only calls, queries, end and giveup"
         ),
         _ => Ok(()),
     }

@@ -196,7 +196,7 @@ fn a_clients_errors_name_what_they_are_about(rt: HostRuntime) {
     let unwelcome = RuntimeError::NotWelcomed(HandlerId(2));
     advises(&rt, unwelcome, at, "before with another store");
     let unanswered = RuntimeError::NotAnswered(HandlerId(2));
-    advises(&rt, unanswered, at, "stopped inside a block");
+    advises(&rt, unanswered, at, "killed inside a block");
     let line = RuntimeError::Line(4, LineFault::NotANumber(ShownWord::of(b"ten")));
     advises(&rt, line, About::Nothing, "whole decimal number");
     let refused = RuntimeError::Refused(4);
