@@ -1,4 +1,4 @@
--- A client's lives, one after another. A cut is a life, and so is a client's run; a begun client's life is followed by what cuts its block.
+-- A client's lives, one after another. The first is that of its session. A second one may cut the block that the session left.
 use Rattle.std.proofs.Common.{◌≡◌, ℕ, Bool, true, false, List, [], ◌∷◌, Option, Some, None, Result, Ok, Err, refl, sym, ap, subst, ◌∙◌, arith}
 use Rattle.std.specs.Prelude.{OnOk}
 use Rattle.scoop_message.specs.declared.name.Block.{Block}

@@ -1,4 +1,4 @@
--- What a client of a system did: its lives, each with an incarnation that its keeper gave it and the steps of its driver.
+-- The lives of a system's client: each has an incarnation that its keeper gave it, and the steps of its driver.
 use Rattle.std.specs.Prelude.{◌≡◌, ◌≤◌, ℕ, List, [], ◌∷◌, length, false, OnOk, Option, Result, Ok, Err}
 use Rattle.scoop_message.specs.declared.name.ClientId.{ClientId}
 use Rattle.scoop_message.specs.declared.name.HandlerId.{HandlerId}

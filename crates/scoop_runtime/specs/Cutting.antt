@@ -52,7 +52,7 @@ IsNotGivenUp (unended.GivenUp b) = ⊥
 IsNotGivenUp unended.Nothing = ⊤
 IsNotGivenUp unended.When = ⊤
 
--- what becomes of what a session left: of nothing nothing, and only of a block that was given up this
+-- A session that left nothing has nothing unended. A block is given up only if the session left it so.
 abbrev pub BecomesOf : Left → Unended → Type 0
 BecomesOf left.Nothing u = u ≡ unended.Nothing
 BecomesOf left.When u = u ≡ unended.When
