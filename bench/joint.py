@@ -51,10 +51,10 @@ class System:
             words = [self.program, "client", str(c), "--system", self.file]
             words += ["--new", os.path.join(self.folder, f"client-{c}.db")] + self.journal(f"client-{c}")
             p = subprocess.Popen(words, stdin=subprocess.PIPE, stdout=subprocess.PIPE)
-            # it has greeted once it answers, though there is nothing to end
-            p.stdin.write(b"end\n")
+            # it has greeted once its first block has ended
+            p.stdin.write(b"reserve 1 2\nend\n")
             p.stdin.flush()
-            p.stdout.readline()
+            p.stdout.readline(), p.stdout.readline()
             begun.append(p)
         start = time.perf_counter()
         readers = [threading.Thread(target=p.communicate, args=(lines,)) for p in begun]
