@@ -1,17 +1,19 @@
 //! What passes through the watchers, and what they count.
 
 use super::{heard, state, watch};
-use scoop_handler::{Note, Reason};
+use scoop_handler::{HandlerState, Note, Reason};
 use scoop_keeper::{FailingKeeper, Keeper, KeeperError, MemoryKeeper};
 use scoop_link::{Link, Party, TapeLink};
 use scoop_message::limits::BUFFER_LEN;
 use scoop_message::{ClientId, HandlerId, Message};
 use scoop_seal::{Key, SealedLink};
 use scoop_watch::{
-    Event, EventList, Level, LogLevel, MAX_EVENTS, WatchedKeeper, WatchedLink, WatchedOutput,
+    Event, EventList, Level, LogLevel, MAX_EVENTS, Watch, WatchedKeeper, WatchedLink, WatchedOutput,
 };
 use std::alloc::Global;
 use std::io::Write;
+use std::process::Abort;
+use std::sync::Wait;
 use std::test::Fail;
 
 const HANDLER: HandlerId = HandlerId(1);
@@ -27,38 +29,74 @@ fn told(alloc: Global, events: &EventList) -> Result<String, Fail> {
     Ok(told)
 }
 
+// Whether the watch shows this state of the handler. What is owned is lent in these functions, so that no early return has to
+// drop it.
+fn shows<R: Wait>(rt: &R, watch: &Watch, state: &HandlerState) -> Result<bool, Fail> {
+    match watch.state(rt, HANDLER)? {
+        Some(shown) => Ok(shown.same(state)),
+        None => Ok(false),
+    }
+}
+
+fn shows_nothing<R: Wait>(rt: &R, watch: &Watch, handler: HandlerId) -> Result<bool, Fail> {
+    Ok(watch.state(rt, handler)?.is_none())
+}
+
+fn keeps(keeper: &mut MemoryKeeper, state: &HandlerState) -> Result<bool, Fail> {
+    match keeper.load_handler(HANDLER)? {
+        Some(kept) => Ok(kept.same(state)),
+        None => Ok(false),
+    }
+}
+
+fn puts_both<R: Wait + Abort>(
+    rt: &R,
+    watch: &Watch,
+    keeper: &mut WatchedKeeper<'_, MemoryKeeper, R>,
+    first: &HandlerState,
+    second: &HandlerState,
+) -> Result<(), Fail> {
+    assert!(rt; shows_nothing(rt, watch, HANDLER)?);
+    keeper.put_handler(first)?;
+    keeper.put_handler(second)?;
+    assert!(rt; shows(rt, watch, second)?);
+    assert_eq!(rt; watch.tally(rt).puts, 2);
+    Ok(())
+}
+
 #[test]
 fn a_put_is_passed_on_and_shown(rt: HostRuntime) -> Result<(), Fail> {
     let watch = watch(rt.alloc(), LogLevel::Off)?;
-    let mut keeper = WatchedKeeper::new(MemoryKeeper::new(rt.alloc()), &rt, &watch);
     let first = state(rt.alloc(), &[5])?;
     let second = state(rt.alloc(), &[6])?;
-    assert!(rt; watch.state(&rt, HANDLER)?.is_none());
-    keeper.put_handler(&first)?;
-    keeper.put_handler(&second)?;
-    let shown = watch.state(&rt, HANDLER)?.ok_or("nothing shown")?;
-    assert!(rt; shown.same(&second));
-    assert_eq!(rt; watch.tally(&rt).puts, 2);
-    let mut under = keeper.into_inner();
-    let kept = under.load_handler(HANDLER)?.ok_or("nothing kept")?;
-    assert!(rt; kept.same(&second));
+    let mut keeper = WatchedKeeper::new(MemoryKeeper::new(rt.alloc()), &rt, &watch);
+    puts_both(&rt, &watch, &mut keeper, &first, &second)?;
+    assert!(rt; keeps(&mut keeper.into_inner(), &second)?);
+    Ok(())
+}
+
+fn loads<R: Wait + Abort>(
+    rt: &R,
+    watch: &Watch,
+    keeper: &mut WatchedKeeper<'_, MemoryKeeper, R>,
+    stored: &HandlerState,
+) -> Result<(), Fail> {
+    assert!(rt; keeper.load_handler(HandlerId(2))?.is_none());
+    assert!(rt; keeper.load_handler(HANDLER)?.is_some());
+    assert!(rt; shows(rt, watch, stored)?);
+    assert!(rt; shows_nothing(rt, watch, HandlerId(2))?);
+    assert_eq!(rt; keeper.next_incarnation(ClientId(7)), Ok(1));
     Ok(())
 }
 
 #[test]
 fn a_loaded_state_is_shown(rt: HostRuntime) -> Result<(), Fail> {
     let watch = watch(rt.alloc(), LogLevel::Off)?;
-    let mut under = MemoryKeeper::new(rt.alloc());
     let stored = state(rt.alloc(), &[5])?;
+    let mut under = MemoryKeeper::new(rt.alloc());
     under.put_handler(&stored)?;
     let mut keeper = WatchedKeeper::new(under, &rt, &watch);
-    assert!(rt; keeper.load_handler(HandlerId(2))?.is_none());
-    assert!(rt; keeper.load_handler(HANDLER)?.is_some());
-    let shown = watch.state(&rt, HANDLER)?.ok_or("nothing shown")?;
-    assert!(rt; shown.same(&stored));
-    assert!(rt; watch.state(&rt, HandlerId(2))?.is_none());
-    assert_eq!(rt; keeper.next_incarnation(ClientId(7)), Ok(1));
-    Ok(())
+    loads(&rt, &watch, &mut keeper, &stored)
 }
 
 #[test]
