@@ -3,7 +3,7 @@
 
 usage: journals.py PROGRAM SYSTEM JOURNAL..    tries each change to each of the journals, which have an explanation
 """
-import random, subprocess, sys, tempfile, os
+import collections, os, random, subprocess, sys, tempfile
 
 HELLO, WELCOME, LOCK, LOCKED, BUSY, LOG, LOGGED, ANSWER = 1, 2, 3, 4, 5, 10, 11, 12
 
@@ -47,7 +47,9 @@ def changed(text, random):
         if at is not None:
             answer = words[at][2][:-1] + ("1" if words[at][2][-1] != "1" else "2")
             yield "an answer changed", joined(lines[:at] + [f"hear {words[at][1]} {answer}"] + lines[at + 1:])
-        at = pick(random, [at for at in replies if kind(words[at][1]) == LOG and at < len(lines) - 20])
+        # one that came once: else another one may have been the first
+        once = collections.Counter(w[1] for w in words if w[0] == "hear")
+        at = pick(random, [at for at in replies if kind(words[at][1]) == LOG and once[words[at][1]] == 1 and at < len(lines) - 20])
         if at is not None:
             yield "a Log left out", joined(without(at))
         at = pick(random, [at for at, w in enumerate(words) if w[0] == "finish" and at < len(lines) - 20])
