@@ -204,8 +204,8 @@ class ClientParty(Party, threading.Thread):
                 if code not in (0, -9) and not (code == 1 and ": refused, the first of " in said):
                     self.errors.append(f"client {self.number} ended with {code}: {said}")
                     return
-        # Killed in its last block, it would leave others waiting for it.
-        if self.blocks and not self.blocks[-1]["ended"]:
+        # Killed while it locked or in its last block, it would leave others waiting for it.
+        if self.process is not None and self.process.returncode == -signal.SIGKILL:
             self.storm.greet(self)
 
     def live(self):
