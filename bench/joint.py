@@ -1,5 +1,5 @@
 #!/usr/bin/env python3
-"""Measures running systems: python3 bench/joint.py [--program PATH] [--blocks N]
+"""Measures running systems: python3 bench/joint.py [--program PATH] [--blocks N] [--journals]
 
 Two nodes as processes of their own, with a cell each, and clients that set both cells in each of their blocks: how many
 blocks a second one client gets and eight get together, with the record in memory and in a file; how many blocks with one
@@ -17,10 +17,10 @@ NODES, CLIENTS = [1, 2], range(11, 20)
 
 
 class System:
-    """Two nodes, with their record in memory or in files."""
+    """Two nodes, with their record in memory or in files. All parties may write journals."""
 
-    def __init__(self, program, in_file):
-        self.program, self.folder = program, tempfile.mkdtemp(prefix="joint")
+    def __init__(self, program, in_file, journals=False):
+        self.program, self.folder, self.journals = program, tempfile.mkdtemp(prefix="joint"), journals
         ports = free_ports(len(NODES) + len(CLIENTS))
         self.ports = ports
         text = ""
@@ -35,23 +35,26 @@ class System:
         self.nodes = []
         for n in NODES:
             words = [program, "node", str(n), "--system", self.file]
-            if in_file:
-                words += ["--new", os.path.join(self.folder, f"node-{n}.db")]
+            words += ["--new", os.path.join(self.folder, f"node-{n}.db")] if in_file else ["--volatile"]
+            words += self.journal(f"node-{n}")
             node = subprocess.Popen(words, stdout=subprocess.PIPE, stderr=subprocess.DEVNULL)
             node.stdout.readline()
             self.nodes.append(node)
+
+    def journal(self, name):
+        return ["--journal", os.path.join(self.folder, f"{name}.journal")] if self.journals else []
 
     def run_clients(self, clients, lines):
         """How long the clients take together for these lines, the time in which they begin left out."""
         begun = []
         for c in clients:
             words = [self.program, "client", str(c), "--system", self.file]
-            words += ["--new", os.path.join(self.folder, f"client-{c}.db")]
+            words += ["--new", os.path.join(self.folder, f"client-{c}.db")] + self.journal(f"client-{c}")
             p = subprocess.Popen(words, stdin=subprocess.PIPE, stdout=subprocess.PIPE)
-            # it has greeted once it answers, though there is nothing to end
-            p.stdin.write(b"end\n")
+            # it has greeted once its first block has ended
+            p.stdin.write(b"reserve 1 2\nend\n")
             p.stdin.flush()
-            p.stdout.readline()
+            p.stdout.readline(), p.stdout.readline()
             begun.append(p)
         start = time.perf_counter()
         readers = [threading.Thread(target=p.communicate, args=(lines,)) for p in begun]
@@ -130,12 +133,31 @@ def tell(what, count, taken):
     sys.stdout.flush()
 
 
+def journals(program, count):
+    """What journals cost: joint blocks with and without them, in turn, five times."""
+    for some in (1, 8):
+        best = [0, 0]
+        for _ in range(5):
+            for with_them in (0, 1):
+                system = System(program, False, bool(with_them))
+                taken = system.run_clients(list(CLIENTS)[:some], blocks(count // some))
+                best[with_them] = max(best[with_them], count // some * some / taken)
+                system.end()
+        for with_them, what in ((0, "without"), (1, "with")):
+            print(f"joint blocks, {some} clients, {what} journals, best of 5: {best[with_them]:.0f} a second")
+        print(f"    journals cost {100 - 100 * best[1] / best[0]:.1f} %")
+        sys.stdout.flush()
+
+
 def main():
     parser = argparse.ArgumentParser()
     parser.add_argument("--program", default=os.path.join(TOP, "crates/scoop/out/scoop"))
     parser.add_argument("--blocks", type=int, default=500)
+    parser.add_argument("--journals", action="store_true", help="measures what journals cost, and nothing else")
     given = parser.parse_args()
     program, count = os.path.abspath(given.program), given.blocks
+    if given.journals:
+        return journals(program, count)
     for in_file in (False, True):
         where = "file" if in_file else "memory"
         for some in (1, 8):

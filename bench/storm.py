@@ -1,7 +1,8 @@
 #!/usr/bin/env python3
 """Two nodes and three clients as real processes, with a relay between them that loses, doubles and delays datagrams,
 and with nodes and clients that are killed at random moments and begun again. At the end what every client was told is
-held against a plain replay of the blocks.
+held against a plain replay of the blocks, and `scoop audit` has to explain the journals of all parties. Each change of
+`bench/journals.py` to these journals has to be found by it.
 
 usage: storm.py PROGRAM [--seed N] [--seconds S] [--key]
 
@@ -11,6 +12,7 @@ order the blocks ran there, and the replay goes in that order. Statuses: 0, or 1
 """
 import argparse, os, random, select, shutil, signal, socket, subprocess, sys, tempfile, threading, time
 
+from journals import changed
 from ports import free_ports
 
 # Handlers and their nodes. Every object has the words tickets, balance.
@@ -142,7 +144,8 @@ class Party:
             for end in ("", "-wal", "-shm", "-journal"):
                 if os.path.exists(self.file + ".db" + end):
                     os.remove(self.file + ".db" + end)
-        words = [self.storm.program, self.kind, str(self.number), "--system", self.file + ".toml", store, self.file + ".db"]
+        words = [self.storm.program, self.kind, str(self.number), "--system", self.file + ".toml", store, self.file + ".db",
+                 "--journal", self.file + ".journal"]
         if self.storm.key:
             words += ["--key", self.storm.key]
         if self.kind == "node":
@@ -196,11 +199,13 @@ class ClientParty(Party, threading.Thread):
                 return
             if self.process is not None:
                 code = self.process.wait()
-                if code not in (0, -9):
-                    self.errors.append(f"client {self.number} ended with {code}: {open(self.file + '.err').read()}")
+                said = open(self.file + ".err").read()
+                # Purses refuse some withdrawals, which the client's status reports.
+                if code not in (0, -9) and not (code == 1 and ": refused, the first of " in said):
+                    self.errors.append(f"client {self.number} ended with {code}: {said}")
                     return
-        # Killed in its last block, it would leave others waiting for it.
-        if self.blocks and not self.blocks[-1]["ended"]:
+        # Killed while it locked or in its last block, it would leave others waiting for it.
+        if self.process is not None and self.process.returncode == -signal.SIGKILL:
             self.storm.greet(self)
 
     def live(self):
@@ -335,7 +340,7 @@ class Storm:
         for n in nodes:
             n.kill()
         self.relay.stopped = True
-        errors = [e for c in clients for e in c.errors] + self.replay(clients, last)
+        errors = [e for c in clients for e in c.errors] + self.replay(clients, last) + self.audit(nodes + clients)
         blocks = [b for c in clients for b in c.blocks]
         print(f"seed {self.seed}: {len(blocks)} blocks, {sum(b['ended'] for b in blocks)} ended, nodes killed {killed['node']},"
               f" clients killed {killed['client']}, datagrams {self.relay.counts}: {'WRONG' if errors else 'right'}")
@@ -347,8 +352,33 @@ class Storm:
             shutil.rmtree(self.folder)
         return not errors
 
+    def explain(self, system, journals):
+        """The status of an audit, and what it prints."""
+        done = subprocess.run([self.program, "audit", "--system", system] + journals, capture_output=True, timeout=600)
+        return done.returncode, done.stdout.decode() + done.stderr.decode()
+
+    def audit(self, parties):
+        """The journals have an explanation, and no changed ones have."""
+        system, journals = parties[0].file + ".toml", [p.file + ".journal" for p in parties]
+        status, text = self.explain(system, journals)
+        if status != 0:
+            return [f"audit: status {status}: {text}"]
+        print("  " + text.replace("\n", "\n  ").rstrip())
+        errors = []
+        for place, path in enumerate(journals):
+            for name, lines in changed(open(path, "rb").read(), self.random):
+                other = path + ".changed"
+                with open(other, "wb") as f:
+                    f.write(lines)
+                status, text = self.explain(system, journals[:place] + [other] + journals[place + 1:])
+                if status == 0:
+                    errors.append(f"audit: {os.path.basename(path)}: {name} isn't found")
+                print(f"  {os.path.basename(path)}: {name}: {text.splitlines()[-1] if text else ''}")
+        return errors
+
     def words(self, party):
-        words = [self.program, "client", str(party.number), "--system", party.file + ".toml", "--store", party.file + ".db"]
+        words = [self.program, "client", str(party.number), "--system", party.file + ".toml", "--store", party.file + ".db",
+                 "--journal", party.file + ".journal"]
         return words + (["--key", self.key] if self.key else [])
 
     def greet(self, party):
@@ -404,17 +434,19 @@ class Storm:
                 if tickets <= want and used + want - tickets <= lost}
 
     def results(self, words, block, h):
-        """The words that a block may leave here: it runs what was answered or acknowledged, and of what came behind
-        that, which is one command at most, either nothing or all."""
-        for e in (e for e in block["done"] if e["handler"] == h):
-            new, answer = run_one(words, e)
-            if e["logged"]:
-                if e["answer"] is not None and e["answer"] != answer:
-                    return set()
-                words = new
-            else:
-                return {words, new}
-        return {words}
+        """The words that a block may leave here. It runs a prefix of what was logged here: all of it if the block ended, and
+        at least what was answered. A call that only got `logged` may not have arrived."""
+        entries = [e for e in block["done"] if e["handler"] == h]
+        answered = [i + 1 for i, e in enumerate(entries) if e["answer"] is not None]
+        sure = len(entries) if block.get("ended") else max(answered, default=0)
+        results = {words} if sure == 0 else set()
+        for i, e in enumerate(entries):
+            words, answer = run_one(words, e)
+            if e["answer"] is not None and e["answer"] != answer:
+                return set()
+            if i + 1 >= sure:
+                results.add(words)
+        return results
 
     def orders(self, order):
         """No two handlers disagree on which of two blocks comes first."""

@@ -5,3 +5,4 @@ pub mod OpeningLemmas
 pub mod Alls
 pub mod MadeBy
 pub mod NodeLemmas
+pub mod ReopeningLemmas

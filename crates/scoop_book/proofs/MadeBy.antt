@@ -1,5 +1,5 @@
 -- The entries of one pass: those that are left of a history, against the events that are left of the pass.
-use Rattle.std.proofs.Common.{◌≡◌, ℕ, ◌+◌, ◌<◌, ◌≤◌, List, [], ◌∷◌, Bool, true, false, ap, sym, ◌∙◌, subst, drop, length, get_or, arith}
+use Rattle.std.proofs.Common.{◌≡◌, ℕ, ◌+◌, ◌<◌, ◌≤◌, List, [], ◌∷◌, true, false, ap, sym, ◌∙◌, subst, drop, length, get_or, arith}
 use Rattle.std.specs.Prelude.{if◌then◌else◌, ◌==◌, ◌↔◌}
 use Rattle.std.proofs.lemmas.Bool.Decides.{nat_tests}
 use Rattle.std.proofs.lemmas.List.{drop_more, drop_all}

@@ -4,3 +4,4 @@ pub mod Opening
 pub mod Books
 pub mod Passes
 pub mod Closing
+pub mod Reopening

@@ -4,6 +4,7 @@ ghost use Rattle.std.specs.Prelude.{◌≡◌, ◌<◌, ◌++◌, ◌∷◌, [],
 
 mod entering;
 mod making;
+mod standing;
 
 use crate::closing::Closed;
 use crate::event::{Event, Reply};

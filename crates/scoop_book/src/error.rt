@@ -32,6 +32,17 @@ pub enum OpenError {
     OutOfMemory,
 }
 
+/// Why a book or a node doesn't open again, in the order in which it is tested.
+#[derive(Clone, Copy, Debug, PartialEq, Eq, Error)]
+pub enum ReopenError {
+    /// It doesn't open at all.
+    #[error("{0}")]
+    Unopened(OpenError),
+    /// The handlers don't open with the states and the classes with which they stood.
+    #[error("OtherStates")]
+    OtherStates,
+}
+
 /// Why an event isn't entered, in the order in which it is tested. Printed as its name, but out of memory in words.
 #[derive(Clone, Copy, Debug, PartialEq, Eq, Error)]
 pub enum BookError {

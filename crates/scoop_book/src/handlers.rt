@@ -84,6 +84,14 @@ impl<B: Behaviour, K: Keeper<A>, A: Allocator + Copy> Handlers<B, K, A> {
         keeper
     }
 
+    /// The handlers and the keeper.
+    pub(crate) fn into_parts(self) -> (Vec<Local<B, A>, A>, K)
+        ensures { handlers_kept result.0.items result.1 ≡ self }
+    {
+        let Handlers { locals, keeper } = self;
+        (locals, keeper)
+    }
+
     /// The handler at this place hears a message. A refusal changes nothing.
     pub(crate) fn hear(&mut self, at: usize, message: &Message) -> Result<Heard, KeeperError>
         requires first { IsFirst (is_handler (handler_of message.now)) self.old.handlers at }

@@ -33,11 +33,15 @@ mod local;
 mod node;
 mod opening;
 mod pass;
+mod standing;
 
 pub use book::Book;
 pub use closing::Closed;
-pub use error::{BookError, CloseError, CloseRefusal, FinishError, FinishRefusal, OpenError};
+pub use error::{
+    BookError, CloseError, CloseRefusal, FinishError, FinishRefusal, OpenError, ReopenError,
+};
 pub use event::{Event, Reply};
 pub use law::{same_event, same_reply};
 pub use node::Node;
 pub use pass::Pass;
+pub use standing::Standing;

@@ -10,7 +10,7 @@ ghost use Rattle.scoop_book.specs.Moves.{after_begin, after_finish, after_hearin
 use crate::error::FinishRefusal;
 use scoop_handler::{AfterError, Done, Handler, HandlerState, Heard, Job, Ran};
 use scoop_keeper::{JobRefusal, Keeper, KeeperError, Unfinished, finish_beside, hear_beside};
-use scoop_message::{HandlerId, Message, Words};
+use scoop_message::{HandlerId, Message, OutOfMemory, Words};
 use scoop_object::Behaviour;
 use std::alloc::Allocator;
 use std::marker::Model;
@@ -64,6 +64,17 @@ impl<B: Behaviour, A: Allocator + Copy> Local<B, A> {
         ensures { result ≡ self.now.core.state.words }
     {
         self.handler.words()
+    }
+
+    /// A copy of its stored state, if one is stored.
+    pub(crate) fn stored(&self) -> Result<Option<HandlerState<A>>, OutOfMemory>
+        ensures { IfOk result (λ found. found ≡ self.now.stored) }
+    {
+        if self.is_stored {
+            Ok(Some(self.handler.copy()?))
+        } else {
+            Ok(None)
+        }
     }
 
     /// Why a job isn't finished, if there is no room to enter it: out of memory is the last reason.

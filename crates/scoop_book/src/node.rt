@@ -10,11 +10,13 @@ ghost use Rattle.scoop_book.specs.Closing.{Differs, FollowsOpening, HasOpened, I
 ghost use Rattle.scoop_book.specs.Moves.{handler_at, leaves};
 ghost use Rattle.scoop_book.specs.Passes.{with_event};
 
+mod standing;
+
 use crate::book::{Book, entry_left, finished, heard_reply};
-use crate::closing::{Closed, refusal};
+use crate::closing::Closed;
 use crate::error::{BookError, CloseError, CloseRefusal, FinishError, FinishRefusal, OpenError};
 use crate::event::{Event, Reply};
-use crate::pass::{Pass, fresh_passes, put_down};
+use crate::pass::{Pass, put_down};
 use scoop_handler::{Done, Heard, Job, Ran};
 use scoop_keeper::Keeper;
 use scoop_message::limits::MAX_HISTORY;
@@ -121,11 +123,10 @@ impl<B: Behaviour, K: Keeper<A>, A: Allocator + Copy> Node<B, K, A> {
             Ok(book) => book,
             Err(error) => return Err(error),
         };
-        let Ok(fresh) = fresh_passes(alloc, passes, book.opening()) else {
-            return Err(OpenError::OutOfMemory);
-        };
-        let book = Mutex::new(book);
-        Ok((Node { book, passes }, fresh))
+        match Node::share(alloc, book, passes) {
+            Ok(shared) => Ok(shared),
+            Err(error) => Err(error),
+        }
     }
 
     /// A handler hears this message, as in [`Book::hear`]. The pass gains the event with its reply. May wait for the
@@ -263,24 +264,9 @@ impl<B: Behaviour, K: Keeper<A>, A: Allocator + Copy> Node<B, K, A> {
             → WasSo K.handlers K.is_honest (λ b. Differs b.opening b.history self.passes passes.items) n) }
         ensures memory { IfErr result (λ e. e.cause ≢ CloseRefusal.OutOfMemory) }
     {
-        let Node {
-            book,
-            passes: count,
-        } = self;
-        let book = book.into_inner();
-        match refusal(count, &passes, book.opening(), book.history()) {
-            None => Ok(book.into_closed()),
-            Some(cause) => {
-                let node = Node {
-                    book: Mutex::new(book),
-                    passes: count,
-                };
-                Err(CloseError {
-                    cause,
-                    node,
-                    passes,
-                })
-            }
+        match self.into_agreed(passes) {
+            Ok(book) => Ok(book.into_closed()),
+            Err(error) => Err(error),
         }
     }
 }

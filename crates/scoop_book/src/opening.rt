@@ -76,6 +76,13 @@ impl<A: Allocator + Copy> Opening<A> {
             && self.state.same(&other.state)
             && self.class.same(&other.class)
     }
+
+    /// Whether it opened with this stored state and the class of the other one.
+    pub(crate) fn resumes(&self, classed: &Opening<A>, state: &HandlerState<A>) -> bool
+        ensures { IsTrue result ↔ (self.now ≡ local_handler (core_of classed.now.core.class state.now false) (Some state.now)) }
+    {
+        self.is_stored && self.state.same(state) && self.class.same(&classed.class)
+    }
 }
 
 /// The same handlers as they opened, kept with this allocator.

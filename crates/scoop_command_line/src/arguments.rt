@@ -37,6 +37,7 @@ fn with_parser<'a>(arg: Arg<'a>, value: Value, class_names: &'a [&'a str]) -> Ar
     match value {
         Value::Flag | Value::Text => arg,
         Value::ClassName => arg.value_parser(class_names),
+        Value::OneOf(words) => arg.value_parser(words),
         Value::U32 => arg.value_parser(value_parser!(u32)),
         Value::U64 => arg.value_parser(value_parser!(u64)),
     }
@@ -56,5 +57,6 @@ fn placed<'a>(arg: Arg<'a>, name: &'static str, place: Place) -> Result<Arg<'a>,
         Place::Option => Ok(arg.long(name)),
         Place::RequiredOption => Ok(arg.long(name).required(true)),
         Place::OptionWithout(other) => arg.long(name).conflicts_with(other),
+        Place::OptionWith(other) => arg.long(name).requires_arg(other),
     }
 }

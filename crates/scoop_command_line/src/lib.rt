@@ -18,23 +18,29 @@
 #![tactic(auto)]
 
 mod arguments;
+mod audit_command;
 mod local_commands;
 mod options;
 mod rows;
 mod system_commands;
+mod up_command;
 
 use arguments::argument;
+use audit_command::AUDIT;
 use clap::{ArgMatches, Command, Error};
 use local_commands::{ANSWER, DEMO, FRAME, WORLD};
 pub use options::{
-    AnswerOptions, Asked, ClientOptions, DemoOptions, NodeOptions, StoreChoice, WorldOptions,
-    asked_in,
+    AnswerOptions, Asked, AuditOptions, ClientOptions, DemoOptions, JournalChoice, LogChoice,
+    NodeOptions, StoreChoice, UpOptions, WorldOptions, asked_in,
 };
 use rows::{ArgumentRow, CommandRow};
 use std::alloc::{AllocError, Global};
-use system_commands::{CHECK, CLIENT, NODE};
+use system_commands::{CHECK, CLIENT, NODE, STORE};
+use up_command::UP;
 
-const COMMANDS: [CommandRow; 7] = [ANSWER, WORLD, FRAME, DEMO, CHECK, NODE, CLIENT];
+const COMMANDS: [CommandRow; 10] = [
+    ANSWER, WORLD, FRAME, DEMO, CHECK, NODE, CLIENT, UP, AUDIT, STORE,
+];
 
 /// The matches of a command line's words, the program's name first. A class is one of the names.
 pub fn parse<'a>(

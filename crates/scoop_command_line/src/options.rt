@@ -15,6 +15,10 @@ pub enum Asked<'a> {
     Check(&'a str),
     Node(NodeOptions<'a>),
     Client(ClientOptions<'a>),
+    Up(UpOptions<'a>),
+    Audit(AuditOptions<'a>),
+    /// The store's file.
+    Store(&'a str),
     Nothing,
 }
 
@@ -68,6 +72,24 @@ pub struct DemoOptions {
     pub weaves: bool,
 }
 
+/// How much a node's log tells.
+#[derive(Clone, Copy, Debug, PartialEq, Eq)]
+pub enum LogChoice {
+    Off,
+    Warn,
+    Info,
+    Debug,
+}
+
+/// The journal that a command line names.
+#[derive(Clone, Copy)]
+pub struct JournalChoice<'a> {
+    /// Its file, if there is one.
+    pub path: Option<&'a str>,
+    /// Whether the disk has to have each line before the party goes on.
+    pub syncs: bool,
+}
+
 /// The options of `scoop node`.
 #[derive(Clone, Copy)]
 pub struct NodeOptions<'a> {
@@ -75,8 +97,14 @@ pub struct NodeOptions<'a> {
     /// The system's file.
     pub system: &'a str,
     pub store: StoreChoice<'a>,
+    /// Whether it may run without a store.
+    pub is_volatile: bool,
+    pub journal: JournalChoice<'a>,
     /// The key's file.
     pub key: Option<&'a str>,
+    /// The address of its status, as it was written.
+    pub status: Option<&'a str>,
+    pub log: LogChoice,
     pub executors: u32,
     pub history: u32,
     pub turns: u64,
@@ -89,10 +117,42 @@ pub struct ClientOptions<'a> {
     /// The system's file.
     pub system: &'a str,
     pub store: StoreChoice<'a>,
+    pub journal: JournalChoice<'a>,
     /// The key's file.
     pub key: Option<&'a str>,
     pub is_strict: bool,
     pub turns: u64,
+    /// The file of its lines. Without it they come from standard input.
+    pub lines: Option<&'a str>,
+    /// Whether it only cuts the block of a run that was killed.
+    pub only_cuts: bool,
+}
+
+/// The options of `scoop up`.
+#[derive(Clone, Copy)]
+pub struct UpOptions<'a> {
+    /// The system's file.
+    pub system: &'a str,
+    /// The folder of the stores.
+    pub dir: Option<&'a str>,
+    /// The client; the first one of the file by default.
+    pub client: Option<u32>,
+    pub is_strict: bool,
+}
+
+/// The options of `scoop audit`.
+#[derive(Clone, Copy)]
+pub struct AuditOptions<'a> {
+    /// The system's file.
+    pub system: &'a str,
+    /// The journals' files.
+    pub journals: &'a [&'a str],
+    pub lists_blocks: bool,
+    /// The chart's file.
+    pub chart: Option<&'a str>,
+    /// The first and the last move of the chart, counted from 1.
+    pub from: u64,
+    pub to: u64,
 }
 
 /// The command that the matches ask for, with its options.
@@ -105,6 +165,9 @@ pub fn asked_in<'a>(matches: &'a ArgMatches<'_>) -> Asked<'a> {
         Some(("check", given)) => Asked::Check(text_of(given, "file")),
         Some(("node", given)) => Asked::Node(node_options(given)),
         Some(("client", given)) => Asked::Client(client_options(given)),
+        Some(("up", given)) => Asked::Up(up_options(given)),
+        Some(("audit", given)) => Asked::Audit(audit_options(given)),
+        Some(("store", given)) => Asked::Store(text_of(given, "file")),
         _ => Asked::Nothing,
     }
 }
@@ -124,6 +187,13 @@ fn store_choice<'a>(given: &'a ArgMatches<'_>) -> StoreChoice<'a> {
     match given.get_str("store") {
         Some(path) => StoreChoice::Old(path),
         None => StoreChoice::None,
+    }
+}
+
+fn journal_choice<'a>(given: &'a ArgMatches<'_>) -> JournalChoice<'a> {
+    JournalChoice {
+        path: given.get_str("journal"),
+        syncs: given.get_flag("journal-sync"),
     }
 }
 
@@ -158,12 +228,25 @@ fn demo_options(given: &ArgMatches<'_>) -> DemoOptions {
     }
 }
 
+fn log_choice(given: &ArgMatches<'_>) -> LogChoice {
+    match given.get_str("log") {
+        Some("off") => LogChoice::Off,
+        Some("info") => LogChoice::Info,
+        Some("debug") => LogChoice::Debug,
+        _ => LogChoice::Warn,
+    }
+}
+
 fn node_options<'a>(given: &'a ArgMatches<'_>) -> NodeOptions<'a> {
     NodeOptions {
         number: given.get_one::<u32>("number").unwrap_or(0),
         system: text_of(given, "system"),
         store: store_choice(given),
+        is_volatile: given.get_flag("volatile"),
+        journal: journal_choice(given),
         key: given.get_str("key"),
+        status: given.get_str("status"),
+        log: log_choice(given),
         executors: given.get_one::<u32>("executors").unwrap_or(2),
         history: given.get_one::<u32>("history").unwrap_or(100_000),
         turns: given.get_one::<u64>("turns").unwrap_or(u64::MAX),
@@ -175,8 +258,31 @@ fn client_options<'a>(given: &'a ArgMatches<'_>) -> ClientOptions<'a> {
         number: given.get_one::<u32>("number").unwrap_or(0),
         system: text_of(given, "system"),
         store: store_choice(given),
+        journal: journal_choice(given),
         key: given.get_str("key"),
         is_strict: given.get_flag("strict"),
         turns: given.get_one::<u64>("turns").unwrap_or(100_000),
+        lines: given.get_str("lines"),
+        only_cuts: given.get_flag("cut"),
+    }
+}
+
+fn up_options<'a>(given: &'a ArgMatches<'_>) -> UpOptions<'a> {
+    UpOptions {
+        system: text_of(given, "file"),
+        dir: given.get_str("dir"),
+        client: given.get_one::<u32>("client"),
+        is_strict: given.get_flag("strict"),
+    }
+}
+
+fn audit_options<'a>(given: &'a ArgMatches<'_>) -> AuditOptions<'a> {
+    AuditOptions {
+        system: text_of(given, "system"),
+        journals: given.get_strs("journals").unwrap_or(&[]),
+        lists_blocks: given.get_flag("blocks"),
+        chart: given.get_str("chart"),
+        from: given.get_one::<u64>("from").unwrap_or(1),
+        to: given.get_one::<u64>("to").unwrap_or(u64::MAX),
     }
 }

@@ -37,6 +37,8 @@ pub(crate) enum Place {
     RequiredOption,
     /// After `--name`, and never together with this option.
     OptionWithout(&'static str),
+    /// After `--name`, and only together with this option.
+    OptionWith(&'static str),
 }
 
 /// The value of an argument.
@@ -47,6 +49,8 @@ pub(crate) enum Value {
     Text,
     /// The name of a class.
     ClassName,
+    /// One of these words.
+    OneOf(&'static [&'static str]),
     U32,
     U64,
 }

@@ -3,5 +3,7 @@ pub mod State
 pub mod Turning
 pub mod Calls
 pub mod Driving
+pub mod Wishes
 pub mod Waiting
 pub mod Parts
+pub mod Examples

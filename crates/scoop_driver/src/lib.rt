@@ -1,8 +1,9 @@
 //! The driver of a client over a link. In each turn the client sends every due message and receives once; a call
 //! takes turns until it has reached its goal.
 //!
-//! [`Driver`] reserves, calls, queries and ends, and `when` waits for a condition by trying blocks. A [`Diary`]
-//! gets each step that a driver makes: [`NoDiary`] keeps none, a [`StepList`] keeps all.
+//! [`Driver`] reserves, calls, queries and ends. `when` waits for a condition by trying blocks, and `when_all` for one
+//! of several parts, with a [`Pause`] between tries. A [`Diary`] gets each step that a driver makes: [`NoDiary`] keeps
+//! none, a [`StepList`] keeps all.
 //!
 //! ```
 //! // the link leads to handler 1, whose object is an account, and each call takes at most ten turns
@@ -20,19 +21,23 @@
 //! ```
 #![tactic(auto)]
 
+mod condition;
 mod diary;
 mod driver;
 mod error;
+pub mod examples;
 mod law;
 mod logging;
+mod pause;
 mod sending;
 mod step;
 mod wait;
 
+pub use condition::{BodyEntry, Condition, ConditionPart, Test};
 pub use diary::{Diary, NoDiary, StepList};
 pub use driver::Driver;
 pub use error::DriverError;
 pub use law::steps_are_moves;
+pub use pause::{NoPause, Pause};
 pub use scoop_client::{Command, HandlerList};
 pub use step::{Received, Step};
-pub use wait::Condition;

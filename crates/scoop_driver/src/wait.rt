@@ -1,60 +1,72 @@
 //! Blocks that wait for a condition.
 
-ghost use Rattle.std.specs.Prelude.{◌≡◌, ◌≤◌, Err, None, IfSome, find, map, not};
+ghost use Rattle.std.specs.Prelude.{◌≡◌, ◌<◌, ◌≤◌, Err, None, IfSome, find, if◌then◌else◌, length, map, not, []};
 ghost use Rattle.scoop_reserve.specs.Handlers.{has as is_among};
-ghost use Rattle.scoop_driver.specs.Waiting.{holds, wish, first_outside, LoggedBody, Tried, Waits};
+ghost use Rattle.scoop_driver.specs.Wishes.{first_outside, handler_of, queries, wish, wish_for};
+ghost use Rattle.scoop_driver.specs.Waiting.{AsksAll, Keeps, LoggedBody, LoggedEntry, PausesAfter, PausesFor, Tried, Waits, WaitsWith};
 
+use crate::condition::{AsEntry, BodyEntry, Condition, ConditionPart, Test};
 use crate::diary::Diary;
 use crate::driver::Driver;
 use crate::error::DriverError;
+use crate::pause::{NoPause, Pause};
 use scoop_client::ClientError;
 use scoop_link::Link;
 use scoop_message::{Answer, HandlerId, Request};
 use scoop_reserve::has;
 use std::alloc::Allocator;
 
-/// A condition: the handler's answer to the request is a value of at least `least`.
-#[derive(Clone, Copy, Debug, PartialEq, Eq)]
-pub struct Condition {
-    /// The handler of the query.
-    pub handler: HandlerId,
-    /// The query.
-    pub request: Request,
-    /// The least value of the answer.
-    pub least: u64,
-}
-
-fn holds(least: u64, answer: Answer) -> bool
-    ensures { result ≡ holds least answer }
+// The first handler of some entries that the list lacks.
+fn first_unlisted<E: AsEntry>(handlers: &[HandlerId], entries: &[E]) -> Option<HandlerId>
+    ensures { result ≡ find (λ h. not (is_among handlers.now h)) (map (λ e. handler_of (E.entry e)) entries.now) }
 {
-    match answer {
-        Answer::Refused => false,
-        Answer::Value(value) => least <= value,
-    }
-}
-
-// The first handler of some calls that the list lacks.
-fn first_unlisted(handlers: &[HandlerId], body: &[(HandlerId, Request)]) -> Option<HandlerId>
-    ensures { result ≡ find (λ h. not (is_among handlers.now h)) (map (λ x. x.0) body.now) }
-{
-    body.iter()
-        .map(|entry| entry.0)
+    entries
+        .iter()
+        .map(|entry| entry.as_entry().handler())
         .find(|handler| !has(handlers, *handler))
 }
 
 // The first handler that the condition or the body names and the list lacks.
-fn first_outside(
+fn first_outside<E: AsEntry>(
     handlers: &[HandlerId],
-    condition: &Condition,
-    body: &[(HandlerId, Request)],
+    condition: &[ConditionPart],
+    body: &[E],
 ) -> Option<HandlerId>
-    ensures { result ≡ first_outside (wish handlers.now condition.now body.now) }
+    ensures { result ≡ first_outside (wish_for handlers.now condition.now (map E.entry body.now)) }
 {
-    if has(handlers, condition.handler) {
-        first_unlisted(handlers, body)
-    } else {
-        Some(condition.handler)
+    match first_unlisted(handlers, condition) {
+        Some(handler) => Some(handler),
+        None => first_unlisted(handlers, body),
     }
+}
+
+// A pause after this many failed tries. None comes before the first try.
+fn pause_after<P: Pause>(failed: u32, pause: &mut P)
+    ensures { PausesAfter P.paused failed pause.old pause.new }
+{
+    if failed > 0 {
+        pause.pause(failed);
+    }
+}
+
+// The entries to log: all of them if the condition held.
+fn logged<E: AsEntry>(held: bool, body: &[E]) -> &[E]
+    ensures { map E.entry result.now ≡ if held then map E.entry body.now else [] }
+{
+    if held { body } else { &[] }
+}
+
+// Keeps an answer after those that were kept so far. Returns how many are kept then.
+fn keep(answers: &mut [Answer], kept: usize, answer: Option<Answer>) -> usize
+    requires { IfSome answer (λ a. kept < length answers.old) }
+    ensures kept { Keeps answer kept result answers.old answers.new }
+    ensures length { length answers.new ≡ length answers.old }
+{
+    let Some(answer) = answer else {
+        return kept;
+    };
+    answers[kept] = answer;
+    kept + 1
 }
 
 impl<L: Link, D: Diary<A>, A: Allocator + Clone> Driver<L, D, A> {
@@ -78,11 +90,70 @@ impl<L: Link, D: Diary<A>, A: Allocator + Clone> Driver<L, D, A> {
             → Waits (wish handlers.now condition body.now) self.old.turns tries result self.old.seen self.new.seen }
         ensures turns { self.new.turns ≡ self.old.turns }
     {
-        if let Some(handler) = first_outside(handlers, &condition, body) {
+        let part = ConditionPart {
+            handler: condition.handler,
+            request: condition.request,
+            test: Test::Least(condition.least),
+        };
+        self.wait(handlers, &[part], body, &mut [], tries, &mut NoPause)
+    }
+
+    /// Waits for a condition of several parts: tries blocks over these handlers until all parts hold in one, logs the
+    /// body in that block, in order, and ends it. Returns the block's number, from 1, and writes the answers to the
+    /// body's queries into `answers`, in order. In each block the parts are asked in order, up to the first that
+    /// doesn't hold; that block is ended at once, and the driver pauses before the next one. Each reserve, query, call
+    /// and end takes as many turns as it may take alone.
+    ///
+    /// Refuses the first handler of the condition and the body that isn't among the handlers with `NotReserved`,
+    /// before anything else. Returns `ConditionFailed` after `tries` tries.
+    pub fn when_all<P: Pause>(
+        &mut self,
+        handlers: &[HandlerId],
+        condition: &[ConditionPart],
+        body: &[BodyEntry],
+        answers: &mut [Answer],
+        tries: u32,
+        pause: &mut P,
+    ) -> Result<u32, DriverError>
+        requires tries { 1 ≤ tries }
+        requires answers { length answers.old ≡ queries body.now }
+        ensures outside { IfSome (first_outside (wish_for handlers.now condition.now body.now))
+            (λ h. (result ≡ Err (DriverError.Client (ClientError.NotReserved h))) × (self.new ≡ self.old) × (answers.new ≡ answers.old) × (pause.new ≡ pause.old)) }
+        ensures waits { first_outside (wish_for handlers.now condition.now body.now) ≡ None
+            → WaitsWith (wish_for handlers.now condition.now body.now) self.old.turns tries result answers.new self.old.seen self.new.seen }
+        ensures pauses { first_outside (wish_for handlers.now condition.now body.now) ≡ None → PausesFor P.paused tries result pause.old pause.new }
+        ensures turns { self.new.turns ≡ self.old.turns }
+        ensures answers { length answers.new ≡ length answers.old }
+    {
+        self.wait(handlers, condition, body, answers, tries, pause)
+    }
+
+    // The same, with a body in another form.
+    fn wait<E: AsEntry, P: Pause>(
+        &mut self,
+        handlers: &[HandlerId],
+        condition: &[ConditionPart],
+        body: &[E],
+        answers: &mut [Answer],
+        tries: u32,
+        pause: &mut P,
+    ) -> Result<u32, DriverError>
+        requires tries { 1 ≤ tries }
+        requires answers { length answers.old ≡ queries (map E.entry body.now) }
+        ensures outside { IfSome (first_outside (wish_for handlers.now condition.now (map E.entry body.now)))
+            (λ h. (result ≡ Err (DriverError.Client (ClientError.NotReserved h))) × (self.new ≡ self.old) × (answers.new ≡ answers.old) × (pause.new ≡ pause.old)) }
+        ensures waits { first_outside (wish_for handlers.now condition.now (map E.entry body.now)) ≡ None
+            → WaitsWith (wish_for handlers.now condition.now (map E.entry body.now)) self.old.turns tries result answers.new self.old.seen self.new.seen }
+        ensures pauses { first_outside (wish_for handlers.now condition.now (map E.entry body.now)) ≡ None → PausesFor P.paused tries result pause.old pause.new }
+        ensures turns { self.new.turns ≡ self.old.turns }
+        ensures answers { length answers.new ≡ length answers.old }
+    {
+        if let Some(handler) = first_outside(handlers, condition, body) {
             return Err(DriverError::Client(ClientError::NotReserved(handler)));
         }
         for tried in 0..tries {
-            match self.attempt(handlers, &condition, body) {
+            pause_after(tried, pause);
+            match self.attempt(handlers, condition, body, answers) {
                 Ok(true) => return Ok(tried + 1),
                 Ok(false) => {}
                 Err(error) => return Err(error),
@@ -92,50 +163,85 @@ impl<L: Link, D: Diary<A>, A: Allocator + Clone> Driver<L, D, A> {
     }
 
     // One block. Returns whether the condition held.
-    fn attempt(
+    fn attempt<E: AsEntry>(
         &mut self,
         handlers: &[HandlerId],
-        condition: &Condition,
-        body: &[(HandlerId, Request)],
+        condition: &[ConditionPart],
+        body: &[E],
+        answers: &mut [Answer],
     ) -> Result<bool, DriverError>
-        ensures does { Tried (wish handlers.now condition.now body.now) self.old.turns result self.old.seen self.new.seen }
+        requires { queries (map E.entry body.now) ≤ length answers.old }
+        ensures does { Tried (wish_for handlers.now condition.now (map E.entry body.now)) self.old.turns result answers.new self.old.seen self.new.seen }
         ensures turns { self.new.turns ≡ self.old.turns }
+        ensures answers { length answers.new ≡ length answers.old }
     {
         match self.reserve(handlers) {
             Ok(()) => {}
             Err(error) => return Err(error),
         }
-        let answer = match self.query(condition.handler, condition.request) {
-            Ok(answer) => answer,
+        let held = match self.ask_all(condition) {
+            Ok(held) => held,
             Err(error) => return Err(error),
         };
-        if !holds(condition.least, answer) {
-            return match self.end() {
-                Ok(()) => Ok(false),
-                Err(error) => Err(error),
-            };
-        }
-        match self.call_all(body) {
+        match self.log_all(logged(held, body), answers) {
             Ok(()) => {}
             Err(error) => return Err(error),
         }
         match self.end() {
-            Ok(()) => Ok(true),
+            Ok(()) => Ok(held),
             Err(error) => Err(error),
         }
     }
 
-    // Logs calls, in order.
-    fn call_all(&mut self, body: &[(HandlerId, Request)]) -> Result<(), DriverError>
-        ensures does { LoggedBody body.now self.old.turns result self.old.seen self.new.seen }
+    // Asks the parts of a condition, in order, up to the first that doesn't hold. Returns whether all hold.
+    fn ask_all(&mut self, condition: &[ConditionPart]) -> Result<bool, DriverError>
+        ensures does { AsksAll condition.now self.old.turns result self.old.seen self.new.seen }
         ensures turns { self.new.turns ≡ self.old.turns }
     {
-        for entry in body {
-            match self.call(entry.0, entry.1) {
-                Ok(()) => {}
+        for part in condition {
+            let answer = match self.query(part.handler, part.request) {
+                Ok(answer) => answer,
                 Err(error) => return Err(error),
+            };
+            if !part.test.holds(answer) {
+                return Ok(false);
             }
         }
+        Ok(true)
+    }
+
+    // Logs the entries, in order, and writes the answers to the queries.
+    fn log_all<E: AsEntry>(&mut self, body: &[E], answers: &mut [Answer]) -> Result<(), DriverError>
+        requires { queries (map E.entry body.now) ≤ length answers.old }
+        ensures does { LoggedBody (map E.entry body.now) self.old.turns result answers.new self.old.seen self.new.seen }
+        ensures turns { self.new.turns ≡ self.old.turns }
+        ensures answers { length answers.new ≡ length answers.old }
+    {
+        let mut kept = 0;
+        for entry in body {
+            let answer = match self.log_entry(entry.as_entry()) {
+                Ok(answer) => answer,
+                Err(error) => return Err(error),
+            };
+            kept = keep(answers, kept, answer);
+        }
         Ok(())
+    }
+
+    // Logs an entry. Returns the answer to a query.
+    fn log_entry(&mut self, entry: BodyEntry) -> Result<Option<Answer>, DriverError>
+        ensures does { LoggedEntry entry self.old.turns result self.old.seen self.new.seen }
+        ensures turns { self.new.turns ≡ self.old.turns }
+    {
+        match entry {
+            BodyEntry::Call(handler, request) => match self.call(handler, request) {
+                Ok(()) => Ok(None),
+                Err(error) => Err(error),
+            },
+            BodyEntry::Query(handler, request) => match self.query(handler, request) {
+                Ok(answer) => Ok(Some(answer)),
+                Err(error) => Err(error),
+            },
+        }
     }
 }

@@ -8,6 +8,7 @@ mod growths;
 mod node;
 mod turns;
 mod waits;
+mod waits_all;
 
 use scoop_client::Client;
 use scoop_message::{Args, Block, ClientId, HandlerId, Request};

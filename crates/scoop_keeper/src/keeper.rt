@@ -2,8 +2,8 @@
 
 ghost use Rattle.std.specs.Prelude.{◌≡◌, ◌⊎◌, ⊤, ℕ, Option, Result, Some, IfSome, IfOk, IfErr, OnOk, OnErr};
 
-use scoop_handler::HandlerState;
-use scoop_message::{ClientId, HandlerId, OutOfMemory};
+use scoop_handler::{HandlerState, Heard};
+use scoop_message::{ClientId, HandlerId, Message, OutOfMemory};
 use std::alloc::Allocator;
 use std::fmt;
 use thiserror::Error;
@@ -113,4 +113,30 @@ pub trait Keeper<A: Allocator>: Drop {
         ensures handlers { is_honest self.new → Stays (handlers self.old) (handlers self.new) }
         ensures honest { is_honest self.new → is_honest self.old }
         ensures gives { next_gives self.old client result self.new };
+
+    /// Told that a handler heard this message, with this effect, before its new state is stored. A keeper that also writes a
+    /// journal writes the event here, so that it stands there before the state is stored and the reply is sent. Other
+    /// keepers do nothing.
+    ///
+    /// Refused with nothing stored: `OutOfMemory`, `Refused`.
+    fn note_heard(&mut self, _message: &Message, _heard: &Heard) -> Result<(), KeeperError>
+        ensures handlers { is_honest self.new → Stays (handlers self.old) (handlers self.new) }
+        ensures incarnations { is_honest self.new → IsSame (incarnations self.old) (incarnations self.new) }
+        ensures named { IfErr result IsPutError }
+        ensures honest { is_honest self.new → is_honest self.old }
+    {
+        Ok(())
+    }
+
+    /// Told that the entry that left this handler has run, before its new state is stored, as [`Keeper::note_heard`].
+    ///
+    /// Refused with nothing stored: `OutOfMemory`, `Refused`.
+    fn note_finished(&mut self, _handler: HandlerId) -> Result<(), KeeperError>
+        ensures handlers { is_honest self.new → Stays (handlers self.old) (handlers self.new) }
+        ensures incarnations { is_honest self.new → IsSame (incarnations self.old) (incarnations self.new) }
+        ensures named { IfErr result IsPutError }
+        ensures honest { is_honest self.new → is_honest self.old }
+    {
+        Ok(())
+    }
 }

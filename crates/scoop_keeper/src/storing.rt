@@ -9,7 +9,7 @@ ghost use Rattle.scoop_keeper.specs.Storing.{leaves};
 
 use crate::keeper::{Keeper, KeeperError};
 use scoop_handler::{Done, Handler, HandlerState, Heard, Note, Ran};
-use scoop_message::{Message, OutOfMemory};
+use scoop_message::{HandlerId, Message, OutOfMemory};
 use scoop_object::Behaviour;
 use std::alloc::Allocator;
 use thiserror::Error;
@@ -125,6 +125,13 @@ fn hear_over<B: Behaviour, A: Allocator + Copy, K: Keeper<A>>(
     // Shows the prover that the handler is sound.
     let _number = handler.number();
     let heard = handler.hear(message)?;
+    match keeper.note_heard(message, &heard) {
+        Ok(()) => {}
+        Err(error) => {
+            handler.exchange(before);
+            return Err(error);
+        }
+    }
     if is_stored && leaves_state(heard.note) {
         return Ok(heard);
     }
@@ -199,6 +206,24 @@ pub fn hear_and_store<B: Behaviour, A: Allocator + Copy, K: Keeper<A>>(
     hear_over(handler, &mut before, keeper, is_stored, message)
 }
 
+// Tells the keeper that an entry of this handler has run, and stores the state after it.
+fn put_finished<A: Allocator, K: Keeper<A>>(
+    keeper: &mut K,
+    handler: HandlerId,
+    state: &HandlerState<A>,
+) -> Result<(), KeeperError>
+    ensures stored { K.is_honest keeper.new → OnOk result (Keeps (K.handlers keeper.old) (K.handlers keeper.new) state.now) }
+    ensures refused { K.is_honest keeper.new → OnErr result (Stays (K.handlers keeper.old) (K.handlers keeper.new)) }
+    ensures incarnations { K.is_honest keeper.new → IsSame (K.incarnations keeper.old) (K.incarnations keeper.new) }
+    ensures named { IfErr result IsPutError }
+    ensures honest { K.is_honest keeper.new → K.is_honest keeper.old }
+{
+    match keeper.note_finished(handler) {
+        Ok(()) => keeper.put_handler(state),
+        Err(error) => Err(error),
+    }
+}
+
 // Stores the state after a job that is out.
 fn store_after<B: Behaviour, A: Allocator + Copy, K: Keeper<A>>(
     handler: &Handler<B, A>,
@@ -224,7 +249,7 @@ fn store_after<B: Behaviour, A: Allocator + Copy, K: Keeper<A>>(
     }
     let Some(state) = beside else { unreachable!() };
     handler.finish_state(done, state);
-    let refusal = match keeper.put_handler(state) {
+    let refusal = match put_finished(keeper, done.handler(), state) {
         Ok(()) => return Ok(()),
         Err(KeeperError::OutOfMemory) => JobRefusal::OutOfMemory,
         Err(_) => JobRefusal::Refused,

@@ -1,6 +1,8 @@
 -- A list that gathers the results for each element.
-use Rattle.std.proofs.Common.{◌≡◌, List, [], ◌∷◌, ◌++◌, refl, sym, ap, ◌∙◌, append_assoc}
+use Rattle.std.proofs.Common.{◌≡◌, Bool, List, [], ◌∷◌, ◌++◌, refl, sym, ap, ◌∙◌, append_assoc}
 use Rattle.std.proofs.lemmas.List.{append-nil}
+use Rattle.std.proofs.lemmas.List.Elements.{filter-append}
+use Rattle.std.specs.List.{filter}
 use Rattle.scoop_runtime.specs.Beginnings.{gather}
 
 gather_append : {A B : Type 0} (f : A → List B) (xs ys : List A) → gather f (xs ++ ys) ≡ gather f xs ++ gather f ys
@@ -15,3 +17,11 @@ gathered_more f front next h k start ms ns so is same more =
     more ∙ (ap (λ xs. xs ++ f h) so ∙ (append_assoc start (gather f front) (f h)
     ∙ ap (λ xs. start ++ xs) (ap (λ x. gather f front ++ f x) same ∙ (ap (λ xs. gather f front ++ xs) (sym (append-nil (f k)))
     ∙ (sym (gather_append f front (k ∷ [])) ∙ ap (gather f) (sym is))))))
+
+-- the same of those elements that pass a test
+pub filtered_more :
+    {A : Type 0} (p : A → Bool) (front next : List A) (h k : A) (ms ns : List A) → ms ≡ filter p front → next ≡ front ++ k ∷ [] → h ≡ k
+    → ns ≡ ms ++ filter p (h ∷ []) → ns ≡ filter p next
+filtered_more p front next h k ms ns so is same more =
+    more ∙ (ap (λ xs. xs ++ filter p (h ∷ [])) so ∙ (ap (λ x. filter p front ++ filter p (x ∷ [])) same
+    ∙ (sym (filter-append p front (k ∷ [])) ∙ sym (ap (filter p) is))))

@@ -1,4 +1,9 @@
+mod ClientLives
+mod Cut
+mod Driven
 mod Gathered
 mod News
-mod Tries
+mod NodeLives
+mod Inside
+mod Turned
 mod Writing

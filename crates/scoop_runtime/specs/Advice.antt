@@ -19,8 +19,8 @@ use Rattle.scoop_runtime.specs.declared.advice.About.TheVariants.{Store, Address
 use Rattle.scoop_runtime.specs.declared.advice.FileFault.{FileFault}
 use Rattle.scoop_runtime.specs.declared.advice.FileFault.TheVariants as file
 use Rattle.scoop_runtime.specs.declared.error.RuntimeError.{RuntimeError}
-use Rattle.scoop_runtime.specs.declared.error.RuntimeError.TheVariants.{Line, Input, InsideBlock, InsideWhen, Handlers, NoHandler, Ended}
-use Rattle.scoop_runtime.specs.declared.error.RuntimeError.TheVariants.{NotWelcomed, NotAnswered, Refused}
+use Rattle.scoop_runtime.specs.declared.error.RuntimeError.TheVariants.{Line, Input, InsideBlock, InsideWhen, Handlers, NoHandler, OtherStates, Ended}
+use Rattle.scoop_runtime.specs.declared.error.RuntimeError.TheVariants.{NotWelcomed, NotAnswered, Refused, SomeRefused}
 
 -- for an error that no run leads to
 abbrev pub never_advice : List ℕ
@@ -31,16 +31,18 @@ arguments_advice =
     codes "give as many arguments as the operation reads: scoop check shows a0 to a3 for the file's classes, scoop client --help lists the others"
 
 abbrev pub line_advice : LineFault → List ℕ
-line_advice line.UnknownLine = codes "begin the line with reserve, call, query or end, and separate words by spaces: scoop client --help lists all lines"
+line_advice (line.UnknownLine word) =
+    codes "begin the line with reserve, call, query, end, giveup, help or quit, and separate words by spaces: scoop client --help lists all lines"
 line_advice line.WrongNumberOfWords =
-    codes "scoop client --help lists the words of each line; after when write H OP A.. least V tries T"
-line_advice line.NotANumber =
-    codes "write a whole decimal number: operation up to 65535, handler up to 4294967295, tries 1 to 4294967295, argument or least up to 18446744073709551615"
-line_advice line.TooFewArguments = arguments_advice
-line_advice line.TooManyArguments = arguments_advice
+    codes "scoop client --help lists the words of each line; after when write H OP A.. least V tries T, with most or is in place of least, and further conditions after and"
+line_advice (line.NotANumber word) =
+    codes "write a whole decimal number: operation up to 65535, handler up to 4294967295, tries 1 to 4294967295, argument or value of a condition up to 18446744073709551615"
+line_advice (line.TooFewArguments wanted) = arguments_advice
+line_advice (line.TooManyArguments limit) = arguments_advice
 line_advice line.TooManyHandlers = codes "a block has at most 8 handlers: reserve fewer"
-line_advice line.NoSuchOperation = codes "name an operation of the handler's class: scoop check shows those of the file's classes, scoop client --help the others"
-line_advice line.NoSuchHandler = codes "scoop check shows the handlers of the system: name one of them"
+line_advice line.TooManyConditions = codes "a block has at most 8 conditions: ask fewer"
+line_advice (line.NoSuchOperation handler word) = codes "name an operation of the handler's class: scoop check shows those of the file's classes, scoop client --help the others"
+line_advice (line.NoSuchHandler word) = codes "scoop check shows the numbers and names of the system's handlers: write one of them"
 
 abbrev pub begin_advice : BeginError → List ℕ
 begin_advice begin.NoHandlers = codes "add a handler to the system's file"
@@ -84,16 +86,19 @@ abbrev pub advice_text : RuntimeError → List ℕ
 advice_text (Line number fault) = line_advice fault
 advice_text (Input error) = source_advice error.fault
 advice_text InsideBlock =
-    codes "write end after the last line: this block is cut when the client runs again, even with empty input; until then its handlers wait"
+    codes "write end after the last line: a block without it is cut, and runs only what its handlers had received"
 advice_text InsideWhen = codes "write end after the last line, and repeat all lines of this block: nothing of it is done"
 advice_text (Handlers error) = begin_advice error
 advice_text (NoHandler h) =
     codes "it belongs to another party or to a node that was never ready, or the system's file gained the handler later. Name this node's store, or remove the handler from the file. Use --new only if the node was never ready"
+advice_text OtherStates =
+    codes "another program has written this store, or the disk did not keep what was written: end that program, check the disk, and resume with --store. Clients may have had replies that rest on a state that is lost"
 advice_text (NotWelcomed h) =
     codes "it has not welcomed this client. Check that its node runs and that all programs have the same file and key. If this client ran before with another store, resume that one and never this one. Else raise --turns"
 advice_text (NotAnswered h) =
-    codes "it has not answered, or another client's block is in front. Check that its node runs. If a client stopped inside a block, start it again. Else raise --turns"
-advice_text (Refused number) = codes "the last line of the output says why; without --strict a refused line is no fault"
+    codes "it has not answered, or another client's block is in front. Check that its node runs. If a client was killed inside a block, run it with --cut. Else raise --turns"
+advice_text (Refused number) = codes "the last answer in the output says why; without --strict the client goes on after it"
+advice_text (SomeRefused first count) = codes "the answers in the output say why; with --strict the client ends at the first of them"
 advice_text (Ended error) = party_advice error
 
 -- for a node or a client with a store
@@ -122,6 +127,7 @@ party_about error = Nothing
 
 abbrev pub about : RuntimeError → About
 about (NoHandler h) = Store
+about OtherStates = Store
 about (NotWelcomed h) = Handler h
 about (NotAnswered h) = Handler h
 about (Ended error) = party_about error
@@ -137,3 +143,4 @@ file_advice file.NoSystem = codes "fix it there, and run scoop check again"
 file_advice file.NoNode = codes "name a node that scoop check shows, or add this one to the file"
 file_advice file.NoClient = codes "name a client that scoop check shows, or add this one to the file"
 file_advice file.NoKey = codes "openssl rand -hex 32 > FILE writes a key: give all programs of the system the same one"
+file_advice file.NoScript = codes "mend the lines above there, and run the client again"

@@ -1,5 +1,5 @@
 -- Stale replies, and the state of a link that drops them.
-use Rattle.std.specs.Prelude.{◌≡◌, ℕ, not, ◌&&◌, Bool, true, false, List, [], ◌∷◌, map, ◌++◌, bytes_eq, IsTrue, IsFalse, Option, Some, None, Result, Ok, Err}
+use Rattle.std.specs.Prelude.{◌≡◌, ℕ, not, ◌&&◌, Bool, false, List, [], map, ◌++◌, bytes_eq, IsTrue, IsFalse, Option, Some, None, Result, Ok, Err}
 use Rattle.std.specs.Prelude.{if◌then◌else◌}
 use Rattle.std.specs.List.{list_any, list_all}
 use Rattle.scoop_message.specs.declared.name.HandlerId.{HandlerId}

@@ -7,15 +7,27 @@ use Rattle.scoop_client.specs.declared.error.ClientError.TheVariants as of_clien
 use Rattle.scoop_reserve.specs.declared.error.ReserveError.{ReserveError}
 use Rattle.scoop_reserve.specs.declared.error.ReserveError.TheVariants as of_reserve
 use Rattle.scoop_system.specs.declared.line.fault.LineFault.{LineFault}
+use Rattle.scoop_system.specs.System.{Plan}
+use Rattle.scoop_system.specs.LineText.{fault_text_in}
 use Rattle.scoop_runtime.specs.declared.error.RuntimeError.TheVariants.{Line}
 use Rattle.scoop_runtime.specs.declared.reply.Reply.{Reply}
-use Rattle.scoop_runtime.specs.declared.reply.Reply.TheVariants.{Reserved, Logged, Answered, Ended, Noted, EndedAt, ConditionFailed, Refused, NotInWhen}
+use Rattle.scoop_runtime.specs.declared.reply.Reply.TheVariants.{Reserved, Logged, Answered, Ended, Noted, EndedAt, ConditionFailed, GivenUp, Refused, NotInWhen}
 use Rattle.scoop_runtime.specs.Advice.{advice_text}
-use Rattle.scoop_runtime.specs.Errors.{error_text}
 
 abbrev pub lines_text : List ℕ
 lines_text =
-    codes "hint: type reserve H.., call H OP A.., query H OP A.., end, or reserve H.. when H OP A.. least V tries T; control-D ends the client" ++ 10 ∷ []
+    codes "hint: type reserve H.., call H OP A.., query H OP A.., end, or reserve H.. when H OP A.. least V tries T; help lists all lines, and quit ends the client" ++ 10 ∷ []
+
+-- what each line does
+abbrev pub help_text : List ℕ
+help_text =
+    codes "reserve H..        begins a block over these handlers; reserve H.. when H OP A.. least V tries T waits for a condition" ++ (10 ∷
+    codes "call H OP A..      logs a call of an operation, with its arguments" ++ (10 ∷
+    codes "query H OP A..     prints the answer of an operation" ++ (10 ∷
+    codes "end                ends the block, once its handlers have all of it" ++ (10 ∷
+    codes "giveup             drops a block that waits for its condition, or gives back the locks of one that isn't reserved yet" ++ (10 ∷
+    codes "help               prints these lines" ++ (10 ∷
+    codes "quit               ends the client; a block that isn't ended is cut" ++ 10 ∷ []))))))
 
 -- that the client is ready, and which lines there are
 abbrev pub typed_text : ClientId → List ℕ
@@ -25,10 +37,10 @@ typed_text client = codes "scoop: client " ++ (decimal client.0 ++ (codes " is r
 abbrev pub ready_text : Bool → ClientId → List ℕ
 ready_text is_typed client = if is_typed then typed_text client else []
 
--- that the line of this number can't be read, with advice: the same text with which a script ends there
-abbrev pub misread_text : ℕ → LineFault → List ℕ
-misread_text number fault =
-    codes "scoop: " ++ (error_text (Line number fault) ++ (10 ∷ codes "hint: " ++ (advice_text (Line number fault) ++ 10 ∷ [])))
+-- that the line of this number can't be read and what the system has instead, with advice
+abbrev pub misread_text : Plan → ℕ → LineFault → List ℕ
+misread_text s number fault =
+    codes "scoop: line " ++ (decimal number ++ (codes ": " ++ (fault_text_in s fault ++ (10 ∷ codes "hint: " ++ (advice_text (Line number fault) ++ 10 ∷ [])))))
 
 -- how many tries of a waiting block failed
 abbrev pub tried_text : ℕ → List ℕ
@@ -69,8 +81,9 @@ reply_note Ended = []
 reply_note Noted = []
 reply_note (EndedAt n) = []
 reply_note (ConditionFailed n) = []
+reply_note GivenUp = []
 reply_note (Refused e) = codes "hint: " ++ (refusal_advice e ++ 10 ∷ [])
-reply_note NotInWhen = codes "hint: a waiting block takes only calls and end" ++ 10 ∷ []
+reply_note NotInWhen = codes "hint: a waiting block takes only calls, queries, end and giveup" ++ 10 ∷ []
 
 -- a script gets no note
 abbrev pub note_text : Bool → Reply → List ℕ

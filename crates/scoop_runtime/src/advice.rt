@@ -31,7 +31,7 @@ pub enum About {
     Nothing,
 }
 
-/// A fault of a file that the program reads first: the system's, or the key's.
+/// A fault of a file that the program reads first: the system's, the key's, or a script.
 #[derive(Clone, Copy, Debug, PartialEq, Eq)]
 pub enum FileFault {
     /// There is no such file.
@@ -48,6 +48,8 @@ pub enum FileFault {
     NoClient,
     /// It has no key.
     NoKey,
+    /// It is a script with faults.
+    NoScript,
 }
 
 impl FileFault {
@@ -66,6 +68,7 @@ impl FileFault {
             FileFault::NoClient => {
                 "name a client that scoop check shows, or add this one to the file"
             }
+            FileFault::NoScript => "mend the lines above there, and run the client again",
             FileFault::NoKey => {
                 "openssl rand -hex 32 > FILE writes a key: give all programs of the system the same one"
             }
@@ -82,8 +85,7 @@ impl RuntimeError {
             RuntimeError::Line(_, fault) => line_advice(fault),
             RuntimeError::Input(error) => error.fault.advice(),
             RuntimeError::InsideBlock => {
-                "write end after the last line: this block is cut when the client runs again, even with empty input; until then \
-                its handlers wait"
+                "write end after the last line: a block without it is cut, and runs only what its handlers had received"
             }
             RuntimeError::InsideWhen => {
                 "write end after the last line, and repeat all lines of this block: nothing of it is done"
@@ -93,16 +95,23 @@ impl RuntimeError {
                 "it belongs to another party or to a node that was never ready, or the system's file gained the handler later. \
                 Name this node's store, or remove the handler from the file. Use --new only if the node was never ready"
             }
+            RuntimeError::OtherStates => {
+                "another program has written this store, or the disk did not keep what was written: end that program, check the \
+                disk, and resume with --store. Clients may have had replies that rest on a state that is lost"
+            }
             RuntimeError::NotWelcomed(_) => {
                 "it has not welcomed this client. Check that its node runs and that all programs have the same file and key. If \
                 this client ran before with another store, resume that one and never this one. Else raise --turns"
             }
             RuntimeError::NotAnswered(_) => {
-                "it has not answered, or another client's block is in front. Check that its node runs. If a client stopped \
-                inside a block, start it again. Else raise --turns"
+                "it has not answered, or another client's block is in front. Check that its node runs. If a client was killed \
+                inside a block, run it with --cut. Else raise --turns"
             }
             RuntimeError::Refused(_) => {
-                "the last line of the output says why; without --strict a refused line is no fault"
+                "the last answer in the output says why; without --strict the client goes on after it"
+            }
+            RuntimeError::SomeRefused(..) => {
+                "the answers in the output say why; with --strict the client ends at the first of them"
             }
             RuntimeError::Ended(error) => party_advice(error),
         }
@@ -125,7 +134,7 @@ impl RuntimeError {
         ensures { result ≡ about self }
     {
         match self {
-            RuntimeError::NoHandler(_) => About::Store,
+            RuntimeError::NoHandler(_) | RuntimeError::OtherStates => About::Store,
             RuntimeError::NotWelcomed(handler) | RuntimeError::NotAnswered(handler) => {
                 About::Handler(handler)
             }
@@ -170,27 +179,30 @@ fn line_advice(fault: LineFault) -> &'static str
     ensures { result.now ≡ line_advice fault }
 {
     match fault {
-        LineFault::UnknownLine => {
-            "begin the line with reserve, call, query or end, and separate words by spaces: scoop client --help lists all lines"
+        LineFault::UnknownLine(_) => {
+            "begin the line with reserve, call, query, end, giveup, help or quit, and separate words by spaces: scoop client --help \
+            lists all lines"
         }
         LineFault::WrongNumberOfWords => {
-            "scoop client --help lists the words of each line; after when write H OP A.. least V tries T"
+            "scoop client --help lists the words of each line; after when write H OP A.. least V tries T, with most or is in place \
+            of least, and further conditions after and"
         }
-        LineFault::NotANumber => {
+        LineFault::NotANumber(_) => {
             "write a whole decimal number: operation up to 65535, handler up to 4294967295, tries 1 to 4294967295, argument or \
-            least up to 18446744073709551615"
+            value of a condition up to 18446744073709551615"
         }
-        LineFault::TooFewArguments | LineFault::TooManyArguments => {
+        LineFault::TooFewArguments(_) | LineFault::TooManyArguments(_) => {
             "give as many arguments as the operation reads: scoop check shows a0 to a3 for the file's classes, scoop client \
             --help lists the others"
         }
         LineFault::TooManyHandlers => "a block has at most 8 handlers: reserve fewer",
-        LineFault::NoSuchOperation => {
+        LineFault::TooManyConditions => "a block has at most 8 conditions: ask fewer",
+        LineFault::NoSuchOperation(_, _) => {
             "name an operation of the handler's class: scoop check shows those of the file's classes, scoop client --help the \
             others"
         }
-        LineFault::NoSuchHandler => {
-            "scoop check shows the handlers of the system: name one of them"
+        LineFault::NoSuchHandler(_) => {
+            "scoop check shows the numbers and names of the system's handlers: write one of them"
         }
     }
 }

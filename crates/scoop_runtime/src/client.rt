@@ -1,22 +1,32 @@
 //! A client whose commands are the lines of an input.
 
-ghost use Rattle.std.specs.Prelude.{◌≡◌, ◌++◌, IfOk, OnOk};
+ghost use Rattle.std.specs.Prelude.{◌≡◌, ◌++◌, None, Ok, Err, IfOk, OnErr, OnOk, is_some};
+ghost use Rattle.scoop_client.specs.State.{phase_of};
 ghost use Rattle.scoop_keeper.specs.Keeper.{Stays};
 ghost use Rattle.scoop_runtime.specs.Beginnings.{BeginsNext, gather, known_in, placed_on};
+ghost use Rattle.scoop_runtime.specs.ClientLives.{BeginsNone, ClientRan, LivesOn, RunsLives};
+ghost use Rattle.scoop_runtime.specs.Obeying.{Drives};
+ghost use Rattle.scoop_runtime.specs.Progress.{input_ended};
 
+use crate::cutting::{Remains, cut_left, tell_unended};
 use crate::error::RuntimeError;
+use crate::lent_link::LentLink;
 use crate::news_link::NewsLink;
+use crate::patient_link::PatientLink;
 use crate::plan::ClientPlan;
-use crate::progress::{ClientStop, Progress};
-use crate::reply::print_reply;
-use crate::session::Session;
-use crate::typing::{tell_misread, tell_note, tell_ready};
+use crate::progress::{ClientStop, Progress, Unended};
+use crate::reply::{Reply, print_replies};
+use crate::session::{Session, unwritten};
+use crate::trying::Between;
+use crate::typing::{tell_help, tell_misread, tell_note, tell_ready};
 use crate::waiting_link::WaitingLink;
 use arrayvec::ArrayVec;
 use scoop_client::{BeginError, Client};
+use scoop_driver::Pause;
 use scoop_errors::PartyError;
+use scoop_journal::{Journal, Line};
 use scoop_keeper::{Keeper, KeeperError};
-use scoop_lines::LineSource;
+use scoop_lines::{LineBytes, LineSource};
 use scoop_link::{Link, PacedLink, REPEATS};
 use scoop_message::{HandlerId, OutOfMemory};
 use scoop_system::{ClientLine, ClientPlace, HandlerPlace, NodePlace, System, read_line};
@@ -65,8 +75,8 @@ fn add_nodes(
     Ok(())
 }
 
-// The handlers of a system, node by node: the theorem wants every client to know them in this order.
-fn known_handlers(alloc: Global, system: &System) -> Result<Vec<HandlerId>, OutOfMemory>
+/// The handlers of a system, node by node: the theorem wants every client to know them in this order.
+pub(crate) fn known_handlers(alloc: Global, system: &System) -> Result<Vec<HandlerId>, OutOfMemory>
     ensures { IfOk result (λ known. known.items ≡ known_in system.now) }
 {
     let mut known = Vec::new(alloc);
@@ -74,14 +84,31 @@ fn known_handlers(alloc: Global, system: &System) -> Result<Vec<HandlerId>, OutO
     Ok(known)
 }
 
-// A client with its next incarnation, which hasn't greeted any handler.
-fn begin_client<K: Keeper<Global>>(
+// Writes the first line of the client's life into its journal, if there is one.
+fn begin_journal<J: Write + Drop>(
+    life: &Line<'_>,
+    journal: &mut Option<Journal<J>>,
+) -> Result<(), RuntimeError> {
+    let Some(journal) = journal else {
+        return Ok(());
+    };
+    match journal.append(life) {
+        Ok(()) => Ok(()),
+        Err(error) => Err(unwritten(error)),
+    }
+}
+
+/// A client with its next incarnation, which hasn't greeted any handler. The first line of its life is in its journal, if
+/// there is one.
+pub(crate) fn begin_client<K: Keeper<Global>, J: Write + Drop>(
     alloc: Global,
     plan: &ClientPlan<'_>,
     keeper: &mut K,
     known: &[HandlerId],
+    journal: &mut Option<Journal<J>>,
 ) -> Result<Client, RuntimeError>
     ensures begins { IfOk result (BeginsNext plan.now.place.client plan.now.place.batch known.now (K.incarnations keeper.old) (K.incarnations keeper.new) (K.is_honest keeper.new)) }
+    ensures none { OnErr result (BeginsNone plan.now.place.client (K.incarnations keeper.old) (K.incarnations keeper.new) (K.is_honest keeper.new)) }
     ensures handlers { K.is_honest keeper.new → Stays (K.handlers keeper.old) (K.handlers keeper.new) }
     ensures honest { K.is_honest keeper.new → K.is_honest keeper.old }
 {
@@ -91,6 +118,10 @@ fn begin_client<K: Keeper<Global>>(
         Ok(inc) => inc,
         Err(refusal) => return Err(RuntimeError::from(refusal)),
     };
+    match begin_journal(&Line::ClientLife(client, inc, batch), journal) {
+        Ok(()) => {}
+        Err(error) => return Err(error),
+    }
     match Client::begin_batched(alloc, client, inc, known, batch) {
         Ok(client) => Ok(client),
         Err(error) => Err(unbegun(error)),
@@ -107,125 +138,374 @@ fn unbegun(error: BeginError) -> RuntimeError {
     }
 }
 
-// Does what each line of the input asks, writes one reply for each, and records the progress.
-fn obey_lines<L: Link, I: LineSource, W: Write, N: Write>(
+// The lines of a script that were refused: the first one, and how many.
+#[derive(Clone, Copy)]
+struct Refusals {
+    first: u32,
+    count: u32,
+}
+
+impl Refusals {
+    // Counts one more, at this line.
+    fn add(so_far: Option<Refusals>, line: u32) -> Refusals {
+        match so_far {
+            None => Refusals {
+                first: line,
+                count: 1,
+            },
+            Some(Refusals { first, count }) => Refusals {
+                first,
+                count: count.saturating_add(1),
+            },
+        }
+    }
+
+    // The end of the lines of a script. A user who types has seen each refusal.
+    fn ended(so_far: Option<Refusals>, is_typed: bool) -> Result<(), RuntimeError> {
+        match so_far {
+            Some(Refusals { first, count }) if !is_typed => {
+                Err(RuntimeError::SomeRefused(first, count))
+            }
+            _ => Ok(()),
+        }
+    }
+}
+
+// What follows a line.
+#[derive(Clone, Copy, PartialEq, Eq)]
+enum Next {
+    // The next line.
+    Line,
+    // The next line, after one that was refused.
+    LineAfterRefusal,
+    // The end of the client.
+    End,
+}
+
+// Does what the line of this number asks, and writes the reply to it.
+fn read_and_obey<L: Link, J: Write + Drop, P: Pause, W: Write, N: Write>(
     plan: &ClientPlan<'_>,
-    session: &mut Session<L>,
-    lines: &mut I,
+    session: &mut Session<'_, L, J>,
+    line: &LineBytes,
+    number: u32,
     progress: &mut Progress,
+    pause: &mut P,
     writer: &mut W,
     notes: &mut N,
-) -> Result<(), RuntimeError> {
+) -> Result<Next, RuntimeError>
+    ensures { Drives session.old.driver.seen session.new.driver.seen }
+{
+    match read_line(plan.system(), line) {
+        Ok(asked) => {
+            progress.has_begun = true;
+            obey_line(plan, session, &asked, pause, writer, notes)
+        }
+        Err(fault) if plan.is_typed() => {
+            tell_misread(plan.system(), number, fault, notes);
+            Ok(Next::Line)
+        }
+        Err(fault) => Err(RuntimeError::Line(number, fault)),
+    }
+}
+
+// Does what each line of the input asks, writes one reply for each, and records the progress. Returns the lines that were
+// refused.
+fn obey_lines<L: Link, J: Write + Drop, I: LineSource, P: Pause, W: Write, N: Write>(
+    plan: &ClientPlan<'_>,
+    session: &mut Session<'_, L, J>,
+    lines: &mut I,
+    progress: &mut Progress,
+    pause: &mut P,
+    writer: &mut W,
+    notes: &mut N,
+) -> Result<Option<Refusals>, RuntimeError>
+    ensures { Drives session.old.driver.seen session.new.driver.seen }
+{
     let mut line = ArrayVec::new();
+    let mut refusals = None;
     for _ in 0..u64::MAX {
-        let Some(number) = lines.next_line(&mut line)? else {
-            return Ok(());
+        let number = match lines.next_line(&mut line) {
+            Ok(Some(number)) => number,
+            Ok(None) => break,
+            Err(error) => return Err(RuntimeError::Input(error)),
         };
-        let is_refused = match read_line(plan.system(), &line) {
-            Ok(asked) => {
-                progress.has_begun = true;
-                obey_line(plan, session, &asked, writer, notes)?
-            }
-            Err(fault) if plan.is_typed() => {
-                tell_misread(number, fault, notes);
-                false
-            }
-            Err(fault) => return Err(RuntimeError::Line(number, fault)),
+        let obeyed = read_and_obey(plan, session, &line, number, progress, pause, writer, notes);
+        let next = match obeyed {
+            Ok(next) => next,
+            Err(error) => return Err(error),
         };
         progress.has_begun = false;
         progress.answered = Some(number);
-        if is_refused && plan.is_strict() {
-            return Err(RuntimeError::Refused(number));
+        match next {
+            Next::Line => {}
+            Next::LineAfterRefusal if plan.is_strict() => {
+                return Err(RuntimeError::Refused(number));
+            }
+            Next::LineAfterRefusal => refusals = Some(Refusals::add(refusals, number)),
+            Next::End => break,
         }
     }
-    Ok(())
+    Ok(refusals)
 }
 
-// Does what a line asks and writes the reply. Returns whether that is a refusal.
-fn obey_line<L: Link, W: Write, N: Write>(
+// Does what a line asks. There is no reply if the journal doesn't have all that it rests on.
+fn obey<L: Link, J: Write + Drop, P: Pause, N: Write>(
     plan: &ClientPlan<'_>,
-    session: &mut Session<L>,
+    session: &mut Session<'_, L, J>,
     line: &ClientLine,
+    pause: &mut P,
+    notes: &mut N,
+) -> Result<Option<Reply>, RuntimeError>
+    ensures written { OnOk result (session.new.driver.diary.failure ≡ None) }
+    ensures drives { Drives session.old.driver.seen session.new.driver.seen }
+{
+    let obeyed = session.obey(line, &mut Between::new(pause, notes, plan.is_typed()));
+    if let Some(unwritten) = session.unwritten() {
+        return Err(unwritten);
+    }
+    match obeyed {
+        Ok(replied) => Ok(replied),
+        Err(error) => Err(session.ended_by(error, plan.system().handlers())),
+    }
+}
+
+// Does what a line asks and writes the reply.
+fn obey_line<L: Link, J: Write + Drop, P: Pause, W: Write, N: Write>(
+    plan: &ClientPlan<'_>,
+    session: &mut Session<'_, L, J>,
+    line: &ClientLine,
+    pause: &mut P,
     writer: &mut W,
     notes: &mut N,
-) -> Result<bool, RuntimeError> {
-    let replied = match session.obey(line, notes) {
+) -> Result<Next, RuntimeError>
+    ensures { Drives session.old.driver.seen session.new.driver.seen }
+{
+    match line {
+        ClientLine::Help => tell_help(notes),
+        ClientLine::Quit => return Ok(Next::End),
+        _ => {}
+    }
+    let replied = match obey(plan, session, line, pause, notes) {
         Ok(replied) => replied,
-        Err(error) => return Err(session.ended_by(error, plan.system().handlers())),
+        Err(error) => return Err(error),
     };
     let Some(reply) = replied else {
-        return Ok(false);
+        return Ok(Next::Line);
     };
-    if print_reply(&reply, writer).is_err() || writer.flush().is_err() {
+    if print_replies(session.answers(), &reply, writer).is_err() || writer.flush().is_err() {
         return Err(RuntimeError::from(PartyError::Write));
     }
     tell_note(&reply, plan.is_typed(), notes);
-    Ok(reply.is_refusal())
+    if reply.is_refusal() {
+        Ok(Next::LineAfterRefusal)
+    } else {
+        Ok(Next::Line)
+    }
 }
 
-// The link of a client: it drops stale replies, is rate-limited, and reports the handlers that the client waits for.
-fn waiting_link<L: Link, E: Write + Drop>(
+/// The link of a client. It tolerates failed calls, drops stale replies, is rate-limited, and reports the handlers that the
+/// client waits for.
+pub(crate) fn client_link<L: Link, E: Write + Drop>(
     alloc: Global,
     link: L,
     waits: E,
+    faults: E,
     known: &[HandlerId],
-) -> Result<WaitingLink<PacedLink<NewsLink<L>>, E>, OutOfMemory> {
+) -> Result<WaitingLink<PacedLink<NewsLink<PatientLink<L, E>>>, E>, OutOfMemory> {
+    let link = PatientLink::new(link, "client", faults);
     let link = NewsLink::new(alloc, link, known)?;
     let link = PacedLink::new(alloc, link, known.len(), REPEATS)?;
     WaitingLink::new(alloc, link, waits, known.len())
 }
 
 // Greets, and does what the lines ask. Borrows the session, so that no early return has to drop it.
-fn run_session<L: Link, I: LineSource, W: Write, N: Write>(
+#[tactic(auto, using(crate::proofs::Driven::drives_turned))]
+fn run_session<L: Link, J: Write + Drop, I: LineSource, P: Pause, W: Write, N: Write>(
     plan: &ClientPlan<'_>,
-    session: &mut Session<L>,
+    session: &mut Session<'_, L, J>,
+    known: &[HandlerId],
     lines: &mut I,
     progress: &mut Progress,
+    pause: &mut P,
     writer: &mut W,
     notes: &mut N,
-) -> Result<(), RuntimeError> {
-    match session.greet() {
+) -> Result<(), RuntimeError>
+    ensures drives { Drives session.old.driver.seen session.new.driver.seen }
+    ensures ended { OnOk result (input_ended (is_some session.new.wish) (phase_of session.new.driver.seen.client) ≡ Ok (tt {0})) }
+{
+    let greeted = session.greet(known, plan.turns());
+    if let Some(unwritten) = session.unwritten() {
+        return Err(unwritten);
+    }
+    match greeted {
         Ok(()) => progress.is_ready = true,
         Err(error) => return Err(session.ended_by(error, plan.system().handlers())),
     }
     tell_ready(plan.place().client, plan.is_typed(), notes);
-    let obeyed = obey_lines(plan, session, lines, progress, writer, notes);
-    progress.unended = session.unended();
-    obeyed?;
-    progress.unended.error().map_or(Ok(()), Err)
+    let refusals = match obey_lines(plan, session, lines, progress, pause, writer, notes) {
+        Ok(refusals) => refusals,
+        Err(error) => return Err(error),
+    };
+    match session.input_ended() {
+        Ok(()) => Refusals::ended(refusals, plan.is_typed()),
+        Err(error) => Err(error),
+    }
 }
 
-// Begins the client, and runs it.
-fn run_begun<K, L, I, E, W, N>(
+// Runs the client over its link, and gives its locks back at its end. Returns how it ended, and what it left.
+fn run_life<L: Link, J: Write + Drop, I: LineSource, P: Pause, W: Write, N: Write>(
+    alloc: Global,
+    plan: &ClientPlan<'_>,
+    client: Client,
+    link: &mut L,
+    journal: &mut Option<Journal<J>>,
+    known: &[HandlerId],
+    lines: &mut I,
+    progress: &mut Progress,
+    pause: &mut P,
+    writer: &mut W,
+    notes: &mut N,
+) -> (Result<(), RuntimeError>, Remains)
+    ensures { LivesOn client result.0 result.1.left }
+{
+    let link = LentLink::new(link);
+    let mut session = Session::new(alloc, client, link, plan.turns(), journal);
+    let ended = run_session(
+        plan,
+        &mut session,
+        known,
+        lines,
+        progress,
+        pause,
+        writer,
+        notes,
+    );
+    let left = session.leave();
+    let last = session.last_block();
+    (ended, Remains { left, last })
+}
+
+// How a client ended, and what became of the block that it left.
+#[derive(Clone, Copy)]
+struct Ran {
+    ended: Result<(), RuntimeError>,
+    unended: Unended,
+}
+
+// A client that didn't begin.
+fn unbegun_after(error: RuntimeError) -> Ran
+    ensures { (result.ended ≡ Err error) × (result.unended ≡ Unended.Nothing) }
+{
+    Ran {
+        ended: Err(error),
+        unended: Unended::Nothing,
+    }
+}
+
+// Begins the client, runs it, and cuts the block that it left. Borrows what it runs over, so that no early return has to
+// drop it.
+fn run_lives<K, L, J, I, P, W, N>(
+    alloc: Global,
+    plan: &ClientPlan<'_>,
+    keeper: &mut K,
+    link: &mut L,
+    journal: &mut Option<Journal<J>>,
+    known: &[HandlerId],
+    lines: &mut I,
+    progress: &mut Progress,
+    pause: &mut P,
+    writer: &mut W,
+    notes: &mut N,
+) -> Ran
+where
+    K: Keeper<Global>,
+    L: Link,
+    J: Write + Drop,
+    I: LineSource,
+    P: Pause,
+    W: Write,
+    N: Write,
+    ensures lives { RunsLives plan.now.place.client plan.now.place.batch known.now (K.incarnations keeper.old) (K.incarnations keeper.new)
+        (K.is_honest keeper.new) result.ended result.unended }
+    ensures honest { K.is_honest keeper.new → K.is_honest keeper.old }
+{
+    let client = match begin_client(alloc, plan, keeper, known, journal) {
+        Ok(client) => client,
+        Err(error) => return unbegun_after(error),
+    };
+    let (ended, remains) = run_life(
+        alloc, plan, client, link, journal, known, lines, progress, pause, writer, notes,
+    );
+    let unended = cut_left(alloc, plan, keeper, link, journal, known, remains, notes);
+    tell_unended(unended, writer);
+    Ran { ended, unended }
+}
+
+// Makes the client's link, begins the client, runs it, and cuts the block that it left.
+#[tactic(auto, using(crate::proofs::ClientLives::ran_nowhere))]
+fn run_begun<K, L, J, I, E, P, W, N>(
     alloc: Global,
     plan: &ClientPlan<'_>,
     keeper: &mut K,
     link: L,
+    mut journal: Option<Journal<J>>,
     lines: &mut I,
     progress: &mut Progress,
     waits: E,
+    faults: E,
+    pause: &mut P,
     writer: &mut W,
     notes: &mut N,
-) -> Result<(), RuntimeError>
+) -> Ran
 where
     K: Keeper<Global>,
     L: Link,
+    J: Write + Drop,
     I: LineSource,
     E: Write + Drop,
+    P: Pause,
     W: Write,
     N: Write,
+    ensures lives { RunsLives plan.now.place.client plan.now.place.batch (known_in plan.now.system.now) (K.incarnations keeper.old) (K.incarnations keeper.new)
+        (K.is_honest keeper.new) result.ended result.unended }
+    ensures honest { K.is_honest keeper.new → K.is_honest keeper.old }
 {
-    let known = known_handlers(alloc, plan.system())?;
-    let link = waiting_link(alloc, link, waits, &known)?;
-    let client = begin_client(alloc, plan, keeper, &known)?;
-    let mut session = Session::new(alloc, client, link, plan.turns(), plan.is_typed());
-    run_session(plan, &mut session, lines, progress, writer, notes)
+    let known = match known_handlers(alloc, plan.system()) {
+        Ok(known) => known,
+        Err(error) => return unbegun_after(RuntimeError::from(error)),
+    };
+    let mut link = match client_link(alloc, link, waits, faults, &known) {
+        Ok(link) => link,
+        Err(error) => return unbegun_after(RuntimeError::from(error)),
+    };
+    run_lives(
+        alloc,
+        plan,
+        keeper,
+        &mut link,
+        &mut journal,
+        &known,
+        lines,
+        progress,
+        pause,
+        writer,
+        notes,
+    )
 }
 
 /// Runs a client over a link. It takes its next incarnation from the keeper, greets every handler, and then does what each
 /// line of the input asks. It writes one line for each, at once; for a refusal it writes `refused` and why, and goes on.
-/// Repeated datagrams are rate-limited. When nothing new comes for a second, the client writes to `waits` which handlers it
-/// waits for. `notes` is for a user who types the lines. The client then writes there:
+/// It writes its journal, if there is one: a command before it sends anything for it, and what it received before it acts on
+/// it. Repeated datagrams are rate-limited. When nothing new comes for a second, the client writes to `waits` which handlers it
+/// waits for. A call of the link that fails is written to `faults`; only the thousandth in a row ends the client. Between
+/// the tries of a waiting block it pauses with `pause`.
+///
+/// At its end the client leaves no block behind. It gives up a block whose handlers aren't all locked, and writes
+/// `given up 7.1.1`. It cuts every other unended block by greeting the block's handlers with its next incarnation, and writes
+/// `cut 7.1.1`. Each takes at most 500 turns. If a handler doesn't answer, the client writes to `notes` which, and what
+/// frees them. So a run takes at most two incarnations, and has a life with each.
+///
+/// `notes` is also for a user who types the lines. The client then writes there:
 /// - that every handler has welcomed it, and which lines there are;
 /// - each line that can't be read, with advice;
 /// - the meaning of each refusal;
@@ -238,24 +518,34 @@ where
 /// - for a strict client the first line that is refused;
 /// - a fault of the input;
 /// - `InsideBlock` and `InsideWhen` if the input ends inside a block;
-/// - `write fault`, and `out of memory`.
-pub fn client_run<K, L, I, E, W, N>(
+/// - `SomeRefused` after the last line of a script, if lines of it were refused;
+/// - `write fault`, also of the journal, and `out of memory`.
+#[tactic(auto, using(crate::proofs::ClientLives::client_ran_well, crate::proofs::ClientLives::client_ran_early))]
+pub fn client_run<K, L, J, I, E, P, W, N>(
     alloc: Global,
     plan: &ClientPlan<'_>,
     keeper: &mut K,
     link: L,
+    journal: Option<Journal<J>>,
     lines: &mut I,
     waits: E,
+    faults: E,
+    pause: &mut P,
     writer: &mut W,
     notes: &mut N,
 ) -> Result<(), ClientStop>
 where
     K: Keeper<Global>,
     L: Link,
+    J: Write + Drop,
     I: LineSource,
     E: Write + Drop,
+    P: Pause,
     W: Write,
     N: Write,
+    ensures ran { ClientRan plan.now.place.client plan.now.place.batch (known_in plan.now.system.now) (K.incarnations keeper.old) (K.incarnations keeper.new)
+        (K.is_honest keeper.new) result }
+    ensures honest { K.is_honest keeper.new → K.is_honest keeper.old }
 {
     let mut progress = Progress::new();
     let ran = run_begun(
@@ -263,13 +553,17 @@ where
         plan,
         keeper,
         link,
+        journal,
         lines,
         &mut progress,
         waits,
+        faults,
+        pause,
         writer,
         notes,
     );
-    match ran {
+    progress.unended = ran.unended;
+    match ran.ended {
         Ok(()) => Ok(()),
         Err(error) => Err(ClientStop { error, progress }),
     }

@@ -20,7 +20,7 @@ pub enum RuntimeError {
     Line(u32, LineFault),
     /// The input can't be read further.
     Input(SourceError),
-    /// The input ended inside a block, which the client's next incarnation cuts.
+    /// The input ended inside a block.
     InsideBlock,
     /// The input ended inside a block that waits for its condition. Nothing of it is done.
     InsideWhen,
@@ -28,12 +28,16 @@ pub enum RuntimeError {
     Handlers(BeginError),
     /// A node that resumes has no record of this handler.
     NoHandler(HandlerId),
+    /// A node that opened again found other states of its handlers than it had stored.
+    OtherStates,
     /// The client's turns were over before this handler welcomed it.
     NotWelcomed(HandlerId),
     /// The turns of a line were over; this is the first handler of the system to which a message was due.
     NotAnswered(HandlerId),
-    /// The client refused the line of this number, and is strict.
+    /// The line of this number was refused, and the client is strict.
     Refused(u32),
+    /// Lines of a script were refused: the number of the first one, and how many.
+    SomeRefused(u32, u32),
     /// A fault of the link, the loop, the driver or the store, or out of memory.
     Ended(PartyError),
 }
@@ -41,16 +45,17 @@ pub enum RuntimeError {
 impl RuntimeError {
     ghost use Rattle.scoop_runtime.specs.Errors.{status_of};
 
-    /// The program's exit status. It is 1 after a fault of the input, an input that ends inside a block, or a refused line
-    /// of a strict client; else 3.
+    /// The program's exit status. It is 1 after a fault of the input, an input that ends inside a block, or refused lines;
+    /// else 3.
     pub fn status(self) -> u8
         ensures { result ≡ status_of self }
     {
         match self {
             RuntimeError::Line(..) | RuntimeError::Input(_) => 1,
-            RuntimeError::InsideBlock | RuntimeError::InsideWhen | RuntimeError::Refused(_) => 1,
+            RuntimeError::InsideBlock | RuntimeError::InsideWhen => 1,
+            RuntimeError::Refused(_) | RuntimeError::SomeRefused(..) => 1,
             RuntimeError::Handlers(_) => 3,
-            RuntimeError::NoHandler(_) => 3,
+            RuntimeError::NoHandler(_) | RuntimeError::OtherStates => 3,
             RuntimeError::NotWelcomed(_) | RuntimeError::NotAnswered(_) => 3,
             RuntimeError::Ended(error) => error.status(),
         }
@@ -67,9 +72,7 @@ impl fmt::Display for RuntimeError {
         match self {
             RuntimeError::Line(number, fault) => write!(f, "line {number}: {fault}"),
             RuntimeError::Input(SourceError { line, fault }) => write!(f, "line {line}: {fault}"),
-            RuntimeError::InsideBlock => f.write_str(
-                "the input ended inside a block, which is left to the next incarnation",
-            ),
+            RuntimeError::InsideBlock => f.write_str("the input ended inside a block"),
             RuntimeError::InsideWhen => f.write_str(
                 "the input ended inside a waiting block, and nothing of it is done",
             ),
@@ -82,10 +85,14 @@ impl fmt::Display for RuntimeError {
             }
             RuntimeError::Handlers(BeginError::OutOfMemory) => f.write_str("out of memory"),
             RuntimeError::NoHandler(handler) => write!(f, "store: NoHandler {handler}"),
+            RuntimeError::OtherStates => f.write_str("store: OtherStates"),
             RuntimeError::NotWelcomed(_) | RuntimeError::NotAnswered(_) => {
                 f.write_str("link: TurnsOver")
             }
             RuntimeError::Refused(number) => write!(f, "line {number}: refused"),
+            RuntimeError::SomeRefused(first, count) => {
+                write!(f, "line {first}: refused, the first of {count}")
+            }
             RuntimeError::Ended(error) => write!(f, "{error}"),
         }
     }

@@ -1,20 +1,18 @@
 //! A node of a system, served over a record.
 
-ghost use Rattle.std.specs.Prelude.{◌≤◌, IfOk, vec_len};
+ghost use Rattle.std.specs.Prelude.{IfOk};
+ghost use Rattle.scoop_runtime.specs.NodeLives.{GoesFurther, GoesOn, NodeRan};
 
+use crate::ending::{Ending, EndingLink};
 use crate::error::RuntimeError;
-use crate::openings::{require_handlers, store_openings};
 use crate::patient_link::PatientLink;
+use crate::pending::{Resting, open_node, run_all, run_first};
 use crate::plan::{NodePlan, Serving};
 use crate::printing::{print_closed, print_ready, print_reopened};
-use scoop_book::{Book, BookError, Node, OpenError, Pass};
-use scoop_client::BeginError;
 use scoop_errors::PartyError;
-use scoop_keeper::{Keeper, KeeperError};
+use scoop_keeper::Keeper;
 use scoop_link::Link;
-use scoop_message::HandlerId;
-use scoop_netloop::{OpenGate, ServeEnd, Stop, run_out, serve};
-use scoop_object::Table;
+use scoop_netloop::{OpenGate, ServeEnd, Stop, serve};
 use std::alloc::Global;
 use std::io;
 use std::io::Write;
@@ -22,138 +20,30 @@ use std::sync::Wait;
 use std::thread::Threads;
 use std::time::Clock;
 
-// The pass of the entries that run before the node is served.
-const FIRST_PASS: u32 = 0;
-
-// The error for handlers that don't open.
-fn unopened(error: OpenError) -> RuntimeError {
-    match error {
-        OpenError::WrongClass(handler) => RuntimeError::Ended(PartyError::WrongClass(handler)),
-        OpenError::Keeper(refusal) => RuntimeError::from(refusal),
-        OpenError::OutOfMemory => RuntimeError::Ended(PartyError::OutOfMemory),
-        OpenError::Repeated(handler) => RuntimeError::Handlers(BeginError::Repeated(handler)),
-        OpenError::NoPasses => RuntimeError::Ended(PartyError::NoThread),
-    }
-}
-
-// The error for handlers that can't run what is pending.
-fn unrun(error: BookError) -> RuntimeError {
-    RuntimeError::Ended(match error {
-        BookError::HistoryFull => PartyError::Loop(ServeEnd::HistoryFull),
-        BookError::NodeFailed | BookError::UnknownHandler => {
-            PartyError::Loop(ServeEnd::NodeFailed)
-        }
-        BookError::StoreRefused => PartyError::Store(KeeperError::Refused),
-        BookError::OutOfMemory => PartyError::OutOfMemory,
-    })
-}
-
-// Runs what is pending, handler after handler. Returns the handlers that are left; the history was full at the first.
-fn run_some<'h, K: Keeper<Global>>(
-    book: &mut Book<Table, K>,
-    handlers: &'h [HandlerId],
-) -> Result<&'h [HandlerId], BookError> {
-    for (place, handler) in handlers.iter().enumerate() {
-        match run_out(book, FIRST_PASS, *handler) {
-            Ok(()) => {}
-            Err(BookError::HistoryFull) => return Ok(&handlers[place..]),
-            Err(error) => return Err(error),
-        }
-    }
-    Ok(&handlers[handlers.len()..])
-}
-
-// Opens the handlers over the keeper and runs what is pending at `left`. Returns the keeper and the handlers that are
-// still left.
-fn run_once<'h, K: Keeper<Global>>(
-    alloc: Global,
-    plan: &NodePlan,
-    keeper: K,
-    left: &'h [HandlerId],
-) -> Result<(K, &'h [HandlerId]), RuntimeError> {
-    let mut book = match Book::open(alloc, plan.objects(alloc)?, keeper) {
-        Ok(book) => book,
-        Err(error) => return Err(unopened(error)),
-    };
-    match run_some(&mut book, left) {
-        Ok(left) => Ok((book.into_keeper(), left)),
-        Err(error) => Err(unrun(error)),
-    }
-}
-
-// Runs the entries that a node took but didn't run before it was killed or its history was full. No client would send
-// them again, since they are acknowledged. Each pass over the handlers opens them anew, with an empty history.
-fn run_all<K: Keeper<Global>, R: Wait>(
-    rt: &R,
-    alloc: Global,
-    plan: &NodePlan,
-    mut keeper: K,
-) -> Result<K, RuntimeError> {
-    let mut left = plan.numbers.as_slice();
-    for _ in rt.forever() {
-        let (kept, rest) = run_once(alloc, plan, keeper, left)?;
-        if rest.is_empty() {
-            return Ok(kept);
-        }
-        keeper = kept;
-        left = rest;
-    }
-    unreachable!()
-}
-
-// Prepares a node's record: it has every handler, and nothing is pending.
-fn run_first<K: Keeper<Global>, R: Wait>(
-    rt: &R,
-    alloc: Global,
-    plan: &NodePlan,
-    serving: &Serving,
-    mut keeper: K,
-) -> Result<K, RuntimeError> {
-    if serving.goes_on() {
-        require_handlers(plan, &mut keeper)?;
-    } else {
-        store_openings(alloc, plan, &mut keeper)?;
-    }
-    run_all(rt, alloc, plan, keeper)
-}
-
-// Opens the node over this keeper, with enough passes for a loop.
-fn open_node<K: Keeper<Global>>(
-    alloc: Global,
-    plan: &NodePlan,
-    serving: &Serving,
-    keeper: K,
-) -> Result<(Node<Table, K>, Vec<Pass>), RuntimeError>
-    ensures { IfOk result (λ opened. 2 ≤ vec_len opened.1) }
-{
-    let handlers = plan.objects(alloc)?;
-    match Node::open_limited(alloc, handlers, keeper, serving.passes(), serving.history()) {
-        Ok(opened) => Ok(opened),
-        Err(error) => Err(unopened(error)),
-    }
-}
-
-// Serves the node until its history is full, its turns are over or it fails, and closes it. Returns why it ended, and
+// Serves the node until its history is full, its turns are over, it is asked to end or it fails, and closes it. Returns why it ended, and
 // the keeper.
 fn serve_once<K, L, R>(
     rt: &R,
     alloc: Global,
     plan: &NodePlan,
     serving: &Serving,
-    keeper: K,
+    resting: Resting<K>,
     link: &mut L,
     turns: u64,
-) -> Result<(ServeEnd, K), RuntimeError>
+    ending: &Ending,
+) -> Result<(ServeEnd, Resting<K>), RuntimeError>
 where
     K: Keeper<Global> + Send,
     L: Link,
     R: Threads + Wait + Clock + Sync,
+    ensures { IfOk result (λ r. GoesFurther K.handlers K.is_honest resting.stood resting.keeper r.1.stood r.1.keeper) }
 {
-    let (node, passes) = open_node(alloc, plan, serving, keeper)?;
+    let (node, passes) = open_node(alloc, plan, serving, resting)?;
     let stop = Stop::new();
-    let (end, passes) = serve(rt, alloc, &node, link, passes, &OpenGate, &stop, turns);
-    match node.close(rt, passes) {
-        Ok(closed) => Ok((end, closed.keeper)),
+    let mut link = EndingLink::new(link, ending, &stop);
+    let (end, passes) = serve(rt, alloc, &node, &mut link, passes, &OpenGate, &stop, turns);
+    match node.close_standing(rt, passes) {
+        Ok((keeper, stood)) => Ok((end, Resting { keeper, stood })),
         Err(error) => Err(RuntimeError::from(PartyError::from(error.cause))),
     }
 }
@@ -172,39 +62,43 @@ fn reopen<K: Keeper<Global>, W: Write, R: Wait>(
     rt: &R,
     alloc: Global,
     plan: &NodePlan,
-    keeper: K,
+    resting: Resting<K>,
     writer: &mut W,
-) -> Result<K, RuntimeError> {
-    let keeper = run_all(rt, alloc, plan, keeper)?;
+) -> Result<Resting<K>, RuntimeError>
+    ensures { IfOk result (λ r. GoesOn K.handlers K.is_honest resting.stood resting.keeper r.stood r.keeper) }
+{
+    let resting = run_all(rt, alloc, plan, resting)?;
     let written = print_reopened(plan.place.number, writer);
     told(written, writer)?;
-    Ok(keeper)
+    Ok(resting)
 }
 
-// Serves the node, opening by opening, until its turns are over. Borrows the link, so that no early return has to drop
+// Serves the node, opening by opening, until its turns are over or it is asked to end. Borrows the link, so that no early return has to drop
 // it.
 fn serve_on<K, L, E, W, R>(
     rt: &R,
     alloc: Global,
     plan: &NodePlan,
     serving: &Serving,
-    mut keeper: K,
+    mut resting: Resting<K>,
     link: &mut PatientLink<L, E>,
     writer: &mut W,
-) -> Result<K, RuntimeError>
+    ending: &Ending,
+) -> Result<Resting<K>, RuntimeError>
 where
     K: Keeper<Global> + Send,
     L: Link,
     E: Write + Drop,
     W: Write,
     R: Threads + Wait + Clock + Sync,
+    ensures { IfOk result (λ r. GoesFurther K.handlers K.is_honest resting.stood resting.keeper r.stood r.keeper) }
 {
     for _ in rt.forever() {
         let turns = serving.turns().saturating_sub(link.receives());
-        let (end, kept) = serve_once(rt, alloc, plan, serving, keeper, link, turns)?;
+        let (end, kept) = serve_once(rt, alloc, plan, serving, resting, link, turns, ending)?;
         match end {
-            ServeEnd::HistoryFull => keeper = reopen(rt, alloc, plan, kept, writer)?,
-            ServeEnd::TurnsOver => return Ok(kept),
+            ServeEnd::HistoryFull => resting = reopen(rt, alloc, plan, kept, writer)?,
+            ServeEnd::TurnsOver | ServeEnd::Stopped => return Ok(kept),
             end => return Err(RuntimeError::from(end)),
         }
     }
@@ -224,6 +118,7 @@ where
 /// Refused, without the keeper:
 /// - `store: NoHandler` if a node that resumes has no record of a handler;
 /// - `store: WrongClass` if a handler's stored words don't fit its class;
+/// - `store: OtherStates` if a node that opens again finds other states of its handlers than it stored;
 /// - what the keeper refuses;
 /// - a loop that ends in another way, and a node that can't be closed;
 /// - `write fault`, and `out of memory`.
@@ -243,13 +138,40 @@ where
     E: Write + Drop,
     W: Write,
     R: Threads + Wait + Clock + Sync,
+    ensures { IfOk result (NodeRan K.handlers K.is_honest plan.now.members.items keeper) }
 {
-    let mut link = PatientLink::new(link, notes);
-    let keeper = run_first(rt, alloc, plan, serving, keeper)?;
+    let ending = Ending::new();
+    node_run_until(
+        rt, alloc, plan, serving, keeper, link, notes, writer, &ending,
+    )
+}
+
+/// The same for a node that another thread may ask to end: then it serves no further, and closes.
+pub fn node_run_until<K, L, E, W, R>(
+    rt: &R,
+    alloc: Global,
+    plan: &NodePlan,
+    serving: &Serving,
+    keeper: K,
+    link: L,
+    notes: E,
+    writer: &mut W,
+    ending: &Ending,
+) -> Result<K, RuntimeError>
+where
+    K: Keeper<Global> + Send,
+    L: Link,
+    E: Write + Drop,
+    W: Write,
+    R: Threads + Wait + Clock + Sync,
+    ensures { IfOk result (NodeRan K.handlers K.is_honest plan.now.members.items keeper) }
+{
+    let mut link = PatientLink::new(link, "node", notes);
+    let resting = run_first(rt, alloc, plan, serving, keeper)?;
     let written = print_ready(&plan.place, &plan.numbers, writer);
     told(written, writer)?;
-    let keeper = serve_on(rt, alloc, plan, serving, keeper, &mut link, writer)?;
+    let resting = serve_on(rt, alloc, plan, serving, resting, &mut link, writer, ending)?;
     let written = print_closed(plan.place.number, writer);
     told(written, writer)?;
-    Ok(keeper)
+    Ok(resting.keeper)
 }

@@ -1,9 +1,10 @@
 //! The record of a node's handlers before the node opens.
 
-ghost use Rattle.std.specs.Prelude.{◌≡◌, IfOk, IfSome, OnOk, Some, None, Ok};
+ghost use Rattle.std.specs.Prelude.{◌≡◌, ℕ, IfOk, IfSome, OnOk, Some, None, Ok};
 ghost use Rattle.std.specs.List.{AllByRecursion};
 ghost use Rattle.scoop_handler.specs.State.{new_state};
 ghost use Rattle.scoop_keeper.specs.Keeper.{IsTheOne, Keeps, Missing, Stays, stored_of};
+ghost use Rattle.scoop_runtime.specs.NodeLives.{Gained, GainedAt};
 ghost use Rattle.scoop_runtime.specs.Records.{HasState, LacksState};
 
 use crate::error::RuntimeError;
@@ -44,6 +45,8 @@ pub(crate) fn require_handlers<K: Keeper<Global>>(
     keeper: &mut K,
 ) -> Result<(), RuntimeError>
     ensures all { K.is_honest keeper.new → OnOk result (AllByRecursion (HasState (K.handlers keeper.old)) plan.now.numbers.items) }
+    ensures handlers { K.is_honest keeper.new → Stays (K.handlers keeper.old) (K.handlers keeper.new) }
+    ensures honest { K.is_honest keeper.new → K.is_honest keeper.old }
 {
     match missing_handler(&plan.numbers, keeper) {
         Ok(None) => Ok(()),
@@ -58,7 +61,8 @@ fn put_opening<K: Keeper<Global>>(
     opening: (HandlerId, Class, Table),
     keeper: &mut K,
 ) -> Result<(), RuntimeError>
-    ensures { K.is_honest keeper.new → OnOk result (Keeps (K.handlers keeper.old) (K.handlers keeper.new) (new_state opening.0 opening.2.words)) }
+    ensures keeps { K.is_honest keeper.new → OnOk result (Keeps (K.handlers keeper.old) (K.handlers keeper.new) (new_state opening.0 opening.2.words)) }
+    ensures honest { K.is_honest keeper.new → K.is_honest keeper.old }
 {
     let (number, class, object) = opening;
     let state = match Handler::new(alloc, number, class, object) {
@@ -76,7 +80,10 @@ fn store_opening<K: Keeper<Global>>(
     alloc: Global,
     member: &Member,
     keeper: &mut K,
-) -> Result<(), RuntimeError> {
+) -> Result<(), RuntimeError>
+    ensures gained { K.is_honest keeper.new → OnOk result (Gained (K.handlers keeper.old) (K.handlers keeper.new) member.now) }
+    ensures honest { K.is_honest keeper.new → K.is_honest keeper.old }
+{
     match keeper.load_handler(member.handler) {
         Ok(Some(_)) => Ok(()),
         Ok(None) => put_opening(alloc, member.open(alloc)?, keeper),
@@ -90,7 +97,10 @@ pub(crate) fn store_openings<K: Keeper<Global>>(
     alloc: Global,
     plan: &NodePlan,
     keeper: &mut K,
-) -> Result<(), RuntimeError> {
+) -> Result<(), RuntimeError>
+    ensures gained { K.is_honest keeper.new → OnOk result ((h : ℕ) → GainedAt (K.handlers keeper.old) (K.handlers keeper.new) plan.now.members.items h) }
+    ensures honest { K.is_honest keeper.new → K.is_honest keeper.old }
+{
     for member in &plan.members {
         store_opening(alloc, member, keeper)?;
     }

@@ -1,4 +1,4 @@
-//! A node's link that tolerates faults.
+//! A link that tolerates faults.
 
 ghost use Rattle.std.specs.Prelude.{◌≡◌, ◌≤◌, ◌+◌, ◌++◌, ◌∷◌, [], None, IfOk, IfSome, OnErr, OnOk};
 ghost use Rattle.std.specs.Io.KnownBytes.{Appends};
@@ -14,24 +14,32 @@ use std::io::Write;
 // At this many failed calls in a row this link fails too.
 const MAX_IN_A_ROW: u32 = 1_000;
 
-/// A node's link that tolerates faults. A call of the link below may fail, as a send to a client that can't be reached. It
-/// writes a note then, and the datagram is lost; only the thousandth in a row is a fault. Notes that can't be written are
-/// lost. It counts its receives, each of which is a turn of the node's loop, and doesn't record its datagrams.
+// The next note on a failed call comes after this many receives. Over UDP that is a second at most.
+const NOTE_EVERY: u64 = 100;
+
+/// A node's or a client's link that tolerates faults. A call of the link below may fail, as a send to a party that can't be
+/// reached. The datagram is lost then; only the thousandth failure in a row is a fault. It writes a note on the first
+/// failure, and later ones at least a hundred receives apart. Notes that can't be written are lost. It counts its receives,
+/// each of which is a turn of its party, and doesn't record its datagrams.
 #[derive(Drop)]
 pub(crate) struct PatientLink<L: Link, E: Write + Drop> {
     inner: L,
+    party: &'static str,
     notes: E,
+    quiet_until: u64,
     in_a_row: u32,
     receives: u64,
     faults: u64,
 }
 
 impl<L: Link, E: Write + Drop> PatientLink<L, E> {
-    /// The link, none of whose calls has failed.
-    pub(crate) fn new(inner: L, notes: E) -> PatientLink<L, E> {
+    /// The link of a `node` or a `client`, none of whose calls has failed.
+    pub(crate) fn new(inner: L, party: &'static str, notes: E) -> PatientLink<L, E> {
         PatientLink {
             inner,
+            party,
             notes,
+            quiet_until: 0,
             in_a_row: 0,
             receives: 0,
             faults: 0,
@@ -43,12 +51,23 @@ impl<L: Link, E: Write + Drop> PatientLink<L, E> {
         self.receives
     }
 
-    // Notes a failed call.
+    // Writes that a call has failed, unless another note was written just before.
+    fn tell(&mut self)
+        ensures inner { self.new.inner ≡ self.old.inner }
+        ensures faults { self.new.faults ≡ self.old.faults }
+    {
+        if self.receives >= self.quiet_until {
+            self.quiet_until = self.receives.saturating_add(NOTE_EVERY);
+            tell_fault(self.party, &mut self.notes);
+        }
+    }
+
+    // Counts a failed call.
     fn fail(&mut self) -> Result<(), LinkFault>
         ensures counted { CountsFault result self.old.faults self.new.faults }
         ensures inner { self.new.inner ≡ self.old.inner }
     {
-        tell_fault(&mut self.notes);
+        self.tell();
         self.in_a_row = self.in_a_row.saturating_add(1);
         if self.in_a_row < MAX_IN_A_ROW || self.faults == u64::MAX {
             return Ok(());
@@ -59,15 +78,15 @@ impl<L: Link, E: Write + Drop> PatientLink<L, E> {
 }
 
 // Writes that a call has failed.
-fn print_fault<W: Write>(writer: &mut W) -> io::Result<()>
-    ensures { OnOk result (Appends (W.contents writer.old) (W.contents writer.new) fault_text) }
+fn print_fault<W: Write>(party: &str, writer: &mut W) -> io::Result<()>
+    ensures { OnOk result (Appends (W.contents writer.old) (W.contents writer.new) (fault_text party.now)) }
 {
-    writer.write_all(b"scoop: link: LinkFault, and the node goes on\n")
+    writeln!(writer, "scoop: link: LinkFault, and the {party} goes on")
 }
 
 // Writes the same and flushes. A note that can't be written is lost.
-fn tell_fault<W: Write>(writer: &mut W) {
-    if print_fault(writer).is_ok() {
+fn tell_fault<W: Write>(party: &str, writer: &mut W) {
+    if print_fault(party, writer).is_ok() {
         let _flushed = writer.flush();
     }
 }

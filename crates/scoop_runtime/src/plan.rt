@@ -3,6 +3,8 @@
 ghost use Rattle.std.specs.Prelude.{◌≡◌, ◌≤◌, ◌+◌, true, false, length, IfOk, MatchResult, Some, None};
 ghost use Rattle.scoop_message.specs.declared.limits.TheConstants.{MAX_ENTRIES, MAX_HANDLERS, MAX_HISTORY};
 ghost use Rattle.scoop_runtime.specs.declared.ranges.TheConstants.{MAX_EXECUTORS};
+ghost use Rattle.std.specs.List.{AllZip};
+ghost use Rattle.scoop_runtime.specs.NodeLives.{IsMemberObject};
 ghost use Rattle.scoop_runtime.specs.Ranges.{client_fault, serving_fault};
 
 use crate::error::RuntimeError;
@@ -11,7 +13,7 @@ use scoop_client::BeginError;
 use scoop_errors::PartyError;
 use scoop_message::limits::MAX_HANDLERS;
 use scoop_message::{HandlerId, OutOfMemory, Words};
-use scoop_object::{Class, Table};
+use scoop_object::{Behaviour, Class, Table};
 use scoop_system::{ClientPlace, HandlerPlace, NodePlace, System};
 use std::alloc::Global;
 
@@ -115,7 +117,9 @@ pub(crate) struct Member {
 
 impl Member {
     /// The handler with its class and a new object.
-    pub(crate) fn open(&self, alloc: Global) -> Result<(HandlerId, Class, Table), RuntimeError> {
+    pub(crate) fn open(&self, alloc: Global) -> Result<(HandlerId, Class, Table), RuntimeError>
+        ensures { IfOk result (IsMemberObject ⟦<Table as Behaviour>⟧.words self.now) }
+    {
         let class = self.class.copy_in(alloc)?;
         match Table::new(self.class.copy_in(alloc)?, self.words) {
             Ok(object) => Ok((self.handler, class, object)),
@@ -163,12 +167,20 @@ impl NodePlan {
         })
     }
 
+    /// The handlers, in the order of the file.
+    pub fn handlers(&self) -> &[HandlerId]
+        ensures { result.now ≡ self.now.numbers.items }
+    {
+        &self.numbers
+    }
+
     /// The handlers with their classes and new objects.
     pub(crate) fn objects(
         &self,
         alloc: Global,
     ) -> Result<Vec<(HandlerId, Class, Table)>, RuntimeError>
-        ensures { IfOk result (λ handlers. length handlers.items ≤ MAX_HANDLERS) }
+        ensures few { IfOk result (λ handlers. length handlers.items ≤ MAX_HANDLERS) }
+        ensures members { IfOk result (λ handlers. AllZip (IsMemberObject ⟦<Table as Behaviour>⟧.words) self.now.members.items handlers.items) }
     {
         let mut handlers = Vec::new(alloc);
         for member in &self.members {
@@ -246,7 +258,9 @@ impl<'a> ClientPlan<'a> {
     }
 
     /// The system.
-    pub fn system(&self) -> &'a System {
+    pub fn system(&self) -> &'a System
+        ensures { result.now ≡ self.now.system.now }
+    {
         self.system
     }
 

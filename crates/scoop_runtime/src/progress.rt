@@ -1,20 +1,25 @@
 //! The progress of a client through its lines.
 
 ghost use Rattle.std.specs.Prelude.{◌≡◌};
-ghost use Rattle.scoop_runtime.specs.Progress.{begun_text, ended_inside, goes_on_text};
+ghost use Rattle.scoop_runtime.specs.Progress.{begun_text};
 
 use crate::error::RuntimeError;
+use scoop_message::Block;
 use std::fmt;
 
-/// The block that a client hasn't ended.
+/// What became of the block that a client hasn't ended.
 #[derive(Clone, Copy, Debug, PartialEq, Eq)]
 pub enum Unended {
     /// There is none.
     Nothing,
-    /// A block, which the next incarnation cuts.
-    Block,
     /// The lines of a block that waits for its condition. Nothing of it is done.
     When,
+    /// A block whose handlers weren't all locked. It is given up, and no handler holds it.
+    GivenUp(Block),
+    /// A block that is cut at each of its handlers.
+    Cut(Block),
+    /// A block that isn't cut at all of its handlers, since some didn't answer.
+    Held(Block),
 }
 
 /// The progress of a client through its lines. The program prints it after the error that ended the client.
@@ -26,7 +31,7 @@ pub struct Progress {
     pub answered: Option<u32>,
     /// Whether the next line was begun: it may be done or not.
     pub has_begun: bool,
-    /// The block that isn't ended.
+    /// The block that isn't ended, and what became of it.
     pub unended: Unended,
 }
 
@@ -37,19 +42,6 @@ pub struct ClientStop {
     pub error: RuntimeError,
     /// The progress.
     pub progress: Progress,
-}
-
-impl Unended {
-    /// The error for an input that ends here. `None` if no block is unended.
-    pub(crate) fn error(self) -> Option<RuntimeError>
-        ensures { result ≡ ended_inside self }
-    {
-        match self {
-            Unended::Nothing => None,
-            Unended::Block => Some(RuntimeError::InsideBlock),
-            Unended::When => Some(RuntimeError::InsideWhen),
-        }
-    }
 }
 
 impl Progress {
@@ -75,17 +67,31 @@ fn begun_text(has_begun: bool) -> &'static str
     }
 }
 
-// The words on the block, and the advice.
-fn goes_on_text(unended: Unended) -> &'static str
-    ensures { result.now ≡ goes_on_text unended }
-{
-    match unended {
-        Unended::Nothing => ": resume with --store",
-        Unended::Block => {
-            ", and the next incarnation cuts the block: resume with --store, and begin with reserve"
-        }
-        Unended::When => {
-            ", and nothing of the waiting block is done: resume with --store, and begin with its reserve"
+// Prints the words on the block, and the advice.
+impl fmt::Display for Unended {
+    ghost use Rattle.std.specs.Prelude.{Some};
+    ghost use Rattle.scoop_runtime.specs.Progress.{unended_text};
+
+    ghost output = { λ u. Some (unended_text u) };
+
+    fn fmt<W: fmt::Write>(&self, f: &mut fmt::Formatter<W>) -> fmt::Result {
+        match self {
+            Unended::Nothing => f.write_str(": resume with --store"),
+            Unended::When => f.write_str(
+                ", and nothing of the waiting block is done: resume with --store, and begin with its reserve",
+            ),
+            Unended::GivenUp(block) => write!(
+                f,
+                ", and block {block} is given up: resume with --store, and begin with its reserve"
+            ),
+            Unended::Cut(block) => write!(
+                f,
+                ", and block {block} is cut: resume with --store, and begin with reserve"
+            ),
+            Unended::Held(block) => write!(
+                f,
+                ", and block {block} may be open still: run the client with --store and --cut"
+            ),
         }
     }
 }
@@ -104,12 +110,12 @@ impl fmt::Display for Progress {
             );
         }
         let begun = begun_text(self.has_begun);
-        let goes_on = goes_on_text(self.unended);
+        let unended = self.unended;
         match self.answered {
-            None => write!(f, "no line was answered{begun}{goes_on}"),
+            None => write!(f, "no line was answered{begun}{unended}"),
             Some(line) => write!(
                 f,
-                "the lines up to line {line} were answered{begun}{goes_on}"
+                "the lines up to line {line} were answered{begun}{unended}"
             ),
         }
     }

@@ -3,7 +3,7 @@
 ghost use Rattle.std.specs.Prelude.{◌≡◌, OnOk};
 ghost use Rattle.std.specs.Io.KnownBytes.{Appends};
 ghost use Rattle.scoop_runtime.specs.Answering.{is_refusal};
-ghost use Rattle.scoop_runtime.specs.Texts.{refusal_text, reply_text};
+ghost use Rattle.scoop_runtime.specs.Texts.{answers_text, refusal_text, replies_text, reply_text};
 
 use scoop_client::ClientError;
 use scoop_errors::{client_name, client_number};
@@ -16,7 +16,8 @@ use std::io::Write;
 pub enum Reply {
     /// The block is open at each of its handlers.
     Reserved(Block),
-    /// The handler has acknowledged the call: the entry of this number in the block's log there.
+    /// The call is in the client's log, as the entry of this number for the handler. The block's end waits until the handler
+    /// has acknowledged it.
     Logged(HandlerId, u32),
     /// The query has this answer.
     Answered(Answer),
@@ -28,20 +29,25 @@ pub enum Reply {
     EndedAt(u32),
     /// The condition held at none of these tries.
     ConditionFailed(u32),
+    /// The block is given up: its locks are given back, or nothing of a waiting block is done.
+    GivenUp,
     /// The client refuses the command, and goes on.
     Refused(ClientError),
-    /// A block that waits for its condition takes only calls and its end.
+    /// A block that waits for its condition takes only calls, queries, its end and `giveup`.
     NotInWhen,
 }
 
 impl Reply {
-    /// Whether the client refused the line, or a block's condition failed. An object's refusal is an answer.
+    /// Whether the client refused the line, the object refused the query, or a block's condition failed.
     pub(crate) fn is_refusal(&self) -> bool
         ensures { result ≡ is_refusal self.now }
     {
         matches!(
             self,
-            Reply::Refused(_) | Reply::NotInWhen | Reply::ConditionFailed(_)
+            Reply::Refused(_)
+                | Reply::NotInWhen
+                | Reply::ConditionFailed(_)
+                | Reply::Answered(Answer::Refused)
         )
     }
 }
@@ -58,7 +64,7 @@ fn print_refusal<W: Write>(error: &ClientError, writer: &mut W) -> io::Result<()
 }
 
 /// Writes the line of a reply: `reserved 7.1.1`, `logged 2 1`, `answer 150` or `answer refused`, `ended`, `noted`,
-/// `ended 3`, `condition failed 10`, or `refused` and why.
+/// `ended 3`, `condition failed 10`, `given up`, or `refused` and why.
 pub fn print_reply<W: Write>(reply: &Reply, writer: &mut W) -> io::Result<()>
     ensures { OnOk result (Appends (W.contents writer.old) (W.contents writer.new) (reply_text reply.now)) }
 {
@@ -70,7 +76,30 @@ pub fn print_reply<W: Write>(reply: &Reply, writer: &mut W) -> io::Result<()>
         Reply::Noted => writeln!(writer, "noted"),
         Reply::EndedAt(tried) => writeln!(writer, "ended {tried}"),
         Reply::ConditionFailed(tries) => writeln!(writer, "condition failed {tries}"),
+        Reply::GivenUp => writeln!(writer, "given up"),
         Reply::Refused(error) => print_refusal(error, writer),
         Reply::NotInWhen => writeln!(writer, "refused NotInWhen"),
     }
+}
+
+// Writes an answer line for each answer.
+fn print_answers<W: Write>(answers: &[Answer], writer: &mut W) -> io::Result<()>
+    ensures { OnOk result (Appends (W.contents writer.old) (W.contents writer.new) (answers_text answers.now)) }
+{
+    for answer in answers {
+        print_reply(&Reply::Answered(*answer), writer)?;
+    }
+    Ok(())
+}
+
+/// Writes an answer line for each answer, and then the line of the reply.
+pub(crate) fn print_replies<W: Write>(
+    answers: &[Answer],
+    reply: &Reply,
+    writer: &mut W,
+) -> io::Result<()>
+    ensures { OnOk result (Appends (W.contents writer.old) (W.contents writer.new) (replies_text answers.now reply.now)) }
+{
+    print_answers(answers, writer)?;
+    print_reply(reply, writer)
 }

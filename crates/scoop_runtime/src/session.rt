@@ -1,51 +1,47 @@
 //! A client session driven by text lines.
 
-ghost use Rattle.std.specs.Prelude.{◌≡◌, None, Ok, Err, OnOk, IsFalse, IfOk, IfErr, IfSome, ◌≤◌, is_some};
-ghost use Rattle.scoop_client.specs.Due.{due};
+ghost use Rattle.std.specs.Prelude.{◌≡◌, None, Ok, Err, OnOk, IsFalse, IsTrue, IfOk, IfErr, IfSome, ◌≤◌, is_some};
 ghost use Rattle.scoop_client.specs.State.{phase_of};
 ghost use Rattle.scoop_runtime.specs.Answering.{answered};
-ghost use Rattle.scoop_system.specs.declared.line.ClientLine.TheVariants.{Blank};
-ghost use Rattle.scoop_runtime.specs.Obeying.{CallDoes, DoesInside, DoesOutside, EndDoes, Obeys, QueryDoes, ReserveDoes, TakesTurnsOnly, TriesOn, TriesOut};
-ghost use Rattle.scoop_runtime.specs.Obeying.{TryDoes, WhenDoes, tried_as};
-ghost use Rattle.scoop_runtime.specs.Progress.{unended_of};
+ghost use Rattle.scoop_runtime.specs.Obeying.{CallDoes, DoesInside, DoesOutside, Drives, EndDoes, GiveUpDoes, NoteDoes, Obeys, QueryDoes, ReserveDoes};
+ghost use Rattle.scoop_runtime.specs.Obeying.{TakesTurnsOnly, TryDoes, WhenDoes, is_quiet};
+ghost use Rattle.scoop_runtime.specs.Progress.{input_ended};
 ghost use Rattle.scoop_runtime.specs.Silence.{ended_by, first_awaited, over_at};
 ghost use Rattle.scoop_runtime.specs.Unlocking.{is_unlock, owes_unlock};
 
 use crate::error::RuntimeError;
 use crate::last_block::LastBlock;
-use crate::progress::Unended;
 use crate::reply::Reply;
-use crate::trying::tell_tried;
 use crate::wish::Wish;
 use scoop_client::{Client, ClientError, Phase};
-use scoop_driver::{Condition, Driver, DriverError};
+use scoop_driver::{BodyEntry, Driver, DriverError, Pause};
 use scoop_errors::PartyError;
+use scoop_journal::{AppendError, Journal};
 use scoop_link::Link;
-use scoop_message::{HandlerId, Message, OutOfMemory, Request};
+use scoop_message::{Answer, HandlerId, Message, OutOfMemory, Request};
 use scoop_reserve::ReserveError;
-use scoop_system::{ClientLine, HandlerPlace, NamedHandlers};
+use scoop_system::{ClientLine, HandlerPlace, NamedCondition, NamedConditions, NamedHandlers};
 use std::alloc::Global;
 use std::io::Write;
 
-// A client reports at most this often how many tries of a block failed: after 10, 100, and so on, up to 10^9.
-const MAX_REPORTS: u32 = 9;
-
 /// A client over its link, with the block that waits for its condition, if there is one.
 #[derive(Drop)]
-pub(crate) struct Session<L: Link> {
+pub(crate) struct Session<'j, L: Link, J: Write + Drop> {
     alloc: Global,
-    driver: Driver<L, LastBlock>,
+    pub(crate) driver: Driver<L, LastBlock<'j, J>>,
     turns: u64,
-    wish: Option<Wish>,
-    is_typed: bool,
+    pub(crate) wish: Option<Wish>,
+    answers: Vec<Answer>,
 }
 
-// The number of the last entry of a Log.
-fn last_logged(message: &Message) -> Option<u32> {
-    let Message::Log(_, _, first, entries) = message else {
-        return None;
-    };
-    first.checked_add(entries.len() as u32)?.checked_sub(1)
+// Whether the line gives the client nothing to do.
+fn is_quiet(line: &ClientLine) -> bool
+    ensures { result ≡ is_quiet line.now }
+{
+    matches!(
+        line,
+        ClientLine::Blank | ClientLine::Help | ClientLine::Quit
+    )
 }
 
 // Whether an Unlock is due.
@@ -68,11 +64,27 @@ fn answered(error: DriverError) -> Result<Reply, DriverError>
     }
 }
 
-// After how many failed tries the next report comes: ten times as many as at the last one.
-fn next_report(failed: u32) -> u32
-    ensures { failed ≤ result }
+// Notes an entry of the body. Returns the reply to its line.
+fn noted(wish: &mut Wish, entry: &BodyEntry) -> Result<Reply, DriverError>
+    ensures { NoteDoes wish.old wish.new entry.now result }
 {
-    failed.max(1).saturating_mul(10)
+    match wish.note(entry) {
+        Ok(true) => Ok(Reply::Noted),
+        Ok(false) => Ok(Reply::Refused(ClientError::NotReserved(entry.handler()))),
+        Err(_) => Err(DriverError::Client(ClientError::OutOfMemory)),
+    }
+}
+
+// Gives the block its condition. Refuses the first part whose handler the block lacks.
+fn ask_all(wish: &mut Wish, conditions: &[NamedCondition]) -> Result<(), DriverError> {
+    for condition in conditions {
+        match wish.ask(condition) {
+            Ok(true) => {}
+            Ok(false) => return Err(DriverError::Client(ClientError::NotReserved(condition.asked))),
+            Err(_) => return Err(DriverError::Client(ClientError::OutOfMemory)),
+        }
+    }
+    Ok(())
 }
 
 // The error with which a session ends when its turns are over, by the client's phase and the handler that it waits for.
@@ -86,50 +98,62 @@ fn over_at(phase: Phase, awaited: Option<HandlerId>) -> RuntimeError
     }
 }
 
-impl<L: Link> Session<L> {
-    /// The client over the link. Each call takes at most `turns`. If a user types the lines, the session reports how many
-    /// tries of a waiting block failed.
+/// The error for a line of the journal that isn't written.
+pub(crate) fn unwritten(error: AppendError) -> RuntimeError {
+    match error {
+        AppendError::OutOfMemory => RuntimeError::from(OutOfMemory),
+        AppendError::NoFrame | AppendError::Write => RuntimeError::from(PartyError::Write),
+    }
+}
+
+impl<'j, L: Link, J: Write + Drop> Session<'j, L, J> {
+    /// The client over the link. Each call takes at most `turns`. Each step is written into the journal, if there is one.
     pub(crate) fn new(
         alloc: Global,
         client: Client,
         link: L,
         turns: u64,
-        is_typed: bool,
-    ) -> Session<L> {
+        journal: &'j mut Option<Journal<J>>,
+    ) -> Session<'j, L, J>
+        ensures { result.driver.seen.client ≡ client }
+    {
         Session {
             alloc,
-            driver: Driver::with_diary(client, link, turns, LastBlock::new()),
+            driver: Driver::with_diary(client, link, turns, LastBlock::new(journal)),
             turns,
             wish: None,
-            is_typed,
+            answers: Vec::new(alloc),
         }
     }
 
-    /// Takes turns until each handler has welcomed the client.
-    pub(crate) fn greet(&mut self) -> Result<(), DriverError> {
-        for _ in 0..self.turns {
-            if self.driver.phase() != Phase::Greeting {
-                return Ok(());
-            }
-            self.driver.turn()?;
+    /// The error for a line of the journal that isn't written, if there is one.
+    pub(crate) fn unwritten(&self) -> Option<RuntimeError>
+        ensures { result ≡ None → self.now.driver.diary.failure ≡ None }
+    {
+        match self.driver.diary().failure() {
+            Some(error) => Some(unwritten(error)),
+            None => None,
         }
-        if self.driver.phase() == Phase::Greeting {
-            return Err(DriverError::TurnsOver);
-        }
-        Ok(())
     }
 
-    /// The block that the client hasn't ended.
-    pub(crate) fn unended(&self) -> Unended
-        ensures { result ≡ unended_of (is_some self.now.wish) (phase_of self.now.driver.seen.client) }
+    /// The end of the input: refused inside a block.
+    pub(crate) fn input_ended(&self) -> Result<(), RuntimeError>
+        ensures { result ≡ input_ended (is_some self.now.wish) (phase_of self.now.driver.seen.client) }
     {
         if self.wish.is_some() {
-            return Unended::When;
+            return Err(RuntimeError::InsideWhen);
         }
         match self.driver.phase() {
-            Phase::Idle => Unended::Nothing,
-            _ => Unended::Block,
+            Phase::Idle => Ok(()),
+            _ => Err(RuntimeError::InsideBlock),
         }
+    }
+
+    /// The answers to the queries of a waiting block, in order, if the last line ended one.
+    pub(crate) fn answers(&self) -> &[Answer]
+        ensures { result.now ≡ self.now.answers.items }
+    {
+        &self.answers
     }
 
     /// The error with which the session ends after an error of the driver. When the turns are over, it names the first of
@@ -154,31 +178,33 @@ impl<L: Link> Session<L> {
     }
 
     /// Does what a line asks, and returns the reply to it; a line without words has none. A refusal of the client is a
-    /// reply too. The errors are those after which the session can't go on.
-    pub(crate) fn obey<N: Write>(
+    /// reply too. Pauses between the tries of a waiting block. The errors are those after which the session can't go on.
+    pub(crate) fn obey<P: Pause>(
         &mut self,
         line: &ClientLine,
-        notes: &mut N,
+        pause: &mut P,
     ) -> Result<Option<Reply>, DriverError>
-        ensures replied { IfOk result (λ replied. IfSome replied (λ reply. Obeys line.now self.old.wish self.old.driver.turns (Ok reply) self.old.driver.seen self.new.driver.seen)) }
-        ensures ended { IfErr result (λ e. Obeys line.now self.old.wish self.old.driver.turns (Err e) self.old.driver.seen self.new.driver.seen) }
-        ensures blank { result ≡ Ok None → (line.now ≡ Blank) × (self.new.driver.seen ≡ self.old.driver.seen) }
+        ensures replied { IfOk result (λ replied. IfSome replied (λ reply. Obeys line.now self.old.wish self.old.driver.turns (Ok reply) self.new.answers.items self.old.driver.seen self.new.driver.seen)) }
+        ensures ended { IfErr result (λ e. Obeys line.now self.old.wish self.old.driver.turns (Err e) self.new.answers.items self.old.driver.seen self.new.driver.seen) }
+        ensures quiet { result ≡ Ok None → IsTrue (is_quiet line.now) × (self.new.driver.seen ≡ self.old.driver.seen) }
+        ensures drives { Drives self.old.driver.seen self.new.driver.seen }
     {
-        if matches!(line, ClientLine::Blank) {
+        self.answers.clear();
+        if is_quiet(line) {
             return Ok(None);
         }
-        match self.reply_to(line, notes) {
+        match self.reply_to(line, pause) {
             Ok(reply) => Ok(Some(reply)),
             Err(error) => Err(error),
         }
     }
 
     // Does what a line asks, and returns the reply to what came of it.
-    fn reply_to<N: Write>(&mut self, line: &ClientLine, notes: &mut N) -> Result<Reply, DriverError>
-        ensures { Obeys line.now self.old.wish self.old.driver.turns result self.old.driver.seen self.new.driver.seen }
+    fn reply_to<P: Pause>(&mut self, line: &ClientLine, pause: &mut P) -> Result<Reply, DriverError>
+        ensures { Obeys line.now self.old.wish self.old.driver.turns result self.new.answers.items self.old.driver.seen self.new.driver.seen }
     {
         let outcome = match self.wish.take() {
-            Some(wish) => self.obey_inside(wish, line, notes),
+            Some(wish) => self.obey_inside(wish, line, pause),
             None => self.obey_outside(line),
         };
         match outcome {
@@ -188,24 +214,25 @@ impl<L: Link> Session<L> {
     }
 
     // Does what a line asks inside a block that waits for its condition.
-    fn obey_inside<N: Write>(
+    fn obey_inside<P: Pause>(
         &mut self,
         mut wish: Wish,
         line: &ClientLine,
-        notes: &mut N,
+        pause: &mut P,
     ) -> Result<Reply, DriverError>
-        ensures { DoesInside line.now wish result self.old.driver.seen self.new.driver.seen }
+        ensures { DoesInside line.now wish result self.new.answers.items self.old.driver.seen self.new.driver.seen }
     {
         let reply = match line {
-            ClientLine::End => return self.end_wish(&wish, notes),
-            ClientLine::Call(handler, request) => match wish.note(*handler, *request) {
-                Ok(true) => Reply::Noted,
-                Ok(false) => Reply::Refused(ClientError::NotReserved(*handler)),
-                Err(_) => return Err(DriverError::Client(ClientError::OutOfMemory)),
-            },
-            ClientLine::Blank => Reply::NotInWhen,
+            ClientLine::End => return self.end_wish(&wish, pause),
+            ClientLine::Call(handler, request) => {
+                noted(&mut wish, &BodyEntry::Call(*handler, *request))?
+            }
+            ClientLine::Query(handler, request) => {
+                noted(&mut wish, &BodyEntry::Query(*handler, *request))?
+            }
+            ClientLine::GiveUp => return Ok(Reply::GivenUp),
+            ClientLine::Blank | ClientLine::Help | ClientLine::Quit => Reply::NotInWhen,
             ClientLine::Reserve(_) => Reply::NotInWhen,
-            ClientLine::Query(_, _) => Reply::NotInWhen,
             ClientLine::ReserveWhen { .. } => Reply::NotInWhen,
         };
         self.wish = Some(wish);
@@ -217,25 +244,17 @@ impl<L: Link> Session<L> {
         ensures { DoesOutside line.now self.old.driver.turns result self.old.driver.seen self.new.driver.seen }
     {
         match line {
-            ClientLine::Blank => Ok(Reply::Noted),
+            ClientLine::Blank | ClientLine::Help | ClientLine::Quit => Ok(Reply::Noted),
             ClientLine::Reserve(handlers) => self.reserve(handlers),
             ClientLine::Call(handler, request) => self.call(*handler, *request),
             ClientLine::Query(handler, request) => self.query(*handler, *request),
             ClientLine::End => self.end(),
+            ClientLine::GiveUp => self.give_back(),
             ClientLine::ReserveWhen {
                 handlers,
-                asked,
-                request,
-                least,
+                conditions,
                 tries,
-            } => {
-                let condition = Condition {
-                    handler: *asked,
-                    request: *request,
-                    least: *least,
-                };
-                self.wish_for(handlers, condition, *tries)
-            }
+            } => self.wish_for(handlers, conditions, *tries),
         }
     }
 
@@ -255,6 +274,16 @@ impl<L: Link> Session<L> {
     {
         match self.driver.end() {
             Ok(()) => Ok(Reply::Ended),
+            Err(error) => Err(error),
+        }
+    }
+
+    // Gives up the block, and takes turns until its locks are given back.
+    fn give_back(&mut self) -> Result<Reply, DriverError>
+        ensures { GiveUpDoes result self.old.driver.seen self.new.driver.seen }
+    {
+        match self.give_up(self.turns) {
+            Ok(()) => Ok(Reply::GivenUp),
             Err(error) => Err(error),
         }
     }
@@ -309,50 +338,23 @@ impl<L: Link> Session<L> {
             .any(|handler| is_unlock(self.driver.due(*handler)))
     }
 
-    // Logs a call, and takes turns until nothing is due to its handler: then the call is acknowledged. An Unlock may be due
-    // there before it.
+    // Logs a call. Later turns send it and get its acknowledgement; the end of the block waits for that.
     fn call(&mut self, handler: HandlerId, request: Request) -> Result<Reply, DriverError>
-        ensures acknowledged { OnOk result (due self.new.driver.seen.client handler ≡ None) }
-        ensures does { CallDoes handler request self.old.driver.turns result self.old.driver.seen self.new.driver.seen }
+        ensures { CallDoes handler request self.old.driver.turns result self.old.driver.seen self.new.driver.seen }
     {
         match self.driver.call(handler, request) {
             Ok(()) => {}
             Err(error) => return Err(error),
         }
-        match self.acknowledge(handler) {
-            Ok(number) => Ok(Reply::Logged(handler, number)),
-            Err(error) => Err(error),
-        }
-    }
-
-    // Takes turns until nothing is due to the handler. Returns the number of the entry that was logged there last, as
-    // far as it was due.
-    fn acknowledge(&mut self, handler: HandlerId) -> Result<u32, DriverError>
-        ensures acknowledged { OnOk result (due self.new.driver.seen.client handler ≡ None) }
-        ensures turned { TakesTurnsOnly self.old.driver.seen self.new.driver.seen }
-    {
-        let mut number = 0;
-        for taken in 0..self.turns {
-            match self.driver.due(handler) {
-                Some(message) => number = last_logged(&message).unwrap_or(number),
-                None => return Ok(number),
-            }
-            match self.driver.turn() {
-                Ok(_) => {}
-                Err(error) => return Err(error),
-            }
-        }
-        match self.driver.due(handler) {
-            Some(_) => Err(DriverError::TurnsOver),
-            None => Ok(number),
-        }
+        let number = self.driver.diary().last_number(handler);
+        Ok(Reply::Logged(handler, number))
     }
 
     // Begins a block that waits for its condition. Its lines are noted until its end.
     fn wish_for(
         &mut self,
         handlers: &NamedHandlers,
-        condition: Condition,
+        conditions: &NamedConditions,
         tries: u32,
     ) -> Result<Reply, DriverError>
         ensures { WhenDoes result self.old.driver.seen self.new.driver.seen }
@@ -360,74 +362,40 @@ impl<L: Link> Session<L> {
         if self.driver.phase() != Phase::Idle {
             return Err(DriverError::Client(ClientError::NotIdle));
         }
-        let asked = condition.handler;
-        let Some(wish) = Wish::new(self.alloc, *handlers, condition, tries) else {
-            return Err(DriverError::Client(ClientError::NotReserved(asked)));
-        };
+        let mut wish = Wish::new(self.alloc, *handlers, tries);
+        match ask_all(&mut wish, conditions.as_slice()) {
+            Ok(()) => {}
+            Err(error) => return Err(error),
+        }
         self.wish = Some(wish);
         Ok(Reply::Noted)
     }
 
     // Ends the lines of a block that waits for its condition: tries it.
-    fn end_wish<N: Write>(&mut self, wish: &Wish, notes: &mut N) -> Result<Reply, DriverError>
-        ensures { TryDoes wish.now result self.old.driver.seen self.new.driver.seen }
+    fn end_wish<P: Pause>(&mut self, wish: &Wish, pause: &mut P) -> Result<Reply, DriverError>
+        ensures { TryDoes wish.now result self.new.answers.items self.old.driver.seen self.new.driver.seen }
     {
-        match self.try_out(wish, notes) {
+        if wish.tries() == 0 {
+            return Err(DriverError::ConditionFailed(0));
+        }
+        match self.answers.resize(wish.queries(), Answer::Refused) {
+            Ok(()) => {}
+            Err(_) => return Err(DriverError::Client(ClientError::OutOfMemory)),
+        }
+        let ended = self.driver.when_all(
+            wish.handlers(),
+            wish.condition(),
+            wish.body(),
+            &mut self.answers,
+            wish.tries(),
+            pause,
+        );
+        match ended {
             Ok(tried) => Ok(Reply::EndedAt(tried)),
-            Err(error) => Err(error),
-        }
-    }
-
-    // Tries the block until its condition holds, and reports from time to time how many tries failed. Returns the try at
-    // which it held, or `ConditionFailed`.
-    fn try_out<N: Write>(&mut self, wish: &Wish, notes: &mut N) -> Result<u32, DriverError>
-        ensures { TriesOut (tried_as wish.now) wish.now.tries result self.old.driver.seen self.new.driver.seen }
-    {
-        let mut failed = 0;
-        for reported in 0..MAX_REPORTS {
-            let report = next_report(failed);
-            if wish.tries() <= report {
-                break;
+            Err(error) => {
+                self.answers.clear();
+                Err(error)
             }
-            match self.try_until(wish, failed, report) {
-                Ok(Some(tried)) => return Ok(tried),
-                Ok(None) => {}
-                Err(error) => return Err(error),
-            }
-            failed = report;
-            tell_tried(failed, self.is_typed, notes);
-        }
-        match self.try_until(wish, failed, wish.tries()) {
-            Ok(Some(tried)) => Ok(tried),
-            Ok(None) => Err(DriverError::ConditionFailed(wish.tries())),
-            Err(error) => Err(error),
-        }
-    }
-
-    // Tries the block until its condition holds or it was tried `tries` times; `failed` tries came before. Returns the try
-    // at which it held, if it did. A block with no try left is left alone.
-    fn try_until(
-        &mut self,
-        wish: &Wish,
-        failed: u32,
-        tries: u32,
-    ) -> Result<Option<u32>, DriverError>
-        ensures later { IfOk result (λ held. IfSome held (λ tried. failed ≤ tried)) }
-        ensures does { TriesOn (tried_as wish.now) failed tries result self.old.driver.seen self.new.driver.seen }
-    {
-        if tries <= failed {
-            return Ok(None);
-        }
-        let more = tries - failed;
-        match self
-            .driver
-            .when(wish.handlers(), wish.condition(), wish.body(), more)
-        {
-            Ok(tried) => Ok(Some(failed + tried)),
-            Err(DriverError::ConditionFailed(_)) => Ok(None),
-            Err(DriverError::Client(error)) => Err(DriverError::Client(error)),
-            Err(DriverError::TurnsOver) => Err(DriverError::TurnsOver),
-            Err(DriverError::LinkFault) => Err(DriverError::LinkFault),
         }
     }
 }

@@ -2,14 +2,14 @@
 
 ghost use Rattle.std.specs.Prelude.{◌≡◌, OnOk};
 ghost use Rattle.std.specs.Io.KnownBytes.{Appends};
-ghost use Rattle.scoop_runtime.specs.Typing.{misread_text, note_text, ready_text, refusal_advice, reply_note, reserve_advice, typed_text};
+ghost use Rattle.scoop_runtime.specs.Typing.{help_text, misread_text, note_text, ready_text, refusal_advice, reply_note, reserve_advice, typed_text};
 
 use crate::error::RuntimeError;
 use crate::reply::Reply;
 use scoop_client::ClientError;
 use scoop_message::ClientId;
 use scoop_reserve::ReserveError;
-use scoop_system::LineFault;
+use scoop_system::{LineFault, LineFaultIn, System};
 use std::io;
 use std::io::Write;
 
@@ -21,7 +21,23 @@ fn print_lines<N: Write>(client: ClientId, notes: &mut N) -> io::Result<()>
         notes,
         "scoop: client {client} is ready\n\
         hint: type reserve H.., call H OP A.., query H OP A.., end, or reserve H.. when H OP A.. least V tries T; \
-        control-D ends the client"
+        help lists all lines, and quit ends the client"
+    )
+}
+
+// Writes what each line does.
+fn print_help<N: Write>(notes: &mut N) -> io::Result<()>
+    ensures { OnOk result (Appends (N.contents notes.old) (N.contents notes.new) help_text) }
+{
+    notes.write_all(
+        b"\
+reserve H..        begins a block over these handlers; reserve H.. when H OP A.. least V tries T waits for a condition\n\
+call H OP A..      logs a call of an operation, with its arguments\n\
+query H OP A..     prints the answer of an operation\n\
+end                ends the block, once its handlers have all of it\n\
+giveup             drops a block that waits for its condition, or gives back the locks of one that isn't reserved yet\n\
+help               prints these lines\n\
+quit               ends the client; a block that isn't ended is cut\n",
     )
 }
 
@@ -36,13 +52,18 @@ fn print_ready<N: Write>(client: ClientId, is_typed: bool, notes: &mut N) -> io:
     }
 }
 
-// Writes that a line can't be read, with advice: the same text with which a script ends there.
-fn print_misread<N: Write>(number: u32, fault: LineFault, notes: &mut N) -> io::Result<()>
-    ensures { OnOk result (Appends (N.contents notes.old) (N.contents notes.new) (misread_text number fault)) }
+// Writes that a line can't be read and what the system has instead, with advice.
+fn print_misread<N: Write>(
+    system: &System,
+    number: u32,
+    fault: LineFault,
+    notes: &mut N,
+) -> io::Result<()>
+    ensures { OnOk result (Appends (N.contents notes.old) (N.contents notes.new) (misread_text system.now number fault)) }
 {
-    let error = RuntimeError::Line(number, fault);
-    let advice = error.advice();
-    writeln!(notes, "scoop: {error}\nhint: {advice}")
+    let advice = RuntimeError::Line(number, fault).advice();
+    let told = LineFaultIn { system, fault };
+    writeln!(notes, "scoop: line {number}: {told}\nhint: {advice}")
 }
 
 fn reserve_advice(error: ReserveError) -> &'static str
@@ -94,7 +115,10 @@ fn print_reply_note<N: Write>(reply: &Reply, notes: &mut N) -> io::Result<()>
             let advice = refusal_advice(*error);
             writeln!(notes, "hint: {advice}")
         }
-        Reply::NotInWhen => writeln!(notes, "hint: a waiting block takes only calls and end"),
+        Reply::NotInWhen => writeln!(
+            notes,
+            "hint: a waiting block takes only calls, queries, end and giveup"
+        ),
         _ => Ok(()),
     }
 }
@@ -122,9 +146,20 @@ pub(crate) fn tell_ready<N: Write>(client: ClientId, is_typed: bool, notes: &mut
     send_out(written, notes);
 }
 
+/// Writes what each line does.
+pub(crate) fn tell_help<N: Write>(notes: &mut N) {
+    let written = print_help(notes);
+    send_out(written, notes);
+}
+
 /// Writes to a user who types that a line can't be read, with advice.
-pub(crate) fn tell_misread<N: Write>(number: u32, fault: LineFault, notes: &mut N) {
-    let written = print_misread(number, fault, notes);
+pub(crate) fn tell_misread<N: Write>(
+    system: &System,
+    number: u32,
+    fault: LineFault,
+    notes: &mut N,
+) {
+    let written = print_misread(system, number, fault, notes);
     send_out(written, notes);
 }
 

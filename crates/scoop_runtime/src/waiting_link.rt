@@ -3,7 +3,7 @@
 ghost use Rattle.std.specs.Prelude.{◌≡◌, ◌≤◌, ◌++◌, ◌∷◌, [], None, IfOk, IfSome, OnOk};
 ghost use Rattle.std.specs.Io.KnownBytes.{Appends};
 ghost use Rattle.scoop_link.specs.Link.{CountsFault, Exchanges, sent_by, taken_by};
-ghost use Rattle.scoop_runtime.specs.Silence.{Greets, greets};
+ghost use Rattle.scoop_runtime.specs.Silence.{Says, awaited_of, greets, refuses_lock};
 ghost use Rattle.scoop_runtime.specs.Texts.{awaited_advice, awaited_text, numbers_text, waiting_text};
 
 use scoop_frame::decode;
@@ -20,8 +20,8 @@ const PATIENCE: u32 = 100;
 /// A client's link that reports the handlers that the client waits for: those to which it sent since its last receive. It
 /// reports them after a hundred empty polls with no news between; over UDP that takes a second. A datagram that repeats
 /// the last one is no news. So the link also reports a handler that sends the same reply again and again, as when another
-/// client's block stands in front. It reports once until news comes. A report that can't be written is lost. It doesn't
-/// record its datagrams.
+/// client's block stands in front, and tells it from one that sends nothing. It reports once until news comes. A report
+/// that can't be written is lost. It doesn't record its datagrams.
 #[derive(Drop)]
 pub(crate) struct WaitingLink<L: Link, E: Write + Drop> {
     inner: L,
@@ -29,7 +29,22 @@ pub(crate) struct WaitingLink<L: Link, E: Write + Drop> {
     asked: Vec<HandlerId>,
     is_greeting: bool,
     heard: Datagram,
+    // Whether the last datagram came again since it was news.
+    is_repeated: bool,
     silences: u32,
+}
+
+/// What a client waits for.
+#[derive(Clone, Copy, Debug, PartialEq, Eq)]
+pub enum Awaited {
+    /// A handler's welcome.
+    Welcome,
+    /// A lock that another block has.
+    Lock,
+    /// An answer that comes after another block.
+    Turn,
+    /// Any reply.
+    Reply,
 }
 
 impl<L: Link, E: Write + Drop> WaitingLink<L, E> {
@@ -47,6 +62,7 @@ impl<L: Link, E: Write + Drop> WaitingLink<L, E> {
             asked,
             is_greeting: false,
             heard: Datagram::of(&[]),
+            is_repeated: false,
             silences: 0,
         })
     }
@@ -69,7 +85,8 @@ impl<L: Link, E: Write + Drop> WaitingLink<L, E> {
     fn hear(&mut self, bytes: &[u8])
         ensures { self.new.inner ≡ self.old.inner }
     {
-        if self.heard.as_slice() != bytes {
+        self.is_repeated = self.heard.as_slice() == bytes;
+        if !self.is_repeated {
             self.heard = Datagram::of(bytes);
             self.silences = 0;
         }
@@ -84,17 +101,41 @@ impl<L: Link, E: Write + Drop> WaitingLink<L, E> {
         }
         self.silences += 1;
         if self.silences == PATIENCE && !self.asked.is_empty() {
-            tell_waiting(self.is_greeting, &self.asked, &mut self.notes);
+            let is_busy = is_busy(self.heard.as_slice());
+            let awaited = awaited_of(self.is_greeting, self.is_repeated, is_busy);
+            tell_waiting(awaited, &self.asked, &mut self.notes);
         }
+    }
+}
+
+// What the client waits for: by whether it greets, whether the last reply came again, and whether that refuses a lock.
+fn awaited_of(is_greeting: bool, is_repeated: bool, is_busy: bool) -> Awaited
+    ensures { result ≡ awaited_of is_greeting is_repeated is_busy }
+{
+    match (is_greeting, is_repeated, is_busy) {
+        (true, _, _) => Awaited::Welcome,
+        (false, false, _) => Awaited::Reply,
+        (false, true, true) => Awaited::Lock,
+        (false, true, false) => Awaited::Turn,
     }
 }
 
 // Whether the bytes are the frame of a greeting.
 fn is_greeting(bytes: &[u8]) -> bool
-    ensures { Greets result bytes.now }
+    ensures { Says greets result bytes.now }
 {
     match decode(bytes) {
         Ok((_, message)) => greets(&message),
+        Err(_) => false,
+    }
+}
+
+// Whether the bytes are the frame of a reply that refuses a lock.
+fn is_busy(bytes: &[u8]) -> bool
+    ensures { Says refuses_lock result bytes.now }
+{
+    match decode(bytes) {
+        Ok((_, message)) => refuses_lock(&message),
         Err(_) => false,
     }
 }
@@ -103,6 +144,12 @@ fn greets(message: &Message) -> bool
     ensures { result ≡ greets message.now }
 {
     matches!(message, Message::Hello(..))
+}
+
+fn refuses_lock(message: &Message) -> bool
+    ensures { result ≡ refuses_lock message.now }
+{
+    matches!(message, Message::Busy(..))
 }
 
 // Writes numbers in decimal, with a space before each.
@@ -118,47 +165,53 @@ pub(crate) fn print_numbers<W: Write>(numbers: &[HandlerId], writer: &mut W) -> 
     }
 }
 
-// Why a client may wait, and advice: while it greets, and later.
-fn awaited_advice(is_greeting: bool) -> &'static str
-    ensures { result.now ≡ awaited_advice is_greeting }
+// Why a client waits, and advice.
+fn awaited_advice(awaited: Awaited) -> &'static str
+    ensures { result.now ≡ awaited_advice awaited }
 {
-    if is_greeting {
-        "no welcome yet. Check that the nodes run and that all programs have the same file and key. If this client ran before \
-        with another store, resume that one"
-    } else {
-        "no answer yet, or another client's block is in front. Check that the nodes run. If a client stopped inside a block, \
-        start it again"
+    match awaited {
+        Awaited::Welcome => {
+            "no welcome yet. Check that the nodes run and that all programs have the same file and key. If this client ran \
+            before with another store, resume that one"
+        }
+        Awaited::Lock => {
+            "busy, another block has the lock. If that block's client was killed, free the lock by `scoop client C --cut`"
+        }
+        Awaited::Turn => {
+            "another block is in front. If that block's client was killed, free the handler by `scoop client C --cut`"
+        }
+        Awaited::Reply => "no answer. Check that the nodes run",
     }
 }
 
 // Writes the handlers that the client waits for, and why that may be.
 fn print_awaited<W: Write>(
-    is_greeting: bool,
+    awaited: Awaited,
     handlers: &[HandlerId],
     writer: &mut W,
 ) -> io::Result<()>
-    ensures { OnOk result (Appends (W.contents writer.old) (W.contents writer.new) (awaited_text is_greeting handlers.now)) }
+    ensures { OnOk result (Appends (W.contents writer.old) (W.contents writer.new) (awaited_text awaited handlers.now)) }
 {
     print_numbers(handlers, writer)?;
-    let advice = awaited_advice(is_greeting);
+    let advice = awaited_advice(awaited);
     writeln!(writer, ": {advice}")
 }
 
 // Writes the line on the handlers that the client waits for.
 fn print_waiting<W: Write>(
-    is_greeting: bool,
+    awaited: Awaited,
     handlers: &[HandlerId],
     writer: &mut W,
 ) -> io::Result<()>
-    ensures { OnOk result (Appends (W.contents writer.old) (W.contents writer.new) (waiting_text is_greeting handlers.now)) }
+    ensures { OnOk result (Appends (W.contents writer.old) (W.contents writer.new) (waiting_text awaited handlers.now)) }
 {
     writer.write_all(b"scoop: waiting for handlers")?;
-    print_awaited(is_greeting, handlers, writer)
+    print_awaited(awaited, handlers, writer)
 }
 
 // Writes the same and flushes. A report that can't be written is lost.
-fn tell_waiting<W: Write>(is_greeting: bool, handlers: &[HandlerId], writer: &mut W) {
-    if print_waiting(is_greeting, handlers, writer).is_ok() {
+fn tell_waiting<W: Write>(awaited: Awaited, handlers: &[HandlerId], writer: &mut W) {
+    if print_waiting(awaited, handlers, writer).is_ok() {
         let _flushed = writer.flush();
     }
 }

@@ -1,8 +1,12 @@
 //! Nodes and clients of systems in texts, over UDP of this machine.
 
+mod backoff;
+mod deaf_link;
 mod deals;
+mod emptied_keeper;
 mod ends;
 mod going_on;
+mod leaving;
 mod lossy_link;
 mod moments;
 mod node_and_client;
@@ -13,13 +17,15 @@ mod storm;
 mod systems;
 mod text_lines;
 
+use scoop_driver::NoPause;
+use scoop_journal::Journal;
 use scoop_keeper::{Keeper, MemoryKeeper};
 use scoop_lines::LineSource;
 use scoop_link::{Link, UdpLink};
 use scoop_message::ClientId;
 use scoop_runtime::{
-    ClientPlan, NodePlan, Progress, RuntimeError, Serving, client_run, node_run, open_client_link,
-    open_node_link,
+    ClientPlan, Ending, NodePlan, Progress, RuntimeError, Serving, client_run, node_run_until,
+    open_client_link, open_node_link,
 };
 use scoop_system::System;
 use std::alloc::Global;
@@ -63,7 +69,7 @@ fn node_link<R: Net>(
     Some(open_node_link(rt, alloc, system, place))
 }
 
-/// Serves a node for `turns` over this link. Returns its keeper or its error, and its output.
+/// Serves a node over this link, for `turns` or until it is asked to end. Returns its keeper or its error, and its output.
 fn serve<K, L, R>(
     rt: &R,
     alloc: Global,
@@ -73,6 +79,7 @@ fn serve<K, L, R>(
     turns: u64,
     keeper: K,
     link: L,
+    ending: &Ending,
 ) -> Option<(Result<K, RuntimeError>, Vec<u8>)>
 where
     K: Keeper<Global> + Send,
@@ -84,7 +91,17 @@ where
     let serving = Serving::new(2, history, turns).ok()?;
     let mut output = Vec::new(alloc);
     let notes = Vec::new(alloc);
-    let ended = node_run(rt, alloc, &plan, &serving, keeper, link, notes, &mut output);
+    let ended = node_run_until(
+        rt,
+        alloc,
+        &plan,
+        &serving,
+        keeper,
+        link,
+        notes,
+        &mut output,
+        ending,
+    );
     Some((ended, output))
 }
 
@@ -115,26 +132,40 @@ fn ask_lines<L: Link, I: LineSource>(
     let place = *system.client(ClientId(number))?;
     // a client of it, whose commands are these lines
     let plan = ClientPlan::new(system, place, TURNS, is_typed).ok()?;
+    Some(ask_planned(alloc, &plan, keeper, link, lines))
+}
+
+/// Runs the client of this plan with the lines of this source, over this link.
+fn ask_planned<L: Link, I: LineSource>(
+    alloc: Global,
+    plan: &ClientPlan<'_>,
+    keeper: &mut MemoryKeeper,
+    link: L,
+    lines: &mut I,
+) -> Told {
     let mut output = Vec::new(alloc);
     let mut notes = Vec::new(alloc);
-    let waits = Vec::new(alloc);
+    let (waits, faults) = (Vec::new(alloc), Vec::new(alloc));
     let ended = client_run(
         alloc,
-        &plan,
+        plan,
         keeper,
         link,
+        None::<Journal<Vec<u8>>>,
         lines,
         waits,
+        faults,
+        &mut NoPause,
         &mut output,
         &mut notes,
     );
     let stop = ended.err();
-    Some(Told {
+    Told {
         ended: stop.map_or(Ok(()), |stop| Err(stop.error)),
         progress: stop.map(|stop| stop.progress),
         output,
         notes,
-    })
+    }
 }
 
 /// Opens the link of a client.

@@ -6,8 +6,9 @@ use Rattle.std.proofs.Common.{◌≡◌, ℕ, ◌==◌, ◌||◌, nat_lt, Bool, 
 use Rattle.std.specs.List.{list_all, list_any}
 use Rattle.std.proofs.lemmas.Bool.Decides.{nat_tests}
 use Rattle.std.proofs.lemmas.List.Folds.{list_all-append, list_any-append}
-use Rattle.toml.specs.Data.{Data, Items, as_str, as_array}
+use Rattle.toml.specs.Data.{Data, Items, string, as_str, as_array}
 use Rattle.scoop_lines.specs.Number.{decimal_of}
+use Rattle.scoop_lines.specs.Words.{Word as Text, words_of}
 use Rattle.scoop_lines.specs.Reading.{Read}
 use Rattle.scoop_lines.proofs.ReadingLemmas.{bind_ok, unless_ok}
 use Rattle.scoop_message.specs.declared.limits.TheConstants.{MAX_ARGS}
@@ -22,8 +23,9 @@ use Rattle.scoop_system.specs.declared.error.Place.{Place}
 use Rattle.scoop_system.specs.Name.{told}
 use Rattle.scoop_system.specs.Value.{list_of}
 use Rattle.scoop_system.specs.Place.{at}
-use Rattle.scoop_system.specs.Terms.{word_term, argument_term, constant_term, term_of, or_no_term, term_in, two_terms, listed_test, test_in, written_word}
-use Rattle.scoop_system.specs.Terms.{word_in, four_terms, listed_write, write_in, written_before, next_write, writes_from}
+use Rattle.scoop_system.specs.Terms.{word_term, argument_term, constant_term, term_of, or_no_term, term_in, two_terms, listed_test, formula_test, test_or_list, test_in}
+use Rattle.scoop_system.specs.Terms.{written_word, word_in, four_terms, listed_write, formula_write, write_or_list, write_in, written_before, next_write, writes_from}
+use Rattle.scoop_system.specs.Formulas.{test_words, write_words}
 
 -- a value that is read at a place
 pub at_ok : {A P : Type 0} (place : Place) (r : Read Wrong A) (y : A) → at place r ≡ Ok y → (r ≡ Ok y → P) → P
@@ -101,9 +103,19 @@ listed_test-good : (words : ℕ) (o : Option Items) (test : Option (Term × Term
 listed_test-good words None test is = cc
 listed_test-good words (Some ds) test is = two_terms-good words (list_of ds) test is
 
+formula_test-good : (words : ℕ) (text : List ℕ) (o : Option (Text × Text)) (test : Option (Term × Term)) → formula_test words text o ≡ Ok test
+    → IsTest words test
+formula_test-good words text None test is = cc
+formula_test-good words text (Some (left, right)) test is = two_terms-good words (string left ∷ string right ∷ []) test is
+
+test_or_list-good : (words : ℕ) (o : Option (List ℕ)) (ds : Option Items) (test : Option (Term × Term)) → test_or_list words o ds ≡ Ok test
+    → IsTest words test
+test_or_list-good words None ds test is = listed_test-good words ds test is
+test_or_list-good words (Some text) ds test is = formula_test-good words text (test_words (words_of text)) test is
+
 pub test_in-good : (words : ℕ) (o : Option Data) (test : Option (Term × Term)) → test_in words o ≡ Ok test → IsTest words test
 test_in-good words None test is = let same : None ≡ test = cc in rw (← same) (record { word = refl; argument = refl })
-test_in-good words (Some d) test is = listed_test-good words (as_array d) test is
+test_in-good words (Some d) test is = test_or_list-good words (as_str d) (as_array d) test is
 
 -- ---- writes
 
@@ -142,6 +154,16 @@ four_terms-good words (t ∷ a ∷ b ∷ c ∷ d ∷ ds) w is = cc
 listed_write-good : (words : ℕ) (o : Option Items) (w : Write) → listed_write words o ≡ Ok w → IsWrite words w
 listed_write-good words None w is = cc
 listed_write-good words (Some ds) w is = four_terms-good words (list_of ds) w is
+
+formula_write-good : (words : ℕ) (text : List ℕ) (o : Option (Text × Text × Text × Text)) (w : Write) → formula_write words text o ≡ Ok w
+    → IsWrite words w
+formula_write-good words text None w is = cc
+formula_write-good words text (Some (word, base, plus, minus)) w is =
+    four_terms-good words (string word ∷ string base ∷ string plus ∷ string minus ∷ []) w is
+
+write_or_list-good : (words : ℕ) (o : Option (List ℕ)) (ds : Option Items) (w : Write) → write_or_list words o ds ≡ Ok w → IsWrite words w
+write_or_list-good words None ds w is = listed_write-good words ds w is
+write_or_list-good words (Some text) ds w is = formula_write-good words text (write_words (words_of text)) w is
 
 other_way : (a b : ℕ) → (a == b) ≡ false → (b == a) ≡ false
 other_way a b is = grind (arith, nat_tests)
@@ -186,4 +208,4 @@ writes_from-good words done (d ∷ ds) ws are is =
     unless_ok (written_before done v) _ w kept λ new made.
     let same : v ≡ w = cc in
     writes_from-good words (done ++ w ∷ []) ds ws
-    (rw (← same) (writes-push words done v are (listed_write-good words (as_array d) v v_is) new)) more
+    (rw (← same) (writes-push words done v are (write_or_list-good words (as_str d) (as_array d) v v_is) new)) more

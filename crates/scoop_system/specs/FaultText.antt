@@ -24,15 +24,14 @@ place_text (place.NamelessOperation count class) = codes "[[class.operation]] " 
 
 -- the text of a fault that names nothing; empty for the others
 abbrev pub plain_text : Wrong → List ℕ
-plain_text wrong.NotAnAddress = codes "address must be an IP address with a port from 1 to 65535"
 plain_text wrong.OtherFamily = codes "address must have the same family, IPv4 or IPv6, as the first one"
 plain_text wrong.NoTable = codes "not a table"
 plain_text wrong.Twice = codes "defined twice"
 plain_text wrong.KnownClass = codes "every system already has a class of this name"
 plain_text wrong.NotWords = codes "words must be a list of 1 to " ++ (decimal MAX_WORDS ++ codes " whole numbers below 2^64")
 plain_text wrong.NotAText = codes "a term must be text: write it in quotes"
-plain_text wrong.NotATest = codes "test must be a list of two terms"
-plain_text wrong.NotAWrite = codes "a write must be a list of a word and three terms"
+plain_text wrong.NotATest = codes "test must be a formula or a list of two terms"
+plain_text wrong.NotAWrite = codes "a write must be a formula or a list of a word and three terms"
 plain_text other = []
 
 abbrev pub wrong_text : Wrong → List ℕ
@@ -40,14 +39,19 @@ wrong_text (wrong.UnknownKey key) = codes "unknown key " ++ quoted key
 wrong_text (wrong.Missing key) = codes "no " ++ key_text key
 wrong_text (wrong.NotANumber key low high) = key_text key ++ codes " must be a whole number from " ++ decimal low ++ codes " to " ++ decimal high
 wrong_text (wrong.NotAName key) = key_text key ++ codes " must be 1 to 32 letters, digits, _ or -, beginning with a letter"
+wrong_text (wrong.NotAnAddress key) = key_text key ++ codes " must be an IP address with a port from 1 to 65535"
 wrong_text (wrong.AddressOf kind number) = codes "address is already used by " ++ key_text kind ++ codes " " ++ decimal number
+wrong_text (wrong.StatusOf number) = codes "status is already used by node " ++ decimal number
 wrong_text (wrong.NotAList key) = key_text key ++ codes " must be a list" ++ hint_text key
 wrong_text (wrong.TooMany key limit) = key_text key ++ codes ": more than " ++ decimal limit
 wrong_text (wrong.NameTwice name) = codes "name " ++ quoted name ++ codes " is used twice"
+wrong_text (wrong.LineWord name) = codes "name " ++ quoted name ++ codes " is a word of client lines"
 wrong_text (wrong.NoSuchNode number) = codes "no such node " ++ decimal number
 wrong_text (wrong.NoSuchClass name) = codes "no such class " ++ quoted name
 wrong_text (wrong.WordCount given wanted) = decimal given ++ codes " words instead of " ++ decimal wanted
 wrong_text (wrong.NotATerm text) = quoted text ++ codes " is not a term"
+wrong_text (wrong.NotATestFormula text) = quoted text ++ codes " is not a test: write two terms, as a0 <= w0"
+wrong_text (wrong.NotAWriteFormula text) = quoted text ++ codes " is not a write: write a word and terms, as w0 = w0 + a0 - a1"
 wrong_text (wrong.NoSuchWord term) = term ++ codes " is not a word"
 wrong_text (wrong.NoSuchArgument term) = term ++ codes " is not an argument"
 wrong_text (wrong.WrittenTwice word) = codes "w" ++ decimal word ++ codes " is written twice"

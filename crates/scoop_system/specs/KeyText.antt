@@ -1,8 +1,8 @@
 -- The keys of a system's file.
 use Rattle.std.specs.Prelude.{ℕ, List, [], codes}
 use Rattle.scoop_system.specs.declared.error.Key.{Key}
-use Rattle.scoop_system.specs.declared.error.Key.TheVariants.{Class, Node, Handler, Client, Operation, Number, Name, Address, Words, Batch, Test, Writes}
-use Rattle.scoop_system.specs.declared.error.Key.TheVariants.{Answer}
+use Rattle.scoop_system.specs.declared.error.Key.TheVariants.{Class, Node, Handler, Client, Operation, Number, Name, Address, Status, Words, Batch, Test}
+use Rattle.scoop_system.specs.declared.error.Key.TheVariants.{Writes, Answer}
 
 abbrev pub key_text : Key → List ℕ
 key_text Class = codes "class"
@@ -13,6 +13,7 @@ key_text Operation = codes "operation"
 key_text Number = codes "number"
 key_text Name = codes "name"
 key_text Address = codes "address"
+key_text Status = codes "status"
 key_text Words = codes "words"
 key_text Batch = codes "batch"
 key_text Test = codes "test"
@@ -29,6 +30,7 @@ hint_text Operation = codes ": an operation is written [[class.operation]], not 
 hint_text Number = []
 hint_text Name = []
 hint_text Address = []
+hint_text Status = []
 hint_text Words = []
 hint_text Batch = []
 hint_text Test = []

@@ -1,5 +1,7 @@
 pub mod Name
 pub mod NamedHandlers
+pub mod NamedConditions
+pub mod ShownWord
 pub mod Words
 pub mod Operations
 pub mod System
@@ -11,9 +13,11 @@ pub mod KeyText
 pub mod FaultText
 pub mod Value
 pub mod Place
+pub mod Formulas
 pub mod Terms
 pub mod Classes
 pub mod Meaning
 pub mod Stop
 pub mod File
 pub mod SystemText
+pub mod ReadBack

@@ -13,7 +13,8 @@ use Rattle.scoop_classes.specs.declared.classes.DemoClass.{DemoClass}
 use Rattle.scoop_system.specs.declared.error.Key.{Key}
 use Rattle.scoop_system.specs.declared.error.Key.TheVariants as key
 use Rattle.scoop_system.specs.declared.error.Wrong.{Wrong}
-use Rattle.scoop_system.specs.declared.error.Wrong.TheVariants.{Twice, AddressOf, OtherFamily, NoSuchNode, NoSuchClass, WordCount}
+use Rattle.scoop_system.specs.declared.error.Wrong.TheVariants.{Twice, NameTwice, AddressOf, StatusOf, OtherFamily, NoSuchNode, NoSuchClass}
+use Rattle.scoop_system.specs.declared.error.Wrong.TheVariants.{WordCount}
 use Rattle.scoop_system.specs.declared.error.Place.TheVariants.{File}
 use Rattle.scoop_system.specs.declared.place.NodePlace.{NodePlace}
 use Rattle.scoop_system.specs.declared.place.HandlerPlace.{HandlerPlace}
@@ -22,8 +23,8 @@ use Rattle.scoop_system.specs.declared.place.HandlerClass.TheVariants.{Known, Ow
 use Rattle.scoop_system.specs.declared.place.ClientPlace.{ClientPlace}
 use Rattle.scoop_system.specs.declared.reading.TheConstants.{MAX_CLASSES}
 use Rattle.scoop_system.specs.Name.{told}
-use Rattle.scoop_system.specs.System.{Plan, NamedClass, class_named}
-use Rattle.scoop_system.specs.Value.{number_at, text_at, address_at, words_at, list_at, key_fault, in_range, whole_of}
+use Rattle.scoop_system.specs.System.{Plan, NamedClass, class_named, has_name}
+use Rattle.scoop_system.specs.Value.{number_at, text_at, address_at, status_at, words_at, handler_name_at, list_at, key_fault, in_range, whole_of}
 use Rattle.scoop_system.specs.KeyText.{key_text}
 use Rattle.scoop_system.specs.Address.{same_address}
 use Rattle.scoop_system.specs.Place.{Told, at, place_at}
@@ -78,17 +79,31 @@ abbrev pub address_fault : List NodePlace → List ClientPlace → SocketAddr �
 address_fault nodes clients a = or_else (address_taken nodes clients a) (wrong_if (other_family (first_address nodes clients) a) OtherFamily)
 
 abbrev pub node_keys : List Key
-node_keys = key.Number ∷ key.Address ∷ []
+node_keys = key.Number ∷ key.Address ∷ key.Status ∷ []
 
-abbrev pub new_node : ℕ → SocketAddr → NodePlace
-new_node number address = record { number = number; address = address }
+abbrev pub is_status : Option SocketAddr → SocketAddr → Bool
+is_status None a = false
+is_status (Some status) a = same_address status a
+
+-- the node whose status address this is
+abbrev pub status_node : List NodePlace → SocketAddr → Option NodePlace
+status_node nodes a = find (λ n. is_status n.status a) nodes
+
+-- the fault of the status address of a node after these: one of them has it
+abbrev pub status_fault : List NodePlace → Option SocketAddr → Option Wrong
+status_fault nodes None = None
+status_fault nodes (Some a) = option_map (λ n. StatusOf n.number) (status_node nodes a)
+
+abbrev pub new_node : ℕ → SocketAddr → Option SocketAddr → NodePlace
+new_node number address status = record { number = number; address = address; status = status }
 
 -- a node, after those before it
 abbrev pub node_of : List NodePlace → Data → Read Wrong NodePlace
 node_of nodes d =
     unless (key_fault node_keys d)
-    (number_of d >>= λ number. address_at d >>= λ address. unless (wrong_if (list_any (λ n. n.number == number) nodes) Twice)
-    (unless (address_fault nodes [] address) (Ok (new_node number address))))
+    (number_of d >>= λ number. address_at d >>= λ address. status_at d >>= λ status.
+    unless (wrong_if (list_any (λ n. n.number == number) nodes) Twice)
+    (unless (address_fault nodes [] address) (unless (status_fault nodes status) (Ok (new_node number address status)))))
 
 abbrev pub nodes_from : List NodePlace → List Data → Told (List NodePlace)
 nodes_from nodes [] = Ok nodes
@@ -109,20 +124,26 @@ abbrev pub handler_class : List NamedClass → List ℕ → Read Wrong (HandlerC
 handler_class classes name = class_or_own classes name (class_of_name name)
 
 abbrev pub handler_keys : List Key
-handler_keys = key.Number ∷ key.Node ∷ key.Class ∷ key.Words ∷ []
+handler_keys = key.Number ∷ key.Name ∷ key.Node ∷ key.Class ∷ key.Words ∷ []
 
-abbrev pub new_handler : ℕ → ℕ → HandlerClass → List ℕ → HandlerPlace
-new_handler number node class words = record { handler = record { 0 = number }; node = node; class = class; words = words }
+-- the fault of the name of a handler after these: one of them has it
+abbrev pub name_fault : List HandlerPlace → Option (List ℕ) → Option Wrong
+name_fault handlers None = None
+name_fault handlers (Some name) = wrong_if (list_any (λ h. has_name h.name name) handlers) (NameTwice name)
+
+abbrev pub new_handler : ℕ → ℕ → HandlerClass → List ℕ → Option (List ℕ) → HandlerPlace
+new_handler number node class words name =
+    record { handler = record { 0 = number }; node = node; class = class; words = words; name = name }
 
 -- a handler, after those before it
 abbrev pub handler_of : List NamedClass → List NodePlace → List HandlerPlace → Data → Read Wrong HandlerPlace
 handler_of classes nodes handlers d =
     unless (key_fault handler_keys d)
-    (number_of d >>= λ number. number_at key.Node 0 (2 ^ 32 - 1) d >>= λ node. text_at key.Class d >>= λ name. words_at d >>= λ words.
-    unless (wrong_if (list_any (λ h. h.handler.0 == number) handlers) Twice)
-    (unless (wrong_if (not (list_any (λ n. n.number == node) nodes)) (NoSuchNode node))
-    (handler_class classes name >>= λ class. unless (wrong_if (not (length words == class.1)) (WordCount (length words) class.1))
-    (Ok (new_handler number node class.0 words)))))
+    (number_of d >>= λ number. number_at key.Node 0 (2 ^ 32 - 1) d >>= λ node. text_at key.Class d >>= λ text. words_at d >>= λ words.
+    handler_name_at d >>= λ name. unless (wrong_if (list_any (λ h. h.handler.0 == number) handlers) Twice)
+    (unless (name_fault handlers name) (unless (wrong_if (not (list_any (λ n. n.number == node) nodes)) (NoSuchNode node))
+    (handler_class classes text >>= λ class. unless (wrong_if (not (length words == class.1)) (WordCount (length words) class.1))
+    (Ok (new_handler number node class.0 words name))))))
 
 abbrev pub handlers_from : List NamedClass → List NodePlace → List HandlerPlace → List Data → Told (List HandlerPlace)
 handlers_from classes nodes handlers [] = Ok handlers

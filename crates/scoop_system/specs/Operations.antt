@@ -13,3 +13,10 @@ known_operation Account name =
     else (if same_text name (codes "balance") then Some 3
     else None))
 known_operation Exchange name = if same_text name (codes "put") then Some 1 else None
+
+-- the names of the operations of a class
+abbrev pub known_names : DemoClass → List ℕ
+known_names Cell = codes "set, get"
+known_names Counter = codes "add, get"
+known_names Account = codes "deposit, withdraw, balance"
+known_names Exchange = codes "put"

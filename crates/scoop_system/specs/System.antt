@@ -1,5 +1,5 @@
 -- A system, and look-ups in it.
-use Rattle.std.specs.Prelude.{ℕ, ◌==◌, List, find, Option, Some}
+use Rattle.std.specs.Prelude.{ℕ, ◌==◌, Bool, false, List, find, Option, Some, None}
 use Rattle.std.specs.Option.{option_map, option_and_then}
 use Rattle.scoop_message.specs.declared.name.HandlerId.{HandlerId}
 use Rattle.scoop_object.specs.Class.{ClassTable}
@@ -44,6 +44,15 @@ class_operation classes name (Own own) = option_and_then (λ c. own_operation c 
 
 abbrev pub handler_named : List HandlerPlace → HandlerId → Option HandlerPlace
 handler_named handlers handler = find (λ p. p.handler.0 == handler.0) handlers
+
+-- an optional name is this one
+abbrev pub has_name : Option (List ℕ) → List ℕ → Bool
+has_name None name = false
+has_name (Some own) name = same_text own name
+
+-- the number of the handler of this name
+abbrev pub handler_of_name : List HandlerPlace → List ℕ → Option HandlerId
+handler_of_name handlers name = option_map (λ p. p.handler) (find (λ p. has_name p.name name) handlers)
 
 -- the number of the operation of this name in the class of the handler
 abbrev pub operation_named : Plan → HandlerId → List ℕ → Option ℕ

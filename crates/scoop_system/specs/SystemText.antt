@@ -2,6 +2,7 @@
 use Rattle.std.specs.Prelude.{ℕ, ◌==◌, if◌then◌else◌, List, [], ◌∷◌, ◌++◌, codes, Option, Some, None}
 use Rattle.std.specs.Fmt.{decimal}
 use Rattle.std.specs.Net.Text.{socket_text}
+use Rattle.std.specs.declared.net.socket_addr.SocketAddr.{SocketAddr}
 use Rattle.scoop_object.specs.declared.term.Term.{Term}
 use Rattle.scoop_object.specs.declared.term.Term.TheVariants.{Const, Word, Arg}
 use Rattle.scoop_object.specs.declared.term.Write.{Write}
@@ -26,16 +27,28 @@ abbrev pub handler_class_text : HandlerClass → List ℕ
 handler_class_text (Known class) = class_name class
 handler_class_text (Own name) = name
 
+-- the name of a handler, if it has one
+abbrev pub name_text : Option (List ℕ) → List ℕ
+name_text None = []
+name_text (Some name) = codes " name " ++ name
+
 abbrev pub handler_text : HandlerPlace → List ℕ
-handler_text h = codes "  handler " ++ decimal h.handler.0 ++ codes " " ++ handler_class_text h.class ++ numbers_text h.words ++ codes "\n"
+handler_text h =
+    codes "  handler " ++ decimal h.handler.0 ++ codes " " ++ handler_class_text h.class ++ numbers_text h.words ++ name_text h.name ++ codes "\n"
 
 -- the handlers of a node, in the order of the file
 abbrev pub handlers_text : ℕ → List HandlerPlace → List ℕ
 handlers_text node [] = []
 handlers_text node (h ∷ hs) = (if h.node == node then handler_text h else []) ++ handlers_text node hs
 
+-- the status address of a node, if it has one
+abbrev pub status_text : Option SocketAddr → List ℕ
+status_text None = []
+status_text (Some address) = codes " status " ++ socket_text address
+
 abbrev pub node_text : List HandlerPlace → NodePlace → List ℕ
-node_text handlers n = codes "node " ++ decimal n.number ++ codes " " ++ socket_text n.address ++ codes "\n" ++ handlers_text n.number handlers
+node_text handlers n =
+    codes "node " ++ decimal n.number ++ codes " " ++ socket_text n.address ++ status_text n.status ++ codes "\n" ++ handlers_text n.number handlers
 
 abbrev pub nodes_text : List HandlerPlace → List NodePlace → List ℕ
 nodes_text handlers [] = []
@@ -55,9 +68,12 @@ term_text (Const n) = decimal n
 term_text (Word i) = codes "w" ++ decimal i
 term_text (Arg i) = codes "a" ++ decimal i
 
+abbrev pub test_formula_text : Term × Term → List ℕ
+test_formula_text t = term_text t.0 ++ codes " <= " ++ term_text t.1
+
 abbrev pub test_text : Option (Term × Term) → List ℕ
 test_text None = []
-test_text (Some t) = term_text t.0 ++ codes " <= " ++ term_text t.1 ++ codes "; "
+test_text (Some t) = test_formula_text t ++ codes "; "
 
 abbrev pub write_text : Write → List ℕ
 write_text w = codes "w" ++ decimal w.word ++ codes " := " ++ term_text w.base ++ codes " + " ++ term_text w.plus ++ codes " - " ++ term_text w.minus

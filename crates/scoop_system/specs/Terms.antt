@@ -1,8 +1,9 @@
 -- The rows of a class in a file.
 use Rattle.std.specs.Prelude.{ℕ, ◌==◌, ◌^◌, ◌-◌, nat_lt, if◌then◌else◌, List, [], ◌∷◌, ◌++◌, find, is_some, Option, Some, None, Ok, Err}
 use Rattle.std.specs.List.{list_any}
-use Rattle.toml.specs.Data.{Data, Items, get, as_str, as_array}
+use Rattle.toml.specs.Data.{Data, Items, string, get, as_str, as_array}
 use Rattle.scoop_lines.specs.Number.{decimal_of}
+use Rattle.scoop_lines.specs.Words.{Word as Text, words_of}
 use Rattle.scoop_lines.specs.Reading.{Read, ◌>>=◌, unless}
 use Rattle.scoop_message.specs.declared.limits.TheConstants.{MAX_ARGS, MAX_WRITES}
 use Rattle.scoop_classes.specs.Classes.{same_text}
@@ -15,9 +16,10 @@ use Rattle.scoop_system.specs.declared.error.Key.{Key}
 use Rattle.scoop_system.specs.declared.error.Key.TheVariants as key
 use Rattle.scoop_system.specs.declared.error.Wrong.{Wrong}
 use Rattle.scoop_system.specs.declared.error.Wrong.TheVariants.{Missing, NotATerm, NotAText, NoSuchWord, NoSuchArgument, NotATest, NotAWrite, WrittenTwice}
-use Rattle.scoop_system.specs.declared.error.Wrong.TheVariants.{Twice, NameTwice}
+use Rattle.scoop_system.specs.declared.error.Wrong.TheVariants.{Twice, NameTwice, NotATestFormula, NotAWriteFormula}
 use Rattle.scoop_system.specs.Name.{told}
 use Rattle.scoop_system.specs.KeyText.{key_text}
+use Rattle.scoop_system.specs.Formulas.{test_words, write_words}
 use Rattle.scoop_system.specs.Value.{list_of, number_at, name_at, list_at, key_fault}
 
 -- ---- terms, in a class of this many words
@@ -67,11 +69,23 @@ abbrev pub listed_test : ℕ → Option Items → Read Wrong (Option (Term × Te
 listed_test words None = Err NotATest
 listed_test words (Some ds) = two_terms words (list_of ds)
 
+-- a formula means the list of the texts of its terms
+abbrev pub formula_test : ℕ → List ℕ → Option (Text × Text) → Read Wrong (Option (Term × Term))
+formula_test words text None = Err (NotATestFormula (told text))
+formula_test words text (Some (left, right)) = two_terms words (string left ∷ string right ∷ [])
+
+abbrev pub test_formula : ℕ → List ℕ → Read Wrong (Option (Term × Term))
+test_formula words text = formula_test words text (test_words (words_of text))
+
+abbrev pub test_or_list : ℕ → Option (List ℕ) → Option Items → Read Wrong (Option (Term × Term))
+test_or_list words None ds = listed_test words ds
+test_or_list words (Some text) ds = test_formula words text
+
 abbrev pub test_in : ℕ → Option Data → Read Wrong (Option (Term × Term))
 test_in words None = Ok None
-test_in words (Some d) = listed_test words (as_array d)
+test_in words (Some d) = test_or_list words (as_str d) (as_array d)
 
--- the test: two terms. It passes if the left one is at most the right one
+-- the test: a formula, or a list of two terms. It passes if the left one is at most the right one
 abbrev pub test_at : ℕ → Data → Read Wrong (Option (Term × Term))
 test_at words d = test_in words (get (key_text key.Test) d)
 
@@ -79,6 +93,10 @@ abbrev pub written_word : Term → Read Wrong ℕ
 written_word (Const n) = Err NotAWrite
 written_word (Word i) = Ok i
 written_word (Arg i) = Err NotAWrite
+
+-- the word that a text names
+abbrev pub word_of : ℕ → List ℕ → Read Wrong ℕ
+word_of words text = term_of words text >>= written_word
 
 -- the word that a write names
 abbrev pub word_in : ℕ → Data → Read Wrong ℕ
@@ -102,9 +120,22 @@ abbrev pub listed_write : ℕ → Option Items → Read Wrong Write
 listed_write words None = Err NotAWrite
 listed_write words (Some ds) = four_terms words (list_of ds)
 
--- a write: a word, and the three terms of `base + plus - minus`
+-- a formula means the list of the texts of its word and its terms
+abbrev pub formula_write : ℕ → List ℕ → Option (Text × Text × Text × Text) → Read Wrong Write
+formula_write words text None = Err (NotAWriteFormula (told text))
+formula_write words text (Some (word, base, plus, minus)) =
+    four_terms words (string word ∷ string base ∷ string plus ∷ string minus ∷ [])
+
+abbrev pub write_formula : ℕ → List ℕ → Read Wrong Write
+write_formula words text = formula_write words text (write_words (words_of text))
+
+abbrev pub write_or_list : ℕ → Option (List ℕ) → Option Items → Read Wrong Write
+write_or_list words None ds = listed_write words ds
+write_or_list words (Some text) ds = write_formula words text
+
+-- a write: a formula, or a list of a word and the three terms of `base + plus - minus`
 abbrev pub write_in : ℕ → Data → Read Wrong Write
-write_in words d = listed_write words (as_array d)
+write_in words d = write_or_list words (as_str d) (as_array d)
 
 abbrev pub written_before : List Write → Write → Option Wrong
 written_before done w = if list_any (λ v. v.word == w.word) done then Some (WrittenTwice w.word) else None

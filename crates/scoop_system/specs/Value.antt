@@ -1,5 +1,5 @@
 -- Values of a TOML text, and their faults.
-use Rattle.std.specs.Prelude.{ℕ, ℤ, pos, negsuc, ◌==◌, ◌&&◌, nat_le, nat_lt, not, Bool, if◌then◌else◌, List, [], ◌∷◌, length, find, Option, Some, None, Ok, Err}
+use Rattle.std.specs.Prelude.{ℕ, ℤ, pos, negsuc, ◌==◌, ◌&&◌, nat_le, nat_lt, not, Bool, if◌then◌else◌, List, [], ◌∷◌, length, find, Option, Some, None, Ok, Err, codes}
 use Rattle.std.specs.List.{list_any}
 use Rattle.std.specs.Option.{option_and_then, ok_or}
 use Rattle.std.specs.declared.net.socket_addr.SocketAddr.{SocketAddr}
@@ -12,7 +12,7 @@ use Rattle.scoop_classes.specs.Classes.{same_text}
 use Rattle.scoop_system.specs.declared.error.Key.{Key}
 use Rattle.scoop_system.specs.declared.error.Key.TheVariants as key
 use Rattle.scoop_system.specs.declared.error.Wrong.{Wrong}
-use Rattle.scoop_system.specs.declared.error.Wrong.TheVariants.{UnknownKey, Missing, NotANumber, NotAName, NotAnAddress, NotAList, NoTable, TooMany, NotWords}
+use Rattle.scoop_system.specs.declared.error.Wrong.TheVariants.{UnknownKey, Missing, NotANumber, NotAName, NotAnAddress, NotAList, NoTable, TooMany, NotWords, LineWord}
 use Rattle.scoop_system.specs.Name.{is_name, told}
 use Rattle.scoop_system.specs.Address.{address_of}
 use Rattle.scoop_system.specs.KeyText.{key_text}
@@ -70,19 +70,42 @@ if_name k text = if is_name text then Ok (told text) else Err (NotAName k)
 abbrev pub name_at : Key → Data → Read Wrong (List ℕ)
 name_at k d = text_at k d >>= if_name k
 
+abbrev pub no_line_word : List ℕ → Read Wrong (Option (List ℕ))
+no_line_word name = if same_text name (codes "when") then Err (LineWord name) else Ok (Some name)
+
+abbrev pub handler_name_in : Option Data → Read Wrong (List ℕ) → Read Wrong (Option (List ℕ))
+handler_name_in None name = Ok None
+handler_name_in (Some d) name = name >>= no_line_word
+
+-- the name of a handler, if it has one; `when` ends the handlers of a line, so it names none
+abbrev pub handler_name_at : Data → Read Wrong (Option (List ℕ))
+handler_name_at d = handler_name_in (get (key_text key.Name) d) (name_at key.Name d)
+
 -- ---- addresses
 
-abbrev pub with_port : Option SocketAddr → Read Wrong SocketAddr
-with_port None = Err NotAnAddress
-with_port (Some a) = if socket_port a == 0 then Err NotAnAddress else Ok a
+abbrev pub with_port : Key → Option SocketAddr → Read Wrong SocketAddr
+with_port k None = Err (NotAnAddress k)
+with_port k (Some a) = if socket_port a == 0 then Err (NotAnAddress k) else Ok a
+
+-- the address that the value of a key writes
+abbrev pub written_address : Key → Data → Read Wrong SocketAddr
+written_address k d = with_port k (option_and_then address_of (as_str d))
 
 abbrev pub address_in : Option Data → Read Wrong SocketAddr
 address_in None = Err (Missing key.Address)
-address_in (Some d) = with_port (option_and_then address_of (as_str d))
+address_in (Some d) = written_address key.Address d
 
 -- the address of a table: an IP address with a port that isn't 0
 abbrev pub address_at : Data → Read Wrong SocketAddr
 address_at d = address_in (get (key_text key.Address) d)
+
+abbrev pub status_in : Option Data → Read Wrong (Option SocketAddr)
+status_in None = Ok None
+status_in (Some d) = written_address key.Status d >>= λ a. Ok (Some a)
+
+-- the address of a node's status page, if it has one
+abbrev pub status_at : Data → Read Wrong (Option SocketAddr)
+status_at d = status_in (get (key_text key.Status) d)
 
 -- ---- tables
 

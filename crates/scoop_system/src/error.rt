@@ -61,6 +61,7 @@ pub enum Key {
     Number,
     Name,
     Address,
+    Status,
     Words,
     Batch,
     Test,
@@ -79,10 +80,12 @@ pub enum Wrong {
     NotANumber(Key, u64, u64),
     /// The value of the key isn't a name: a letter, and up to 31 letters, digits, `_` and `-`.
     NotAName(Key),
-    /// The address isn't an IP address with a port that isn't 0.
-    NotAnAddress,
+    /// The value of the key isn't an IP address with a port that isn't 0.
+    NotAnAddress(Key),
     /// The address is that of this node or client.
     AddressOf(Key, u32),
+    /// The status address is that of this node.
+    StatusOf(u32),
     /// The address is of the other family than the first one of the file.
     OtherFamily,
     /// The value of the key isn't a list.
@@ -95,8 +98,10 @@ pub enum Wrong {
     Twice,
     /// Every system has a class of this name.
     KnownClass,
-    /// The name of the operation is taken.
+    /// The name of the operation or the handler is taken.
     NameTwice(Name),
+    /// The name of the handler is a word of a line.
+    LineWord(Name),
     /// The handler's node isn't in the file.
     NoSuchNode(u32),
     /// The handler's class isn't there.
@@ -113,10 +118,14 @@ pub enum Wrong {
     NoSuchWord(Name),
     /// The term names an argument above the fourth.
     NoSuchArgument(Name),
-    /// The test isn't a list of two terms.
+    /// The test isn't a formula or a list of two terms.
     NotATest,
-    /// A write isn't a list of a word and three terms.
+    /// A write isn't a formula or a list of a word and three terms.
     NotAWrite,
+    /// The text in place of a test's formula isn't one.
+    NotATestFormula(Name),
+    /// The text in place of a write's formula isn't one.
+    NotAWriteFormula(Name),
     /// The operation writes this word twice.
     WrittenTwice(u8),
 }
@@ -203,6 +212,7 @@ impl Key {
             Key::Number => "number",
             Key::Name => "name",
             Key::Address => "address",
+            Key::Status => "status",
             Key::Words => "words",
             Key::Batch => "batch",
             Key::Test => "test",
@@ -226,6 +236,7 @@ impl Key {
             Key::Number
             | Key::Name
             | Key::Address
+            | Key::Status
             | Key::Words
             | Key::Batch
             | Key::Test
@@ -255,7 +266,6 @@ impl Wrong {
         ensures { result.now ≡ plain_text self }
     {
         match self {
-            Wrong::NotAnAddress => "address must be an IP address with a port from 1 to 65535",
             Wrong::OtherFamily =>
                 "address must have the same family, IPv4 or IPv6, as the first one",
             Wrong::NoTable => "not a table",
@@ -263,8 +273,8 @@ impl Wrong {
             Wrong::KnownClass => "every system already has a class of this name",
             Wrong::NotWords => "words must be a list of 1 to 16 whole numbers below 2^64",
             Wrong::NotAText => "a term must be text: write it in quotes",
-            Wrong::NotATest => "test must be a list of two terms",
-            Wrong::NotAWrite => "a write must be a list of a word and three terms",
+            Wrong::NotATest => "test must be a formula or a list of two terms",
+            Wrong::NotAWrite => "a write must be a formula or a list of a word and three terms",
             _ => "",
         }
     }
@@ -289,25 +299,38 @@ impl fmt::Display for Wrong {
                     "{key} must be 1 to 32 letters, digits, _ or -, beginning with a letter"
                 )
             }
+            Wrong::NotAnAddress(key) => {
+                write!(f, "{key} must be an IP address with a port from 1 to 65535")
+            }
             Wrong::AddressOf(kind, number) => write!(
                 f,
                 "address is already used by {kind} {number}"
             ),
+            Wrong::StatusOf(number) => write!(f, "status is already used by node {number}"),
             Wrong::NotAList(key) => {
                 let hint = key.hint();
                 write!(f, "{key} must be a list{hint}")
             }
             Wrong::TooMany(key, limit) => write!(f, "{key}: more than {limit}"),
             Wrong::NameTwice(name) => write!(f, "name \"{name}\" is used twice"),
+            Wrong::LineWord(name) => write!(f, "name \"{name}\" is a word of client lines"),
             Wrong::NoSuchNode(number) => write!(f, "no such node {number}"),
             Wrong::NoSuchClass(name) => write!(f, "no such class \"{name}\""),
             Wrong::WordCount(given, wanted) => write!(f, "{given} words instead of {wanted}"),
             Wrong::NotATerm(text) => write!(f, "\"{text}\" is not a term"),
+            Wrong::NotATestFormula(text) => {
+                write!(f, "\"{text}\" is not a test: write two terms, as a0 <= w0")
+            }
+            Wrong::NotAWriteFormula(text) => {
+                write!(
+                    f,
+                    "\"{text}\" is not a write: write a word and terms, as w0 = w0 + a0 - a1"
+                )
+            }
             Wrong::NoSuchWord(term) => write!(f, "{term} is not a word"),
             Wrong::NoSuchArgument(term) => write!(f, "{term} is not an argument"),
             Wrong::WrittenTwice(word) => write!(f, "w{word} is written twice"),
-            Wrong::NotAnAddress
-            | Wrong::OtherFamily
+            Wrong::OtherFamily
             | Wrong::NoTable
             | Wrong::Twice
             | Wrong::KnownClass

@@ -24,6 +24,7 @@
 
 mod arguments;
 mod class;
+mod condition;
 mod error;
 mod line;
 mod name;
@@ -32,14 +33,17 @@ mod operations;
 mod place;
 mod printing;
 mod reading;
+mod shown_word;
 mod system;
 
 pub use class::{OwnClass, OwnOperation};
+pub use condition::{MAX_CONDITIONS, NamedCondition, NamedConditions, Test, TooManyConditions};
 pub use error::{Fault, Key, Place, SystemError, TomlFault, Wrong};
-pub use line::{ClientLine, LineFault, read_line};
+pub use line::{ClientLine, LineFault, LineFaultIn, read_line};
 pub use name::{MAX_NAME_LEN, Name, is_name};
 pub use named_handlers::{MAX_NAMED, NamedHandlers, TooManyNamed};
 pub use place::{ClientPlace, HandlerClass, HandlerPlace, NodePlace};
 pub use printing::print_system;
 pub use reading::MAX_CLASSES;
+pub use shown_word::ShownWord;
 pub use system::System;

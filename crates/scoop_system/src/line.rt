@@ -1,25 +1,30 @@
 //! A client's line: the command that it gives.
 
 ghost use Rattle.std.specs.Prelude.{◌≡◌};
-ghost use Rattle.scoop_system.specs.Line.{client_line, line_of, end_line};
+ghost use Rattle.scoop_system.specs.Line.{bare_line, client_line, line_of};
 ghost use Rattle.scoop_lines.specs.Words.{words_of};
 
 mod fault;
+mod fault_in;
 mod number;
 mod request;
 mod reserve;
+mod when;
 mod words;
 
+use crate::condition::NamedConditions;
 use crate::named_handlers::NamedHandlers;
+use crate::shown_word::ShownWord;
 use crate::system::System;
 pub use fault::LineFault;
+pub use fault_in::LineFaultIn;
 use request::read_request_alone;
 use reserve::read_reserve;
 use scoop_lines::{is, is_blank, next_word};
 use scoop_message::{HandlerId, Request};
 use words::without_return;
 
-/// The command that a line gives to a client.
+/// The command that a line gives to a client. A handler is written as its number or its name.
 #[derive(Clone, Copy, Debug, PartialEq, Eq)]
 pub enum ClientLine {
     /// Nothing: the line has no word, or begins with `#`.
@@ -32,16 +37,21 @@ pub enum ClientLine {
     Query(HandlerId, Request),
     /// `end`: the end of the block.
     End,
-    /// `reserve H.. when H OP A.. least V tries T`: a block over these handlers, whose body comes in the next lines.
+    /// `reserve H.. when H OP A.. TEST V and H OP A.. TEST V tries T`, with one condition or more: a block over these handlers,
+    /// whose body comes in the next lines. `TEST` is `least`, `most` or `is`.
     ReserveWhen {
         handlers: NamedHandlers,
-        /// The handler of the condition. The condition holds if the answer is a value of at least `least`.
-        asked: HandlerId,
-        request: Request,
-        least: u64,
+        /// At least one.
+        conditions: NamedConditions,
         /// The number of tries: at least 1.
         tries: u32,
     },
+    /// `giveup`: the end of a reservation that waits.
+    GiveUp,
+    /// `help`: a list of all lines.
+    Help,
+    /// `quit`: the end of the client.
+    Quit,
 }
 
 /// Reads the command of a line. A carriage return at its end isn't part of it. Words are separated by spaces.
@@ -49,12 +59,14 @@ pub enum ClientLine {
 /// # Errors
 /// The first one that applies, in this order:
 /// - any line: `UnknownLine`, by the first word;
-/// - `end`: `WrongNumberOfWords`;
+/// - `end`, `giveup`, `help`, `quit`: `WrongNumberOfWords`;
 /// - `call`, `query`: `WrongNumberOfWords`; `TooManyArguments` for more than four; the first from the left of
-///   `NotANumber` and `NoSuchOperation`, or `NoSuchHandler` if the system doesn't have the handler; if the handler's
-///   class has the operation, `TooFewArguments` or `TooManyArguments` if it reads another number of them;
-/// - `reserve`: `TooManyHandlers`; `NotANumber` of a handler; then the errors of the words after `when`:
-///   `WrongNumberOfWords`, those of a `call`, or `NotANumber` of the least value or of the tries (1 or more).
+///   `NoSuchHandler` for a name that no handler has, `NotANumber` and `NoSuchOperation`, or `NoSuchHandler` if the system
+///   doesn't have the handler of a named operation; if the handler's class has the operation, `TooFewArguments` or
+///   `TooManyArguments` if it reads another number of them;
+/// - `reserve`: `TooManyHandlers`; `NotANumber` or `NoSuchHandler` of a handler; then the errors of the words after `when`:
+///   `WrongNumberOfWords` and `TooManyConditions`; those of each condition from the left, which are those of a `call`, or
+///   `NotANumber` of its value; `NotANumber` of the tries (1 or more).
 pub fn read_line(system: &System, line: &[u8]) -> Result<ClientLine, LineFault>
     ensures { result ≡ client_line system.now line.now }
 {
@@ -81,17 +93,24 @@ fn read_kind(system: &System, name: &[u8], rest: &[u8]) -> Result<ClientLine, Li
         let (handler, request) = read_request_alone(system, rest)?;
         Ok(ClientLine::Query(handler, request))
     } else if is(name, "end") {
-        read_end(rest)
+        read_bare(ClientLine::End, rest)
+    } else if is(name, "giveup") {
+        read_bare(ClientLine::GiveUp, rest)
+    } else if is(name, "help") {
+        read_bare(ClientLine::Help, rest)
+    } else if is(name, "quit") {
+        read_bare(ClientLine::Quit, rest)
     } else {
-        Err(LineFault::UnknownLine)
+        Err(LineFault::UnknownLine(ShownWord::of(name)))
     }
 }
 
-fn read_end(rest: &[u8]) -> Result<ClientLine, LineFault>
-    ensures { result ≡ end_line (words_of rest.now) }
+// A line of one word.
+fn read_bare(line: ClientLine, rest: &[u8]) -> Result<ClientLine, LineFault>
+    ensures { result ≡ bare_line line (words_of rest.now) }
 {
     match next_word(rest) {
-        None => Ok(ClientLine::End),
+        None => Ok(line),
         Some(_) => Err(LineFault::WrongNumberOfWords),
     }
 }

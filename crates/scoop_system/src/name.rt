@@ -5,6 +5,8 @@ ghost use Rattle.std.specs.List.{list_all};
 ghost use Rattle.std.specs.Cmp.Lexicographic.{pointwise};
 ghost use Rattle.std.specs.Cmp.Rules.{comparing};
 ghost use Rattle.std.proofs.Common.{rules};
+ghost use Rattle.scoop_message.specs.Padded.{padded};
+ghost use Rattle.scoop_system.specs.declared.name.TheConstants.{MAX_NAME_LEN};
 ghost use Rattle.scoop_system.specs.Name.{told, told_byte, is_printable, is_letter, is_name_byte, begins_with_letter, is_name};
 
 use std::marker::Model;
@@ -61,7 +63,14 @@ impl Name {
     pub fn told(text: &str) -> Name
         ensures { result ≡ told text.now }
     {
-        let bytes = beginning(text.as_bytes());
+        Name::told_bytes(text.as_bytes())
+    }
+
+    // The same of the bytes of a text.
+    pub(crate) fn told_bytes(text: &[u8]) -> Name
+        ensures { result ≡ told text.now }
+    {
+        let bytes = beginning(text);
         let count = bytes.len();
         let mut cells = [0; MAX_NAME_LEN];
         for (place, byte) in bytes.iter().enumerate() {
@@ -75,6 +84,13 @@ impl Name {
         ensures { result.now ≡ self.now }
     {
         &self.cells[..self.count]
+    }
+
+    // The bytes, with zeros after them.
+    pub(crate) fn cells(&self) -> [u8; MAX_NAME_LEN]
+        ensures { result ≡ padded 0 MAX_NAME_LEN self.now }
+    {
+        self.cells
     }
 
     /// The bytes as a text.

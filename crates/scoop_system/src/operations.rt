@@ -1,10 +1,22 @@
 //! The names of the operations that the classes of every system have.
 
 ghost use Rattle.std.specs.Prelude.{◌≡◌};
-ghost use Rattle.scoop_system.specs.Operations.{known_operation};
+ghost use Rattle.scoop_system.specs.Operations.{known_operation, known_names};
 
 use scoop_classes::DemoClass;
 use scoop_lines::is;
+
+// The names of the operations of a class.
+pub(crate) fn known_names(class: DemoClass) -> &'static str
+    ensures { result.now ≡ known_names class }
+{
+    match class {
+        DemoClass::Cell => "set, get",
+        DemoClass::Counter => "add, get",
+        DemoClass::Account => "deposit, withdraw, balance",
+        DemoClass::Exchange => "put",
+    }
+}
 
 // The number of the operation of this name, if the class has it.
 pub(crate) fn known_operation(class: DemoClass, name: &[u8]) -> Option<u16>

@@ -6,12 +6,14 @@ use scoop_message::{ClientId, HandlerId, Words};
 use std::fmt;
 use std::net::SocketAddr;
 
-/// A node and its address.
+/// A node and its addresses.
 #[derive(Clone, Copy)]
 pub struct NodePlace {
     pub number: u32,
     /// Its port isn't 0, all addresses of the system are of its family, and no other party has it.
     pub address: SocketAddr,
+    /// The address of its status page, if it has one. Its port isn't 0, and no other node has it.
+    pub status: Option<SocketAddr>,
 }
 
 /// The class of a handler's object.
@@ -31,6 +33,8 @@ pub struct HandlerPlace {
     pub class: HandlerClass,
     /// As many as the class has.
     pub words: Words,
+    /// The name by which lines may call it, if it has one. No other handler has it.
+    pub name: Option<Name>,
 }
 
 /// A client, its address, and the number of entries that it puts into one Log: 1 to 4.

@@ -2,15 +2,17 @@
 
 ghost use Rattle.std.specs.Prelude.{OnOk};
 ghost use Rattle.std.specs.Io.KnownBytes.{Appends};
-ghost use Rattle.scoop_system.specs.SystemText.{system_text, nodes_text, node_text, handlers_text, handler_text, numbers_text, clients_text, client_text};
+ghost use Rattle.scoop_system.specs.SystemText.{system_text, nodes_text, node_text, handlers_text, handler_text, numbers_text, clients_text, client_text, status_text, name_text};
 
 mod class;
 
+use crate::name::Name;
 use crate::place::{ClientPlace, HandlerPlace, NodePlace};
 use crate::system::System;
 use class::print_classes;
 use std::io;
 use std::io::Write;
+use std::net::SocketAddr;
 
 /// Writes a system: a line for each node and for each of its handlers, a line for each client, and a line for each class of
 /// its own and for each of the class's operations.
@@ -47,8 +49,20 @@ fn print_node<W: Write>(
 {
     let number = node.number;
     let address = node.address;
-    writeln!(writer, "node {number} {address}")?;
+    write!(writer, "node {number} {address}")?;
+    print_status(node.status, writer)?;
+    writeln!(writer)?;
     print_handlers(number, handlers, writer)
+}
+
+// The status address of a node, if it has one.
+fn print_status<W: Write>(status: Option<SocketAddr>, writer: &mut W) -> io::Result<()>
+    ensures { OnOk result (Appends (W.contents writer.old) (W.contents writer.new) (status_text status)) }
+{
+    match status {
+        Some(address) => write!(writer, " status {address}"),
+        None => Ok(()),
+    }
 }
 
 // The handlers of a node.
@@ -73,7 +87,18 @@ fn print_handler<W: Write>(place: &HandlerPlace, writer: &mut W) -> io::Result<(
     let class = place.class;
     write!(writer, "  handler {handler} {class}")?;
     print_numbers(place.words.as_slice(), writer)?;
+    print_name(place.name, writer)?;
     writeln!(writer)
+}
+
+// The name of a handler, if it has one.
+fn print_name<W: Write>(name: Option<Name>, writer: &mut W) -> io::Result<()>
+    ensures { OnOk result (Appends (W.contents writer.old) (W.contents writer.new) (name_text name)) }
+{
+    match name {
+        Some(name) => write!(writer, " name {name}"),
+        None => Ok(()),
+    }
 }
 
 // Numbers, with a space before each.

@@ -10,6 +10,7 @@ ghost use Rattle.scoop_system.specs.File.{Means, SaysNoSystem};
 ghost use Rattle.scoop_system.specs.Stop.{IfFault};
 
 mod class;
+mod formula;
 mod party;
 mod place;
 mod stop;

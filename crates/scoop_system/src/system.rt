@@ -3,10 +3,11 @@
 ghost use Rattle.std.specs.Prelude.{◌≡◌, ◌==◌, find, IfOk};
 ghost use Rattle.std.specs.Option.{option_copied, option_map};
 ghost use Rattle.scoop_system.specs.Arguments.{handler_arguments};
-ghost use Rattle.scoop_system.specs.System.{Plan, class_table, class_operation, handler_named, operation_named};
+ghost use Rattle.scoop_system.specs.System.{Plan, class_table, class_operation, handler_named, handler_of_name, has_name, operation_named};
 
 use crate::arguments::class_arguments;
 use crate::class::{OwnClass, class_named};
+use crate::name::Name;
 use crate::operations::known_operation;
 use crate::place::{ClientPlace, HandlerClass, HandlerPlace, NodePlace};
 use scoop_message::{ClientId, HandlerId, OutOfMemory};
@@ -93,6 +94,20 @@ impl System {
             .find(|place| place.handler.0 == handler.0)
     }
 
+    /// The number of the handler of this name, if there is one.
+    pub fn handler_by_name(&self, name: &[u8]) -> Option<HandlerId>
+        ensures { result ≡ handler_of_name self.now.handlers name.now }
+    {
+        match self
+            .handlers
+            .iter()
+            .find(|place| has_name(place.name, name))
+        {
+            Some(place) => Some(place.handler),
+            None => None,
+        }
+    }
+
     /// The client of this number, if there is one.
     pub fn client(&self, client: ClientId) -> Option<&ClientPlace>
         ensures { option_copied result ≡ find (λ c. c.client.0 == client.0) self.now.clients }
@@ -133,6 +148,16 @@ impl System {
             Some(place) => class_arguments(self.classes.as_slice(), op, place.class),
             None => None,
         }
+    }
+}
+
+// Whether an optional name is this one.
+pub(crate) fn has_name(own: Option<Name>, name: &[u8]) -> bool
+    ensures { result ≡ has_name own name.now }
+{
+    match own {
+        Some(own) => own.as_bytes() == name,
+        None => false,
     }
 }
 

@@ -2,11 +2,19 @@
 
 use scoop_errors::PartyError;
 use scoop_files::{FileError, report_file};
+use scoop_journal::OpenError;
 use scoop_message::{HandlerId, OutOfMemory};
-use scoop_report::{Hints, Status, hint, hint_of_file, report};
+use scoop_report::{FOLDER, Hints, Status, hint, hint_of_file, is_folder, report};
 use scoop_runtime::{About, ClientStop, OutOfRange, RuntimeError};
-use scoop_system::System;
+use scoop_system::{LineFaultIn, System};
+use std::fmt::Display;
 use std::net::SocketAddr;
+
+// The status with which a node ends whose own status can't be served.
+const STATUS: u8 = 3;
+
+// The status when a journal isn't opened or written.
+const JOURNAL_STATUS: u8 = 3;
 
 /// Why a node or a client ends early.
 #[derive(Clone, Copy)]
@@ -17,6 +25,18 @@ pub(crate) enum End {
     Runtime(RuntimeError),
     /// A client stops at one of its lines.
     Lines(ClientStop),
+    /// A node's status can't be served at this address.
+    Status(SocketAddr),
+    /// Its journal isn't opened.
+    Journal(OpenError),
+    /// A line of its journal isn't written.
+    Unwritten,
+}
+
+impl From<OpenError> for End {
+    fn from(error: OpenError) -> End {
+        End::Journal(error)
+    }
 }
 
 impl From<FileError> for End {
@@ -53,6 +73,8 @@ pub(crate) struct Party<'a> {
     pub(crate) address: SocketAddr,
     /// The file of its store, if it has one.
     pub(crate) store: Option<&'a str>,
+    /// The file of its journal, if it writes one.
+    pub(crate) journal: Option<&'a str>,
 }
 
 /// Reports why the node or the client ends, with where to look and what to do.
@@ -67,7 +89,43 @@ pub(crate) fn report_end(rt: &HostRuntime, party: &Party<'_>, end: End) -> Statu
             }
             status
         }
+        End::Status(address) => report_status(rt, address),
+        End::Journal(error) => report_journal(rt, party, error, error.advice()),
+        End::Unwritten => report_journal(
+            rt,
+            party,
+            RuntimeError::from(PartyError::Write),
+            "a line of the journal could not be written, and nothing was answered after it. Check that the disk has room, and \
+            resume with --store and this journal",
+        ),
     }
+}
+
+// Reports why the journal isn't opened or written, and what to do about it.
+fn report_journal<E: Display + Drop>(
+    rt: &HostRuntime,
+    party: &Party<'_>,
+    why: E,
+    advice: &str,
+) -> Status {
+    let path = party.journal.unwrap_or("");
+    let advice = if is_folder(rt, path) { FOLDER } else { advice };
+    report(rt, why);
+    hint_of_file(rt, Hints::Always, path, advice);
+    Status(JOURNAL_STATUS)
+}
+
+// Reports that a status can't be served at its address.
+fn report_status(rt: &HostRuntime, address: SocketAddr) -> Status {
+    report(rt, "status: Refused");
+    hint(
+        rt,
+        Hints::Always,
+        format_args!(
+            "{address}: another program has this port, or it is no address of this machine. Name another one, or end that program"
+        ),
+    );
+    Status(STATUS)
 }
 
 // Whether the client had its incarnation when this came. Refusals of its handlers or its store come before.
@@ -79,12 +137,23 @@ fn had_begun(error: RuntimeError) -> bool {
 }
 
 fn report_runtime(rt: &HostRuntime, party: &Party<'_>, error: RuntimeError) -> Status {
-    report(rt, error);
+    report_error(rt, party.system, error);
     match party.store {
         Some(path) => hint_over_store(rt, party, path, error),
         None => hint_about(rt, party, error.about(), error.advice()),
     }
     Status(error.status())
+}
+
+// Reports an error; of a line also what the system has instead.
+fn report_error(rt: &HostRuntime, system: &System, error: RuntimeError) {
+    match error {
+        RuntimeError::Line(number, fault) => {
+            let told = LineFaultIn { system, fault };
+            report(rt, format_args!("line {number}: {told}"));
+        }
+        error => report(rt, error),
+    }
 }
 
 fn hint_over_store(rt: &HostRuntime, party: &Party<'_>, path: &str, error: RuntimeError) {

@@ -1,15 +1,26 @@
-//! The commands of a system in a file: `check`, `node` and `client`.
+//! The commands of a system in a file, `check`, `node`, `client`, `up` and `audit`, and of a store, `store`.
 //!
 //! Each reports on standard error why it ends early, and returns the status with which the program ends.
 #![tactic(auto)]
 
 mod asking;
+mod auditing;
 mod checking;
 mod ending;
+mod folder;
+mod host;
+mod joining;
+mod journaling;
 mod serving;
+mod store_words;
 mod system_file;
 mod typed_lines;
+mod up;
+mod watching;
 
 pub use asking::run_client;
+pub use auditing::explain;
 pub use checking::check;
 pub use serving::serve_node;
+pub use store_words::show_store;
+pub use up::run_up;

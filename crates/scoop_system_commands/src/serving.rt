@@ -1,24 +1,28 @@
 //! `scoop node`: a node of a system, over UDP.
 
 use crate::ending::{End, Party, report_end, report_range};
+use crate::journaling::{open_journal, with_journal};
 use crate::system_file::{read_key, read_system, report_fault};
+use crate::watching::{Served, Shown, level_of, open_server, run_watched};
+use jiff::Timestamp;
 use scoop_command_line::{NodeOptions, StoreChoice};
 use scoop_files::{FileError, FiledStore, adopt, close, create};
+use scoop_journal::Owner;
+use scoop_journal_keeper::JournaledKeeper;
 use scoop_keeper::{Keeper, MemoryKeeper};
 use scoop_link::Link;
 use scoop_message::OutOfMemory;
 use scoop_record::Store;
-use scoop_report::{Status, report};
-use scoop_runtime::{
-    FileFault, NodePlan, OutOfRange, RuntimeError, Serving, node_run, open_node_link,
-};
+use scoop_report::{Hints, Status, hint, report};
+use scoop_runtime::{FileFault, NodePlan, OutOfRange, RuntimeError, Serving, open_node_link};
 use scoop_seal::{Key, SealedLink};
+use scoop_status::About;
+use scoop_status_server::Server;
 use scoop_system::{NodePlace, System};
+use scoop_watch::RefusesForged;
 use sqlite::Alter;
 use std::alloc::Global;
-use std::io;
-use std::io::BufWriter;
-use std::net::Net;
+use std::net::{Net, SocketAddr};
 use std::sync::Wait;
 use std::thread::Threads;
 use std::time::Clock;
@@ -29,12 +33,31 @@ pub fn serve_node<T: Threads + Wait + Clock + Net + Sync>(
     threads: &T,
     options: &NodeOptions<'_>,
 ) -> Result<(), Status> {
+    require_store(rt, options)?;
     let serving = match serving_of(options) {
         Ok(serving) => serving,
         Err(range) => return Err(report_range(rt, range)),
     };
     let system = read_system(rt, options.system)?;
     serve_in(rt, threads, options, &serving, &system)
+}
+
+// A node has a store, unless it is told to run without one.
+fn require_store(rt: &HostRuntime, options: &NodeOptions<'_>) -> Result<(), Status> {
+    let (fault, advice) = match (options.store, options.is_volatile) {
+        (StoreChoice::None, false) => (
+            "a node needs a store",
+            "name one by --new or --store, or say --volatile for a trial: then a restart forgets what was acknowledged",
+        ),
+        (StoreChoice::New(_) | StoreChoice::Old(_), true) => (
+            "--volatile with a store",
+            "leave one of them out",
+        ),
+        _ => return Ok(()),
+    };
+    report(rt, fault);
+    hint(rt, Hints::Always, advice);
+    Err(Status(2))
 }
 
 // The serving that the options ask for.
@@ -64,52 +87,118 @@ fn serve_in<T: Threads + Wait + Clock + Net + Sync>(
         ));
     };
     let key = read_key(rt, options.key)?;
-    match serve_at(rt, threads, options.store, serving, system, place, key) {
+    let party = Party {
+        system,
+        address: place.address,
+        store: options.store.path(),
+        journal: options.journal.path,
+    };
+    let shown = Shown {
+        about: About {
+            system,
+            place: *place,
+            store: options.store.path(),
+            is_sealed: key.is_some(),
+            started: now(rt)?,
+        },
+        log: level_of(options),
+        status: status_of(rt, options, place)?,
+    };
+    match serve_journaled(rt, threads, options, serving, &shown, key) {
         Ok(()) => Ok(()),
-        Err(end) => {
-            let party = Party {
-                system,
-                address: place.address,
-                store: options.store.path(),
-            };
-            Err(report_end(rt, &party, end))
+        Err(end) => Err(report_end(rt, &party, end)),
+    }
+}
+
+// The time, which the status shows.
+fn now(rt: &HostRuntime) -> Result<Timestamp, Status> {
+    match Timestamp::now(rt) {
+        Ok(now) => Ok(now),
+        Err(_) => {
+            report(rt, "the clock can't be read");
+            Err(Status(3))
         }
     }
 }
 
-// Serves the node at its place.
+// The address of the node's status, if it has one: that of the command line, or else that of the file.
+fn status_of(
+    rt: &HostRuntime,
+    options: &NodeOptions<'_>,
+    place: &NodePlace,
+) -> Result<Option<SocketAddr>, Status> {
+    let Some(text) = options.status else {
+        return Ok(place.status);
+    };
+    match text.parse::<SocketAddr>() {
+        Ok(address) => Ok(Some(address)),
+        Err(_) => {
+            report(rt, format_args!("--status {text}: not an address"));
+            hint(
+                rt,
+                Hints::Always,
+                "write an IP address and a port, as in 127.0.0.1:9101",
+            );
+            Err(Status(2))
+        }
+    }
+}
+
+// Serves the node with its journal, if it writes one.
+fn serve_journaled<'a, T: Threads + Wait + Clock + Net + Sync>(
+    rt: &HostRuntime,
+    threads: &T,
+    options: &NodeOptions<'_>,
+    serving: &'a Serving,
+    shown: &'a Shown<'a>,
+    key: Option<Key>,
+) -> Result<(), End> {
+    let (system, place) = (shown.about.system, &shown.about.place);
+    let journal = open_journal(rt, options.journal, Owner::Node(place.number))?;
+    let journal = journal.as_ref();
+    let plan = NodePlan::of(rt.alloc(), system, place)?;
+    let served = Served {
+        plan: &plan,
+        serving,
+        journal,
+        shown,
+    };
+    let ended = serve_at(rt, threads, options.store, &served, key);
+    with_journal(journal, ended)
+}
+
+// Serves the node at its place. Its ports come first, and then its store.
 fn serve_at<T: Threads + Wait + Clock + Net + Sync>(
     rt: &HostRuntime,
     threads: &T,
     store: StoreChoice<'_>,
-    serving: &Serving,
-    system: &System,
-    place: &NodePlace,
+    served: &Served<'_>,
     key: Option<Key>,
 ) -> Result<(), End> {
-    let plan = NodePlan::of(rt.alloc(), system, place)?;
-    let link = open_node_link(threads, rt.alloc(), system, place)?;
+    let shown = served.shown;
+    let link = open_node_link(threads, rt.alloc(), shown.about.system, &shown.about.place)?;
+    let mut server = open_server(rt, shown.status)?;
     match key {
         Some(key) => {
             let link = SealedLink::new(link, key);
-            serve_over(rt, threads, store, &plan, serving, link)
+            serve_over(rt, threads, store, served, &mut server, link)
         }
-        None => serve_over(rt, threads, store, &plan, serving, link),
+        None => serve_over(rt, threads, store, served, &mut server, link),
     }
 }
 
 // Serves the node over the store of this choice, if there is one.
-fn serve_over<L: Link, T: Threads + Wait + Clock + Net + Sync>(
+fn serve_over<L: Link + RefusesForged + Send, T: Threads + Wait + Clock + Net + Sync>(
     rt: &HostRuntime,
     threads: &T,
     choice: StoreChoice<'_>,
-    plan: &NodePlan,
-    serving: &Serving,
+    served: &Served<'_>,
+    server: &mut Option<Server>,
     link: L,
 ) -> Result<(), End> {
     match open_store(rt, choice) {
-        Ok(Some(store)) => serve_stored(rt, threads, plan, serving, store, link),
-        Ok(None) => serve_unstored(rt, threads, plan, serving, link),
+        Ok(Some(store)) => serve_stored(rt, threads, served, server, store, link),
+        Ok(None) => serve_unstored(rt, threads, served, server, link),
         Err(error) => Err(End::from(error)),
     }
 }
@@ -125,15 +214,15 @@ fn open_store(rt: &HostRuntime, choice: StoreChoice<'_>) -> Result<Option<FiledS
 
 // Serves the node over this store, and closes it. A function that names the files' type does one thing alone: the prover
 // takes too many steps at more.
-fn serve_stored<L: Link, T: Threads + Wait + Clock + Net + Sync>(
+fn serve_stored<L: Link + RefusesForged + Send, T: Threads + Wait + Clock + Net + Sync>(
     rt: &HostRuntime,
     threads: &T,
-    plan: &NodePlan,
-    serving: &Serving,
+    served: &Served<'_>,
+    server: &mut Option<Server>,
     store: FiledStore,
     link: L,
 ) -> Result<(), End> {
-    closed(serve_kept(rt, threads, plan, serving, store, link))
+    closed(serve_kept(rt, threads, served, server, store, link))
 }
 
 // Closes the store over which a node was served.
@@ -145,25 +234,25 @@ fn closed(served: Result<FiledStore, RuntimeError>) -> Result<(), End> {
 fn serve_kept<S, L, T>(
     rt: &HostRuntime,
     threads: &T,
-    plan: &NodePlan,
-    serving: &Serving,
+    served: &Served<'_>,
+    server: &mut Option<Server>,
     store: Store<S>,
     link: L,
 ) -> Result<Store<S>, RuntimeError>
 where
     S: Alter + Drop + Send,
-    L: Link,
+    L: Link + RefusesForged + Send,
     T: Threads + Wait + Clock + Net + Sync,
 {
-    serve_with(rt, threads, plan, serving, store, link)
+    serve_with(rt, threads, served, server, store, link)
 }
 
 // Serves the node over a record that is in memory alone.
-fn serve_unstored<L: Link, T: Threads + Wait + Clock + Net + Sync>(
+fn serve_unstored<L: Link + RefusesForged + Send, T: Threads + Wait + Clock + Net + Sync>(
     rt: &HostRuntime,
     threads: &T,
-    plan: &NodePlan,
-    serving: &Serving,
+    served: &Served<'_>,
+    server: &mut Option<Server>,
     link: L,
 ) -> Result<(), End> {
     report(
@@ -171,34 +260,40 @@ fn serve_unstored<L: Link, T: Threads + Wait + Clock + Net + Sync>(
         "no store: if this node restarts, it forgets what it acknowledged, which breaks the promise",
     );
     let keeper = MemoryKeeper::new(rt.alloc());
-    serve_with(rt, threads, plan, serving, keeper, link)?;
+    serve_with(rt, threads, served, server, keeper, link)?;
     Ok(())
 }
 
-// Serves the node over this keeper, and returns the keeper.
+// Serves the node over this keeper, and returns the keeper. The node writes its journal, if it has one.
 fn serve_with<K, L, T>(
     rt: &HostRuntime,
     threads: &T,
-    plan: &NodePlan,
-    serving: &Serving,
+    served: &Served<'_>,
+    server: &mut Option<Server>,
     keeper: K,
     link: L,
 ) -> Result<K, RuntimeError>
 where
     K: Keeper<Global> + Send,
-    L: Link,
+    L: Link + RefusesForged + Send,
     T: Threads + Wait + Clock + Net + Sync,
 {
+    let Some(journal) = served.journal else {
+        return run_watched(rt, threads, served, server, keeper, link);
+    };
     let alloc = rt.alloc();
-    let mut output = BufWriter::new(alloc, io::writer(rt)).map_err(|_| OutOfMemory)?;
-    node_run(
-        threads,
+    let Ok(handlers) = Vec::from_slice(alloc, served.plan.handlers()) else {
+        return Err(RuntimeError::from(OutOfMemory));
+    };
+    let keeper = JournaledKeeper::new(
         alloc,
-        plan,
-        serving,
         keeper,
-        link,
-        rt.stderr(),
-        &mut output,
-    )
+        journal,
+        served.shown.about.place.number,
+        handlers,
+    );
+    match run_watched(rt, threads, served, server, keeper, link) {
+        Ok(keeper) => Ok(keeper.into_inner()),
+        Err(error) => Err(error),
+    }
 }

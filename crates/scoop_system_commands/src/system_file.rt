@@ -30,8 +30,8 @@ fn report_memory(rt: &HostRuntime) -> Status {
     report_plainly(rt, RuntimeError::from(OutOfMemory))
 }
 
-// The text of a file.
-fn read_text(rt: &HostRuntime, path: &str) -> Result<String, Status> {
+/// The text of a file.
+pub(crate) fn read_text(rt: &HostRuntime, path: &str) -> Result<String, Status> {
     match fs::read_to_string(rt, path) {
         Ok(text) => Ok(text),
         Err(error) => Err(report_unread(rt, path, &error)),

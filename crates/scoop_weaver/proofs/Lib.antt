@@ -3,3 +3,5 @@ pub mod Taking
 pub mod Lifting
 pub mod Anew
 pub mod Found
+pub mod Along
+pub mod Numbers

@@ -96,8 +96,8 @@ fn note_broken<A: Allocator>(
     Ok(())
 }
 
-// Notes the traffic of this client's step.
-pub(crate) fn note_step<A: Allocator>(
+/// Appends the traffic of this client's step. If memory runs out, a part of it may be appended.
+pub fn note_step<A: Allocator>(
     client: &Client<A>,
     step: &Step,
     moves: &mut Vec<Traffic, A>,
@@ -124,8 +124,8 @@ fn give<A: Allocator + Clone>(client: &mut Client<A>, command: &Command) -> Resu
     }
 }
 
-// Makes the client's step.
-pub(crate) fn make_step<A: Allocator + Clone>(
+/// Makes the client's step. A refused command changes nothing. `OutOfMemory` is the one refusal.
+pub fn make_step<A: Allocator + Clone>(
     client: &mut Client<A>,
     step: &Step,
 ) -> Result<(), OutOfMemory>

@@ -27,11 +27,18 @@ mod error;
 mod key;
 mod law;
 mod parties;
+mod post;
 mod sent;
 mod traffic;
+mod trail;
+mod trails;
 mod weaving;
 
+pub use driving::{make_step, note_step};
 pub use error::NoWeave;
 pub use law::{one_more_driver, one_more_history, woven_is_a_world};
+pub use post::Post;
 pub use traffic::{Party, Traffic};
+pub use trail::{Passage, Trail};
+pub use trails::weave_trails;
 pub use weaving::weave;

@@ -16,8 +16,8 @@ pub struct Traffic {
 }
 
 impl Traffic {
-    // A move that neither hears nor sends.
-    pub(crate) const SILENT: Traffic = Traffic {
+    /// A move that neither hears nor sends.
+    pub const SILENT: Traffic = Traffic {
         heard: None,
         sent: None,
     };

@@ -1,7 +1,9 @@
 //! Limits of histories, and the handlers that open.
 
 use super::{MemoryBook, ONE, STRANGE, block, book, cells, hello, notes_log, refusal, sends};
-use scoop_book::{Book, BookError, Event, FinishRefusal, Node, OpenError, Pass, Reply};
+use scoop_book::{
+    Book, BookError, Event, FinishRefusal, Node, OpenError, Pass, ReopenError, Reply, Standing,
+};
 use scoop_handler::{Done, Note};
 use scoop_keeper::MemoryKeeper;
 use scoop_message::limits::MAX_HISTORY;
@@ -103,6 +105,31 @@ fn a_book_opens_again(rt: HostRuntime) -> Result<(), Fail> {
     let strange = done(&mut first, 0).ok_or("a job")?;
     let mut second = again(rt.alloc(), first).ok_or("cells")??;
     goes_on(&rt, &mut second, strange);
+    Ok(())
+}
+
+/// Why handler 1, as it stood, doesn't open again over this keeper.
+fn not_reopened(
+    alloc: Global,
+    keeper: MemoryKeeper,
+    stood: &Standing<Table>,
+) -> Option<Result<(), ReopenError>> {
+    match Book::reopen(alloc, cells(alloc, &[1])?, keeper, stood) {
+        Ok(_) => Some(Ok(())),
+        Err(error) => Some(Err(error)),
+    }
+}
+
+/// A handler that stood with a job out opens again over its keeper, and over no other one.
+#[test]
+fn a_book_opens_again_as_it_stood(rt: HostRuntime) -> Result<(), Fail> {
+    let mut first = book(rt.alloc(), &[1]).ok_or("cells")??;
+    sends(&rt, &mut first);
+    let _job = done(&mut first, 0).ok_or("a job")?;
+    let (keeper, stood) = first.into_standing();
+    let empty = MemoryKeeper::new(rt.alloc());
+    assert!(rt; not_reopened(rt.alloc(), keeper, &stood) == Some(Ok(())));
+    assert!(rt; not_reopened(rt.alloc(), empty, &stood) == Some(Err(ReopenError::OtherStates)));
     Ok(())
 }
 

@@ -68,7 +68,7 @@ const WRONG: [Case; 12] = [
 ];
 
 // Each help says what the command is for, its input, its output and its statuses, with an example.
-const HELP: [Case; 8] = [
+const HELP: [Case; 9] = [
     (
         &["scoop", "--help"],
         &[
@@ -150,6 +150,7 @@ const HELP: [Case; 8] = [
             "Statuses: 0; 1 ",
             "Example: scoop node 1 --system examples/bank.toml",
             "Usage: scoop node [OPTIONS] --system <FILE> <N>",
+            "--volatile",
             "--executors <K>",
             "[default: 2]",
             "--history <N>",
@@ -168,6 +169,19 @@ const HELP: [Case; 8] = [
             "--strict",
             "--turns <T>",
             "[default: 100000]",
+        ],
+    ),
+    (
+        &["scoop", "up", "--help"],
+        &[
+            "Runs all nodes of the system",
+            "Without --dir nothing is stored",
+            "Statuses: those of `scoop client`",
+            "Example: scoop up examples/bank.toml",
+            "Usage: scoop up [OPTIONS] <FILE>",
+            "--dir <DIR>",
+            "--client <C>",
+            "--strict",
         ],
     ),
 ];

@@ -68,8 +68,6 @@ const TICKET_TO: usize = 2;
 
 const WITHDRAWN: usize = 3;
 
-const DEPOSITED: usize = 4;
-
 const BALANCE: usize = 5;
 
 #[derive(Clone, Copy)]
@@ -139,7 +137,7 @@ impl Deal {
         } else {
             0
         };
-        let given = if self.told(DEPOSITED).is_some() {
+        let given = if self.told(BALANCE).is_some() {
             self.route.amount
         } else {
             0
@@ -160,9 +158,10 @@ impl Deal {
         ]
     }
 
-    /// The money that it withdrew and never deposited, since its client had stopped.
+    /// The money that it withdrew and never deposited, since its client had stopped. A deposit is sent with the query after
+    /// it.
     pub fn lost(&self) -> u64 {
-        if self.told(WITHDRAWN).is_some() && self.told(DEPOSITED).is_none() {
+        if self.told(WITHDRAWN).is_some() && self.told(BALANCE).is_none() {
             self.route.amount
         } else {
             0
@@ -186,12 +185,16 @@ fn read_line(number: usize, line: &str, deals: &mut Vec<Deal>) -> bool {
     }
 }
 
-/// Reads a client's output of one life, line by line. Returns whether each line is a reply to a deal.
+/// Reads a client's output of one life, line by line. Returns whether each line is a reply to a deal, or the last one tells
+/// that a block is cut.
 pub fn read_deals(printed: &[u8], deals: &mut Vec<Deal>) -> bool {
     let Ok(printed) = str::from_utf8(printed) else {
         return false;
     };
     for (number, line) in printed.lines().enumerate() {
+        if line.starts_with("cut ") {
+            return true;
+        }
         if !read_line(number, line, deals) {
             return false;
         }

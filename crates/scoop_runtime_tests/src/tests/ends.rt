@@ -1,9 +1,11 @@
 //! Ends of clients whose link gives nothing, or only a welcome.
 
 use super::text_lines::TextLines;
+use scoop_driver::NoPause;
+use scoop_journal::Journal;
 use scoop_keeper::MemoryKeeper;
 use scoop_link::TapeLink;
-use scoop_message::{ClientId, HandlerId};
+use scoop_message::{Block, ClientId, HandlerId};
 use scoop_runtime::{ClientPlan, ClientStop, Progress, RuntimeError, Unended, client_run};
 use scoop_system::System;
 use std::alloc::Global;
@@ -29,6 +31,13 @@ const WELCOME: [u8; 26] = [
     0x53, 0x51, 1, 2, 0, 0, 0, 1, 0, 0, 0, 7, 0, 0, 0, 1, 0, 0, 0, 0, 0, 0, 0, 0, 0, 0,
 ];
 
+// The client's first block.
+const BLOCK: Block = Block {
+    client: ClientId(7),
+    inc: 1,
+    num: 1,
+};
+
 // The turns that a line takes at most.
 const TURNS: u64 = 3;
 
@@ -51,8 +60,11 @@ fn ask_planned(
         plan,
         &mut keeper,
         link,
+        None::<Journal<Vec<u8>>>,
         &mut TextLines::new(lines),
         Vec::new(alloc),
+        Vec::new(alloc),
+        &mut NoPause,
         &mut output,
         &mut notes,
     );
@@ -93,7 +105,7 @@ fn a_client_that_nobody_answers_names_the_handler(rt: HostRuntime) -> Result<(),
         is_ready: true,
         answered: None,
         has_begun: true,
-        unended: Unended::Block,
+        unended: Unended::Held(BLOCK),
     };
     let error = RuntimeError::NotAnswered(HandlerId(1));
     assert_eq!(rt; ended, Err(ClientStop { error, progress }));
@@ -108,15 +120,17 @@ fn a_strict_client_ends_after_its_first_refusal(rt: HostRuntime) -> Result<(), F
     let plan = plan_in(&system).ok_or("no plan")?;
     let lines = b"# two ends\nend\nend\n";
     let (ended, output) = ask_planned(alloc, &plan, &[WELCOME], lines).ok_or("no client")?;
-    assert_eq!(rt; ended, Ok(()));
-    assert!(rt; output.as_slice() == "refused NoBlock\nrefused NoBlock\n".as_bytes());
-    let (ended, output) = ask_planned(alloc, &plan.strict(), &[WELCOME], lines).ok_or("no client")?;
-    let progress = Progress {
+    let mut progress = Progress {
         is_ready: true,
-        answered: Some(2),
+        answered: Some(3),
         has_begun: false,
         unended: Unended::Nothing,
     };
+    let error = RuntimeError::SomeRefused(2, 2);
+    assert_eq!(rt; ended, Err(ClientStop { error, progress }));
+    assert!(rt; output.as_slice() == "refused NoBlock\nrefused NoBlock\n".as_bytes());
+    let (ended, output) = ask_planned(alloc, &plan.strict(), &[WELCOME], lines).ok_or("no client")?;
+    progress.answered = Some(2);
     let error = RuntimeError::Refused(2);
     assert_eq!(rt; ended, Err(ClientStop { error, progress }));
     assert!(rt; output.as_slice() == "refused NoBlock\n".as_bytes());

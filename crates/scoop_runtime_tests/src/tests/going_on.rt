@@ -1,5 +1,6 @@
 //! The record that a node finds, and the record that it leaves.
 
+use super::emptied_keeper::EmptiedKeeper;
 use scoop_keeper::{Keeper, KeeperError, MemoryKeeper};
 use scoop_link::TapeLink;
 use scoop_message::HandlerId;
@@ -38,13 +39,13 @@ fn node_of(alloc: Global, text: &str) -> Option<NodePlan> {
 }
 
 // Serves the node for one turn, over a link that gives nothing. Returns the keeper, and whether it wrote anything.
-fn serve<R: Threads + Wait + Clock + Sync>(
+fn serve<K: Keeper<Global> + Send, R: Threads + Wait + Clock + Sync>(
     rt: &R,
     alloc: Global,
     plan: &NodePlan,
     serving: Serving,
-    keeper: MemoryKeeper,
-) -> Option<(Result<MemoryKeeper, RuntimeError>, bool)> {
+    keeper: K,
+) -> Option<(Result<K, RuntimeError>, bool)> {
     let link = TapeLink::new(alloc, 1).ok()?;
     let mut output = Vec::new(alloc);
     let notes = Vec::new(alloc);
@@ -109,4 +110,22 @@ fn a_node_goes_on_over_its_own_record_alone(rt: HostRuntime) -> Result<(), Fail>
     let serving = Serving::new(1, 1_000, 1)?;
     goes_on(&rt, alloc, &one, &two, serving)?;
     refuses(&rt, alloc, &one, &two, serving)
+}
+
+// The node stores its handler after the first load, opens with the second, and opens again with the third.
+#[test]
+fn a_node_refuses_a_store_that_was_emptied(rt: HostRuntime) -> Result<(), Fail> {
+    let alloc = rt.alloc();
+    let (front, _) = NODE.rsplit_once("[[handler]]").ok_or("one handler")?;
+    let one = node_of(alloc, front).ok_or("no node")?;
+    let serving = Serving::new(1, 1_000, 1)?;
+    let (ended, _) = serve(&rt, alloc, &one, serving, EmptiedKeeper::new(alloc, 2)).ok_or(
+        "no link",
+    )?;
+    assert_eq!(rt; ended.err(), Some(RuntimeError::OtherStates));
+    let (ended, _) = serve(&rt, alloc, &one, serving, EmptiedKeeper::new(alloc, 3)).ok_or(
+        "no link",
+    )?;
+    assert!(rt; ended.is_ok());
+    Ok(())
 }

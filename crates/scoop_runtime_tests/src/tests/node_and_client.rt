@@ -5,9 +5,10 @@ use scoop_errors::PartyError;
 use scoop_free_ports::free_ports;
 use scoop_keeper::MemoryKeeper;
 use scoop_link::UdpLink;
-use scoop_runtime::{Progress, RuntimeError, Unended};
+use scoop_message::{Block, ClientId, HandlerId};
+use scoop_runtime::{Ending, Progress, RuntimeError, Unended};
 use scoop_seal::{Key, SealedLink};
-use scoop_system::{LineFault, System};
+use scoop_system::{LineFault, ShownWord, System};
 use std::alloc::Global;
 use std::net::Net;
 use std::process::Abort;
@@ -16,9 +17,6 @@ use std::test::Fail;
 use std::thread;
 use std::thread::Threads;
 use std::time::Clock;
-
-// The turns of a node: a few seconds.
-const NODE_TURNS: u64 = 600;
 
 const ACCOUNTS: &str = "\
 [[node]]
@@ -76,12 +74,20 @@ refused NoBlock
 noted
 noted
 refused NotReserved 3
-refused NotInWhen
+noted
+answer 75
 ended 1
 noted
 condition failed 2
 refused Unknown 4
 ";
+
+// The client's first block.
+const BLOCK: Block = Block {
+    client: ClientId(7),
+    inc: 1,
+    num: 1,
+};
 
 // A node in a thread of its own, and its output.
 #[derive(Drop)]
@@ -103,13 +109,14 @@ impl Beside {
         }
     }
 
-    // Serves node 1 over its link for its turns.
+    // Serves node 1 over its link until it is asked to end.
     fn serve<R: Threads + Wait + Clock + Sync>(
         &mut self,
         rt: &R,
         alloc: Global,
         system: &System,
         history: usize,
+        ending: &Ending,
     ) {
         let Some(link) = self.link.take() else {
             return;
@@ -120,9 +127,29 @@ impl Beside {
         let served = match self.key {
             Some(key) => {
                 let link = SealedLink::new(link, key);
-                serve(rt, alloc, system, 1, history, NODE_TURNS, keeper, link)
+                serve(
+                    rt,
+                    alloc,
+                    system,
+                    1,
+                    history,
+                    u64::MAX,
+                    keeper,
+                    link,
+                    ending,
+                )
             }
-            None => serve(rt, alloc, system, 1, history, NODE_TURNS, keeper, link),
+            None => serve(
+                rt,
+                alloc,
+                system,
+                1,
+                history,
+                u64::MAX,
+                keeper,
+                link,
+                ending,
+            ),
         };
         if let Some((ended, output)) = served {
             self.keeper = ended.ok();
@@ -162,12 +189,16 @@ fn run_both<R: Threads + Wait + Clock + Sync>(
     is_typed: bool,
 ) -> Option<Told> {
     let key = beside.key;
+    let ending = Ending::new();
+    let ended = &ending;
     thread::scope(thread::scope_env(), rt, move |scope| {
-        let spawned = scope.spawn(move || beside.serve(rt, alloc, system, history));
+        let spawned = scope.spawn(move || beside.serve(rt, alloc, system, history, ended));
         if spawned.is_err() {
             return None;
         }
-        ask_over(alloc, system, key, link, lines, is_typed)
+        let told = ask_over(alloc, system, key, link, lines, is_typed);
+        ended.ask();
+        told
     })
 }
 
@@ -219,8 +250,8 @@ fn answers<R: Threads + Wait + Clock + Net + Sync + Abort>(
 ) -> Result<(), Fail> {
     let told = run_beside(rt, alloc, system, node, history, LINES, false).ok_or("no client")?;
     assert!(rt; is(&told.output, REPLIES));
-    assert_eq!(rt; told.ended, Ok(()));
-    assert_eq!(rt; told.progress, None);
+    assert_eq!(rt; told.ended, Err(RuntimeError::SomeRefused(7, 7)));
+    assert_eq!(rt; told.progress, Some(answered_to(19, Unended::Nothing)));
     Ok(())
 }
 
@@ -251,9 +282,9 @@ fn a_sealed_node_goes_on_after_its_history_is_full(rt: HostRuntime) -> Result<()
 
 const NOTES: &str = "\
 scoop: client 7 is ready
-hint: type reserve H.., call H OP A.., query H OP A.., end, or reserve H.. when H OP A.. least V tries T; control-D ends the client
+hint: type reserve H.., call H OP A.., query H OP A.., end, or reserve H.. when H OP A.. least V tries T; help lists all lines, and quit ends the client
 hint: the client has a block: end it before you reserve the next one
-scoop: line 3: no such operation
+scoop: line 3: no such operation \"balanc\": the class account has deposit, withdraw, balance
 hint: name an operation of the handler's class: scoop check shows those of the file's classes, scoop client --help the others
 ";
 
@@ -279,12 +310,12 @@ fn a_user_who_types_hears_of_a_line_that_cannot_be_read(rt: HostRuntime) -> Resu
     assert!(rt;
         is(
             &told.output,
-            "reserved 7.1.1\nrefused NotIdle\nanswer 100\n"
+            "reserved 7.1.1\nrefused NotIdle\nanswer 100\ncut 7.1.1\n"
         )
     );
     assert!(rt; is(&told.notes, NOTES));
     assert_eq!(rt; told.ended, Err(RuntimeError::InsideBlock));
-    assert_eq!(rt; told.progress, Some(answered_to(4, Unended::Block)));
+    assert_eq!(rt; told.progress, Some(answered_to(4, Unended::Cut(BLOCK))));
     Ok(())
 }
 
@@ -304,9 +335,12 @@ fn a_line_that_cannot_be_read_ends_a_client(rt: HostRuntime) -> Result<(), Fail>
     let system = accounts(&rt, alloc)?;
     let told = ended(&rt, alloc, &system, MISREAD, false).ok_or("no client")?;
     assert!(rt; told.notes.is_empty());
-    let fault = RuntimeError::Line(3, LineFault::NoSuchOperation);
+    let fault = RuntimeError::Line(
+        3,
+        LineFault::NoSuchOperation(HandlerId(1), ShownWord::of(b"balanc")),
+    );
     assert_eq!(rt; told.ended, Err(fault));
-    assert_eq!(rt; told.progress, Some(answered_to(2, Unended::Block)));
+    assert_eq!(rt; told.progress, Some(answered_to(2, Unended::Cut(BLOCK))));
     Ok(())
 }
 
@@ -349,6 +383,48 @@ fn a_user_who_types_hears_how_many_tries_failed(rt: HostRuntime) -> Result<(), F
     let told = ended(&rt, alloc, &system, TRIES, false).ok_or("no client")?;
     assert!(rt; is(&told.output, TRIED));
     assert!(rt; told.notes.is_empty());
+    assert_eq!(rt; told.ended, Err(RuntimeError::SomeRefused(2, 1)));
+    Ok(())
+}
+
+// Conditions of several parts: all of them hold, one fails, and one names a handler outside of the block.
+const CONDITIONS: &[u8] = b"\
+reserve 1 2 when 1 balance least 100 and 2 balance is 0 and 1 balance most 100 tries 3
+query 1 balance
+call 1 withdraw 30
+call 2 deposit 30
+reserve 1
+query 2 balance
+end
+reserve 1 2 when 1 balance most 70 and 2 balance is 0 tries 3
+query 1 balance
+end
+reserve 1 when 1 balance least 0 and 2 balance is 30 tries 1
+";
+
+const CONDITIONS_TOLD: &str = "\
+noted
+noted
+noted
+noted
+refused NotInWhen
+noted
+answer 100
+answer 30
+ended 1
+noted
+noted
+condition failed 3
+refused NotReserved 2
+";
+
+#[test]
+fn a_block_waits_for_all_its_conditions(rt: HostRuntime) -> Result<(), Fail> {
+    let alloc = rt.alloc();
+    let system = accounts(&rt, alloc)?;
+    let told = ended(&rt, alloc, &system, CONDITIONS, false).ok_or("no client")?;
+    assert!(rt; is(&told.output, CONDITIONS_TOLD));
+    assert_eq!(rt; told.ended, Err(RuntimeError::SomeRefused(5, 3)));
     Ok(())
 }
 

@@ -6,6 +6,7 @@ use scoop_free_ports::free_ports;
 use scoop_keeper::MemoryKeeper;
 use scoop_lines::{LineBytes, LineSource, SourceError};
 use scoop_link::UdpLink;
+use scoop_runtime::Ending;
 use scoop_system::System;
 use std::alloc::Global;
 use std::net::Net;
@@ -15,9 +16,6 @@ use std::test::Fail;
 use std::thread;
 use std::thread::Threads;
 use std::time::Clock;
-
-// The turns of the node: a few seconds.
-const NODE_TURNS: u64 = 400;
 
 const CELLS: &str = "\
 [[node]]
@@ -76,15 +74,16 @@ impl<'a> LineSource for PausingLines<'a> {
     }
 }
 
-// Serves the node over its link for its turns.
+// Serves the node over its link until it is asked to end.
 fn serve_node<R: Threads + Wait + Clock + Sync>(
     rt: &R,
     alloc: Global,
     system: &System,
     link: UdpLink,
+    ending: &Ending,
 ) {
     let keeper = MemoryKeeper::new(alloc);
-    let _served = serve(rt, alloc, system, 1, 1_000, NODE_TURNS, keeper, link);
+    let _served = serve(rt, alloc, system, 1, 1_000, u64::MAX, keeper, link, ending);
 }
 
 // The node in a thread, and the client that pauses beside it.
@@ -97,13 +96,17 @@ fn run_beside<R: Threads + Wait + Clock + Sync>(
     lines: &mut PausingLines<'_>,
 ) -> Option<Told> {
     let lines = &mut *lines;
+    let ending = Ending::new();
+    let ended = &ending;
     thread::scope(thread::scope_env(), rt, move |scope| {
-        let spawned = scope.spawn(move || serve_node(rt, alloc, system, node));
+        let spawned = scope.spawn(move || serve_node(rt, alloc, system, node, ended));
         if spawned.is_err() {
             return None;
         }
         let mut keeper = MemoryKeeper::new(alloc);
-        ask_lines(alloc, system, 7, &mut keeper, link, lines, false)
+        let told = ask_lines(alloc, system, 7, &mut keeper, link, lines, false);
+        ended.ask();
+        told
     })
 }
 

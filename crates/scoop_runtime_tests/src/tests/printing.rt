@@ -11,10 +11,16 @@ use scoop_reserve::ReserveError;
 use scoop_runtime::{
     About, OutOfRange, Progress, Reply, RuntimeError, Serving, Unended, print_reply,
 };
-use scoop_system::LineFault;
+use scoop_system::{LineFault, ShownWord};
 use std::alloc::Global;
 use std::process::Abort;
 use std::test::Fail;
+
+const BLOCK: Block = Block {
+    client: ClientId(7),
+    inc: 1,
+    num: 2,
+};
 
 // The reply is this line.
 fn prints(rt: &impl Abort, alloc: Global, reply: Reply, text: &str) -> Result<(), Fail> {
@@ -27,12 +33,7 @@ fn prints(rt: &impl Abort, alloc: Global, reply: Reply, text: &str) -> Result<()
 #[test]
 fn replies_are_lines(rt: HostRuntime) -> Result<(), Fail> {
     let alloc = rt.alloc();
-    let block = Block {
-        client: ClientId(7),
-        inc: 1,
-        num: 2,
-    };
-    prints(&rt, alloc, Reply::Reserved(block), "reserved 7.1.2\n")?;
+    prints(&rt, alloc, Reply::Reserved(BLOCK), "reserved 7.1.2\n")?;
     prints(&rt, alloc, Reply::Logged(HandlerId(3), 2), "logged 3 2\n")?;
     prints(
         &rt,
@@ -55,6 +56,7 @@ fn replies_are_lines(rt: HostRuntime) -> Result<(), Fail> {
         Reply::ConditionFailed(10),
         "condition failed 10\n",
     )?;
+    prints(&rt, alloc, Reply::GivenUp, "given up\n")?;
     prints(&rt, alloc, Reply::NotInWhen, "refused NotInWhen\n")
 }
 
@@ -97,7 +99,7 @@ fn reads(
 #[test]
 fn errors_are_told(rt: HostRuntime) -> Result<(), Fail> {
     let alloc = rt.alloc();
-    let inside = "the input ended inside a block, which is left to the next incarnation";
+    let inside = "the input ended inside a block";
     reads(&rt, alloc, RuntimeError::InsideBlock, inside, 1)?;
     let noted = "the input ended inside a waiting block, and nothing of it is done";
     reads(&rt, alloc, RuntimeError::InsideWhen, noted, 1)?;
@@ -129,6 +131,8 @@ fn errors_are_told(rt: HostRuntime) -> Result<(), Fail> {
     reads(&rt, alloc, unwelcome, "link: TurnsOver", 3)?;
     let unanswered = RuntimeError::NotAnswered(HandlerId(2));
     reads(&rt, alloc, unanswered, "link: TurnsOver", 3)?;
+    let some = RuntimeError::SomeRefused(4, 2);
+    reads(&rt, alloc, some, "line 4: refused, the first of 2", 1)?;
     reads(&rt, alloc, RuntimeError::Refused(4), "line 4: refused", 1)
 }
 
@@ -180,8 +184,8 @@ fn errors_are_told_with_what_to_do(rt: HostRuntime) {
     );
     let inside = RuntimeError::InsideBlock;
     advises(&rt, inside, About::Nothing, "write end after the last line");
-    let line = RuntimeError::Line(4, LineFault::NoSuchHandler);
-    advises(&rt, line, About::Nothing, "scoop check shows the handlers");
+    let line = RuntimeError::Line(4, LineFault::NoSuchHandler(ShownWord::of(b"till")));
+    advises(&rt, line, About::Nothing, "scoop check shows the numbers");
     let full = ended(PartyError::Write);
     advises(&rt, full, About::Nothing, "the output has room");
 }
@@ -192,8 +196,8 @@ fn a_clients_errors_name_what_they_are_about(rt: HostRuntime) {
     let unwelcome = RuntimeError::NotWelcomed(HandlerId(2));
     advises(&rt, unwelcome, at, "before with another store");
     let unanswered = RuntimeError::NotAnswered(HandlerId(2));
-    advises(&rt, unanswered, at, "stopped inside a block");
-    let line = RuntimeError::Line(4, LineFault::NotANumber);
+    advises(&rt, unanswered, at, "killed inside a block");
+    let line = RuntimeError::Line(4, LineFault::NotANumber(ShownWord::of(b"ten")));
     advises(&rt, line, About::Nothing, "whole decimal number");
     let refused = RuntimeError::Refused(4);
     advises(&rt, refused, About::Nothing, "without --strict");
@@ -262,11 +266,25 @@ fn progress_is_told(rt: HostRuntime) -> Result<(), Fail> {
         is_ready: true,
         answered: Some(3),
         has_begun: true,
-        unended: Unended::Block,
+        unended: Unended::Cut(BLOCK),
     };
     let text =
-        "the lines up to line 3 were answered, the next one may be done, and the next incarnation cuts the block: resume with --store, and begin with reserve";
+        "the lines up to line 3 were answered, the next one may be done, and block 7.1.2 is cut: resume with --store, and begin with reserve";
     says(&rt, alloc, inside, text)?;
+    let held = Progress {
+        unended: Unended::Held(BLOCK),
+        ..none
+    };
+    let text =
+        "no line was answered, and block 7.1.2 may be open still: run the client with --store and --cut";
+    says(&rt, alloc, held, text)?;
+    let given_up = Progress {
+        unended: Unended::GivenUp(BLOCK),
+        ..none
+    };
+    let text =
+        "no line was answered, and block 7.1.2 is given up: resume with --store, and begin with its reserve";
+    says(&rt, alloc, given_up, text)?;
     let waiting = Progress {
         is_ready: true,
         answered: Some(2),

@@ -11,7 +11,7 @@ use scoop_free_ports::free_ports;
 use scoop_keeper::{Keeper, MemoryKeeper};
 use scoop_link::UdpLink;
 use scoop_message::HandlerId;
-use scoop_runtime::RuntimeError;
+use scoop_runtime::{Ending, RuntimeError};
 use scoop_system::System;
 use std::alloc::Global;
 use std::net::Net;
@@ -147,7 +147,18 @@ impl Host {
             return;
         };
         let link = LossyLink::new(link);
-        let served = serve(rt, alloc, system, self.number, HISTORY, turns, keeper, link);
+        let ending = Ending::new();
+        let served = serve(
+            rt,
+            alloc,
+            system,
+            self.number,
+            HISTORY,
+            turns,
+            keeper,
+            link,
+            &ending,
+        );
         self.keeper = served.and_then(|(ended, _)| ended.ok());
     }
 

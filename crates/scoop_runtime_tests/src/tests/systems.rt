@@ -1,7 +1,9 @@
 //! Systems in texts.
 
 mod faults;
+mod formulas;
 mod lines;
+mod names;
 
 use scoop_classes::DemoClass;
 use scoop_message::{ClientId, HandlerId};

@@ -1,27 +1,48 @@
 //! Faults of a line.
 
+use crate::shown_word::ShownWord;
+use scoop_message::HandlerId;
 use std::error::Error;
 use std::fmt;
 
-/// The fault of a line. Printed in words, as `not a number`.
+/// The fault of a line. Printed in words, as `not a number "stock"`.
 #[derive(Clone, Copy, Debug, PartialEq, Eq)]
 pub enum LineFault {
     /// The first word is unknown.
-    UnknownLine,
+    UnknownLine(ShownWord),
     /// The line has fewer or more words than its kind has.
     WrongNumberOfWords,
     /// The word in place of a number isn't one, or is out of its range.
-    NotANumber,
-    /// A request has fewer arguments than its operation reads.
-    TooFewArguments,
-    /// A request has more arguments than its operation reads, or more than four.
-    TooManyArguments,
+    NotANumber(ShownWord),
+    /// A request has fewer arguments than this, which its operation reads.
+    TooFewArguments(usize),
+    /// A request has more arguments than this, which its operation reads, or more than four.
+    TooManyArguments(usize),
     /// More than nine handlers are named.
     TooManyHandlers,
-    /// A word that is no number names no operation of the handler's class.
-    NoSuchOperation,
-    /// A word in place of an operation is no number, and the system doesn't have the handler.
-    NoSuchHandler,
+    /// A block has more than eight conditions.
+    TooManyConditions,
+    /// A word that is no number names no operation of this handler's class.
+    NoSuchOperation(HandlerId, ShownWord),
+    /// The word names no handler of the system: as a name, or as a number before the name of an operation.
+    NoSuchHandler(ShownWord),
+}
+
+impl LineFault {
+    ghost use Rattle.std.specs.Prelude.{◌≡◌};
+    ghost use Rattle.scoop_system.specs.LineText.{plain_fault_text};
+
+    // The text of a fault that names nothing. Empty for the others, which `Display` prints.
+    fn plain_text(self) -> &'static str
+        ensures { result.now ≡ plain_fault_text self }
+    {
+        match self {
+            LineFault::WrongNumberOfWords => "wrong number of words",
+            LineFault::TooManyHandlers => "too many handlers",
+            LineFault::TooManyConditions => "too many conditions",
+            _ => "",
+        }
+    }
 }
 
 impl fmt::Display for LineFault {
@@ -31,16 +52,21 @@ impl fmt::Display for LineFault {
     ghost output = { λ f. Some (line_fault_text f) };
 
     fn fmt<W: fmt::Write>(&self, f: &mut fmt::Formatter<W>) -> fmt::Result {
-        f.write_str(match self {
-            LineFault::UnknownLine => "unknown line",
-            LineFault::WrongNumberOfWords => "wrong number of words",
-            LineFault::NotANumber => "not a number",
-            LineFault::TooFewArguments => "too few arguments",
-            LineFault::TooManyArguments => "too many arguments",
-            LineFault::TooManyHandlers => "too many handlers",
-            LineFault::NoSuchOperation => "no such operation",
-            LineFault::NoSuchHandler => "no such handler",
-        })
+        match self {
+            LineFault::UnknownLine(word) => write!(f, "unknown line \"{word}\""),
+            LineFault::NotANumber(word) => write!(f, "not a number \"{word}\""),
+            LineFault::TooFewArguments(wanted) => {
+                write!(f, "too few arguments: {wanted} needed")
+            }
+            LineFault::TooManyArguments(limit) => {
+                write!(f, "too many arguments: at most {limit}")
+            }
+            LineFault::NoSuchOperation(_, word) => write!(f, "no such operation \"{word}\""),
+            LineFault::NoSuchHandler(word) => write!(f, "no such handler \"{word}\""),
+            LineFault::WrongNumberOfWords
+            | LineFault::TooManyHandlers
+            | LineFault::TooManyConditions => f.write_str(self.plain_text()),
+        }
     }
 }
 

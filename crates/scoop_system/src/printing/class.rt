@@ -3,7 +3,8 @@
 ghost use Rattle.std.specs.Prelude.{◌++◌, codes, OnOk};
 ghost use Rattle.std.specs.Io.KnownBytes.{Appends};
 ghost use Rattle.scoop_system.specs.SystemText.{classes_text, class_text, words_text, rows_text, row_text, effect_text, test_text, writes_text};
-ghost use Rattle.scoop_system.specs.SystemText.{more_writes_text, write_text, term_text};
+ghost use Rattle.scoop_system.specs.SystemText.{more_writes_text, write_text, term_text, test_formula_text};
+ghost use Rattle.scoop_system.specs.ReadBack.{ReadsTest, ReadsWrite};
 
 use crate::class::{OwnClass, OwnOperation};
 use crate::name::Name;
@@ -88,12 +89,20 @@ fn print_test<W: Write>(test: Option<(Term, Term)>, writer: &mut W) -> io::Resul
     match test {
         None => Ok(()),
         Some((left, right)) => {
-            print_term(left, writer)?;
-            writer.write_all(b" <= ")?;
-            print_term(right, writer)?;
+            print_formula(left, right, writer)?;
             writer.write_all(b"; ")
         }
     }
+}
+
+// The formula of a test, which can be read back.
+fn print_formula<W: Write>(left: Term, right: Term, writer: &mut W) -> io::Result<()>
+    ensures text { OnOk result (Appends (W.contents writer.old) (W.contents writer.new) (test_formula_text (left, right))) }
+    ensures read { ReadsTest (left, right) }
+{
+    print_term(left, writer)?;
+    writer.write_all(b" <= ")?;
+    print_term(right, writer)
 }
 
 fn print_writes<W: Write>(writes: &[WordWrite], writer: &mut W) -> io::Result<()>
@@ -122,8 +131,11 @@ fn print_more_writes<W: Write>(writes: &[WordWrite], writer: &mut W) -> io::Resu
     }
 }
 
+// The formula of a write, which can be read back.
+#[tactic(auto, using(crate::proofs::FormulaLemmas::reads_write))]
 fn print_write<W: Write>(write: &WordWrite, writer: &mut W) -> io::Result<()>
-    ensures { OnOk result (Appends (W.contents writer.old) (W.contents writer.new) (write_text write.now)) }
+    ensures text { OnOk result (Appends (W.contents writer.old) (W.contents writer.new) (write_text write.now)) }
+    ensures read { ReadsWrite write.now }
 {
     let word = write.word;
     write!(writer, "w{word} := ")?;

@@ -7,15 +7,21 @@ ghost use Rattle.toml.specs.View.{view};
 ghost use Rattle.scoop_classes.specs.Classes.{table_of};
 ghost use Rattle.scoop_system.specs.Meaning.{node_of, nodes_from, nodes_of, handler_of, handlers_from, handlers_of, handler_class, client_of, clients_from, clients_of, batch_at, number_of};
 ghost use Rattle.scoop_system.specs.Meaning.{first_address, first_client, other_family, is_v4, node_at, client_at, address_taken, address_fault};
+ghost use Rattle.scoop_system.specs.Meaning.{status_fault, status_node, is_status, name_fault};
+ghost use Rattle.scoop_system.specs.System.{has_name};
 ghost use Rattle.scoop_system.specs.Stop.{IfFault};
 
 use super::place::{at, place_at};
 use super::stop::Stop;
-use super::value::{address_at, entry, in_range, key_fault, list_at, number_at, text_at, words_at};
+use super::value::{
+    address_at, entry, handler_name_at, in_range, key_fault, list_at, number_at, status_at,
+    text_at, words_at,
+};
 use crate::class::{OwnClass, class_named};
 use crate::error::{Key, Place, Wrong};
 use crate::name::Name;
 use crate::place::{ClientPlace, HandlerClass, HandlerPlace, NodePlace};
+use crate::system::has_name;
 use scoop_classes::DemoClass;
 use scoop_message::limits::{MAX_CLIENTS, MAX_ENTRIES, MAX_HANDLERS, MAX_NODES};
 use scoop_message::{ClientId, HandlerId};
@@ -55,18 +61,52 @@ fn add_nodes(nodes: &mut Vec<NodePlace>, values: &[Value]) -> Result<(), Stop>
 fn read_node(value: &Value, done: &[NodePlace]) -> Result<NodePlace, Wrong>
     ensures { result ≡ node_of done.now (view value.now) }
 {
-    if let Some(wrong) = key_fault(value, &[Key::Number, Key::Address]) {
+    if let Some(wrong) = key_fault(value, &[Key::Number, Key::Address, Key::Status]) {
         return Err(wrong);
     }
     let number = read_number(value)?;
     let address = address_at(value)?;
+    let status = status_at(value)?;
     if has_node(done, number) {
         return Err(Wrong::Twice);
     }
     if let Some(wrong) = address_fault(done, &[], address) {
         return Err(wrong);
     }
-    Ok(NodePlace { number, address })
+    if let Some(wrong) = status_fault(done, status) {
+        return Err(wrong);
+    }
+    Ok(NodePlace {
+        number,
+        address,
+        status,
+    })
+}
+
+// The fault of the status address of a node after these: one of them has it.
+fn status_fault(nodes: &[NodePlace], status: Option<SocketAddr>) -> Option<Wrong>
+    ensures { result ≡ status_fault nodes.now status }
+{
+    match status_node(nodes, status?) {
+        Some(node) => Some(Wrong::StatusOf(node.number)),
+        None => None,
+    }
+}
+
+// The node whose status address this is.
+fn status_node(nodes: &[NodePlace], address: SocketAddr) -> Option<&NodePlace>
+    ensures { option_copied result ≡ status_node nodes.now address }
+{
+    nodes.iter().find(|node| is_status(node.status, address))
+}
+
+fn is_status(status: Option<SocketAddr>, address: SocketAddr) -> bool
+    ensures { result ≡ is_status status address }
+{
+    match status {
+        Some(status) => status == address,
+        None => false,
+    }
 }
 
 // The number of a node, handler or client.
@@ -190,21 +230,25 @@ fn read_handler(
 ) -> Result<HandlerPlace, Wrong>
     ensures { result ≡ handler_of classes.now nodes.now done.now (view value.now) }
 {
-    let known = [Key::Number, Key::Node, Key::Class, Key::Words];
+    let known = [Key::Number, Key::Name, Key::Node, Key::Class, Key::Words];
     if let Some(wrong) = key_fault(value, &known) {
         return Err(wrong);
     }
     let number = read_number(value)?;
     let node = number_at(value, Key::Node, 0, u64::from(u32::MAX))? as u32;
-    let name = text_at(value, Key::Class)?;
+    let class = text_at(value, Key::Class)?;
     let words = words_at(value)?;
+    let name = handler_name_at(value)?;
     if has_handler(done, number) {
         return Err(Wrong::Twice);
+    }
+    if let Some(wrong) = name_fault(done, name) {
+        return Err(wrong);
     }
     if !has_node(nodes, node) {
         return Err(Wrong::NoSuchNode(node));
     }
-    let (class, count) = handler_class(classes, name)?;
+    let (class, count) = handler_class(classes, class)?;
     if words.len() != count {
         return Err(Wrong::WordCount(words.len(), count));
     }
@@ -213,7 +257,28 @@ fn read_handler(
         node,
         class,
         words,
+        name,
     })
+}
+
+// The fault of the name of a handler after these: one of them has it.
+fn name_fault(handlers: &[HandlerPlace], name: Option<Name>) -> Option<Wrong>
+    ensures { result ≡ name_fault handlers.now name }
+{
+    let name = name?;
+    if is_named(handlers, name) {
+        Some(Wrong::NameTwice(name))
+    } else {
+        None
+    }
+}
+
+fn is_named(handlers: &[HandlerPlace], name: Name) -> bool
+    ensures { result ≡ list_any (λ h. has_name h.name name) handlers.now }
+{
+    handlers
+        .iter()
+        .any(|place| has_name(place.name, name.as_bytes()))
 }
 
 fn has_handler(handlers: &[HandlerPlace], number: u32) -> bool

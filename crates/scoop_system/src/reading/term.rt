@@ -2,12 +2,14 @@
 
 ghost use Rattle.std.specs.Prelude.{◌≡◌, ◌≤◌, ◌==◌, [], length, map, option_map};
 ghost use Rattle.std.specs.List.{list_any};
+ghost use Rattle.toml.specs.Data.{as_array};
 ghost use Rattle.toml.specs.View.{view};
 ghost use Rattle.scoop_message.specs.declared.limits.TheConstants.{MAX_WORDS, MAX_WRITES};
 ghost use Rattle.scoop_lines.specs.Number.{decimal_of};
-ghost use Rattle.scoop_system.specs.Terms.{term_of, word_term, argument_term, constant_term, term_in, test_in, test_at, test_of, two_terms, word_in, write_in, write_of, four_terms};
-ghost use Rattle.scoop_system.specs.Terms.{written_word, next_write, writes_at, writes_from, answer_at};
+ghost use Rattle.scoop_system.specs.Terms.{term_of, word_term, argument_term, constant_term, term_in, test_in, test_at, test_of, two_terms, word_of, word_in, write_in, write_of, four_terms};
+ghost use Rattle.scoop_system.specs.Terms.{written_word, next_write, writes_at, writes_from, answer_at, listed_test, listed_write};
 
+use super::formula::{read_test, read_write};
 use super::value::{entry, list_at};
 use crate::error::{Key, Wrong};
 use crate::name::Name;
@@ -25,11 +27,11 @@ const BLANK: Write = Write {
 };
 
 // A term of a class of this many words.
-fn read_term(text: &str, words: usize) -> Result<Term, Wrong>
+pub(super) fn read_term(text: &[u8], words: usize) -> Result<Term, Wrong>
     requires { words ≤ MAX_WORDS }
     ensures { result ≡ term_of words text.now }
 {
-    match text.as_bytes() {
+    match text {
         [b'w', digits @ ..] => word_term(text, digits, words),
         [b'a', digits @ ..] => argument_term(text, digits),
         _ => constant_term(text),
@@ -37,34 +39,34 @@ fn read_term(text: &str, words: usize) -> Result<Term, Wrong>
 }
 
 // `w` and the place of a word.
-fn word_term(text: &str, digits: &[u8], words: usize) -> Result<Term, Wrong>
+fn word_term(text: &[u8], digits: &[u8], words: usize) -> Result<Term, Wrong>
     requires { words ≤ MAX_WORDS }
     ensures { result ≡ word_term words text.now (decimal_of digits.now) }
 {
     match decimal(digits) {
         Some(place) if place < words as u64 => Ok(Term::Word(place as u8)),
-        Some(_) => Err(Wrong::NoSuchWord(Name::told(text))),
-        None => Err(Wrong::NotATerm(Name::told(text))),
+        Some(_) => Err(Wrong::NoSuchWord(Name::told_bytes(text))),
+        None => Err(Wrong::NotATerm(Name::told_bytes(text))),
     }
 }
 
 // `a` and the place of an argument.
-fn argument_term(text: &str, digits: &[u8]) -> Result<Term, Wrong>
+fn argument_term(text: &[u8], digits: &[u8]) -> Result<Term, Wrong>
     ensures { result ≡ argument_term text.now (decimal_of digits.now) }
 {
     match decimal(digits) {
         Some(place) if place < MAX_ARGS as u64 => Ok(Term::Arg(place as u8)),
-        Some(_) => Err(Wrong::NoSuchArgument(Name::told(text))),
-        None => Err(Wrong::NotATerm(Name::told(text))),
+        Some(_) => Err(Wrong::NoSuchArgument(Name::told_bytes(text))),
+        None => Err(Wrong::NotATerm(Name::told_bytes(text))),
     }
 }
 
-fn constant_term(text: &str) -> Result<Term, Wrong>
+fn constant_term(text: &[u8]) -> Result<Term, Wrong>
     ensures { result ≡ constant_term text.now (decimal_of text.now) }
 {
-    match decimal(text.as_bytes()) {
+    match decimal(text) {
         Some(number) => Ok(Term::Const(number)),
-        None => Err(Wrong::NotATerm(Name::told(text))),
+        None => Err(Wrong::NotATerm(Name::told_bytes(text))),
     }
 }
 
@@ -74,7 +76,7 @@ fn term_in(value: &Value, words: usize) -> Result<Term, Wrong>
     ensures { result ≡ term_in words (view value.now) }
 {
     match value.as_str() {
-        Some(text) => read_term(text, words),
+        Some(text) => read_term(text.as_bytes(), words),
         None => Err(Wrong::NotAText),
     }
 }
@@ -94,6 +96,16 @@ fn test_in(value: &Value, words: usize) -> Result<Option<(Term, Term)>, Wrong>
     requires { words ≤ MAX_WORDS }
     ensures { result ≡ test_in words (Some (view value.now)) }
 {
+    match value.as_str() {
+        Some(text) => read_test(text, words),
+        None => listed_test(value, words),
+    }
+}
+
+fn listed_test(value: &Value, words: usize) -> Result<Option<(Term, Term)>, Wrong>
+    requires { words ≤ MAX_WORDS }
+    ensures { result ≡ listed_test words (as_array (view value.now)) }
+{
     match value.as_array() {
         Some(array) => two_terms(array.as_slice(), words),
         None => Err(Wrong::NotATest),
@@ -111,7 +123,7 @@ fn two_terms(values: &[Value], words: usize) -> Result<Option<(Term, Term)>, Wro
 }
 
 // A test of two terms.
-fn test_of(
+pub(super) fn test_of(
     left: Result<Term, Wrong>,
     right: Result<Term, Wrong>,
 ) -> Result<Option<(Term, Term)>, Wrong>
@@ -168,6 +180,16 @@ fn write_in(value: &Value, words: usize) -> Result<Write, Wrong>
     requires { words ≤ MAX_WORDS }
     ensures { result ≡ write_in words (view value.now) }
 {
+    match value.as_str() {
+        Some(text) => read_write(text, words),
+        None => listed_write(value, words),
+    }
+}
+
+fn listed_write(value: &Value, words: usize) -> Result<Write, Wrong>
+    requires { words ≤ MAX_WORDS }
+    ensures { result ≡ listed_write words (as_array (view value.now)) }
+{
     match value.as_array() {
         Some(array) => four_terms(array.as_slice(), words),
         None => Err(Wrong::NotAWrite),
@@ -190,7 +212,7 @@ fn four_terms(values: &[Value], words: usize) -> Result<Write, Wrong>
 }
 
 // A write of a word and three terms.
-fn write_of(
+pub(super) fn write_of(
     word: Result<u8, Wrong>,
     base: Result<Term, Wrong>,
     plus: Result<Term, Wrong>,
@@ -204,6 +226,14 @@ fn write_of(
         plus: plus?,
         minus: minus?,
     })
+}
+
+// The word that a text names.
+pub(super) fn read_word(text: &[u8], words: usize) -> Result<u8, Wrong>
+    requires { words ≤ MAX_WORDS }
+    ensures { result ≡ word_of words text.now }
+{
+    written_word(read_term(text, words)?)
 }
 
 // The word that a write names.

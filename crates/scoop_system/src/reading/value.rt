@@ -8,13 +8,13 @@ ghost use Rattle.std.specs.BTreeMap.{keys};
 ghost use Rattle.toml.specs.View.{view};
 ghost use Rattle.scoop_message.specs.declared.limits.TheConstants.{MAX_WORDS};
 ghost use Rattle.scoop_system.specs.KeyText.{key_text};
-ghost use Rattle.scoop_system.specs.Value.{whole_of, word_of, in_range, number_at, text_at, name_at, address_at, with_port, list_at, is_known, key_fault};
-ghost use Rattle.scoop_system.specs.Value.{words_at, some_words};
+ghost use Rattle.scoop_system.specs.Value.{whole_of, word_of, in_range, number_at, text_at, name_at, address_at, status_at, written_address, with_port, list_at, is_known, key_fault};
+ghost use Rattle.scoop_system.specs.Value.{words_at, some_words, handler_name_at};
 ghost use Rattle.scoop_system.specs.Address.{address_of};
 
 use crate::error::{Key, Wrong};
 use crate::name::{Name, is_name};
-use scoop_lines::decimal;
+use scoop_lines::{decimal, is};
 use scoop_message::Words;
 use scoop_message::limits::MAX_WORDS;
 use std::net::SocketAddr;
@@ -96,25 +96,56 @@ pub(super) fn name_at(value: &Value, key: Key) -> Result<Name, Wrong>
     }
 }
 
+// The name of a handler, if it has one. `when` ends the handlers of a line, so it names none.
+pub(super) fn handler_name_at(value: &Value) -> Result<Option<Name>, Wrong>
+    ensures { result ≡ handler_name_at (view value.now) }
+{
+    if entry(value, Key::Name).is_none() {
+        return Ok(None);
+    }
+    let name = name_at(value, Key::Name)?;
+    if is(name.as_bytes(), "when") {
+        return Err(Wrong::LineWord(name));
+    }
+    Ok(Some(name))
+}
+
 // The address of a table.
 pub(super) fn address_at(value: &Value) -> Result<SocketAddr, Wrong>
     ensures { result ≡ address_at (view value.now) }
 {
     match entry(value, Key::Address) {
-        Some(address) => match address.as_str() {
-            Some(text) => with_port(parse_address(text)),
-            None => Err(Wrong::NotAnAddress),
-        },
+        Some(address) => address_in(address, Key::Address),
         None => Err(Wrong::Missing(Key::Address)),
     }
 }
 
-fn with_port(address: Option<SocketAddr>) -> Result<SocketAddr, Wrong>
-    ensures { result ≡ with_port address }
+// The address of a node's status page, if it has one.
+pub(super) fn status_at(value: &Value) -> Result<Option<SocketAddr>, Wrong>
+    ensures { result ≡ status_at (view value.now) }
+{
+    match entry(value, Key::Status) {
+        Some(address) => Ok(Some(address_in(address, Key::Status)?)),
+        None => Ok(None),
+    }
+}
+
+// The address that the value of a key writes.
+fn address_in(value: &Value, key: Key) -> Result<SocketAddr, Wrong>
+    ensures { result ≡ written_address key (view value.now) }
+{
+    match value.as_str() {
+        Some(text) => with_port(key, parse_address(text)),
+        None => Err(Wrong::NotAnAddress(key)),
+    }
+}
+
+fn with_port(key: Key, address: Option<SocketAddr>) -> Result<SocketAddr, Wrong>
+    ensures { result ≡ with_port key address }
 {
     match address {
         Some(address) if address.port() != 0 => Ok(address),
-        _ => Err(Wrong::NotAnAddress),
+        _ => Err(Wrong::NotAnAddress(key)),
     }
 }
 

@@ -1,6 +1,6 @@
 use Rattle.std.proofs.Common.{◌≡◌, sym, ◌∙◌}
 use Rattle.scoop_book.specs.Moves.{made_by}
-use Rattle.scoop_book.proofs.MadeBy.{next_at, other_at, none_at, differs_at, at_end}
+use Rattle.scoop_book.proofs.MadeBy.{next_at, other_at}
 use Rattle.scoop_book.proofs.closing.has_events.Goals as goal
 use Rattle.scoop_book.proofs.closing.has_events.Goals.{then-entry-number+in-Some+else-not-is_of, else-entry-number}
 

@@ -6,5 +6,5 @@ use Rattle.scoop_runtime.proofs.waiting_link.print_waiting.Goals as goal
 -- the handlers after the first words
 pub returns : goal.returns
 returns g c =
-    appends_behind c.print_awaited.result _ _ _ (codes "scoop: waiting for handlers") (awaited_text c.args.is_greeting c.args.handlers.now)
+    appends_behind c.print_awaited.result _ _ _ (codes "scoop: waiting for handlers") (awaited_text c.args.awaited c.args.handlers.now)
     c.in_ok-write_all.ensures.bytes c.print_awaited.ensures

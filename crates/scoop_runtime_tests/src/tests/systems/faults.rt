@@ -5,7 +5,7 @@ use std::alloc::Global;
 use std::test::Fail;
 
 // Texts that are no systems, each with what is told of it.
-const FAULTS: [(&str, &str); 40] = [
+const FAULTS: [(&str, &str); 48] = [
     ("nodes = 1", "unknown key \"nodes\""),
     (
         "[node]\nnumber = 1",
@@ -136,11 +136,11 @@ const FAULTS: [(&str, &str); 40] = [
     ),
     (
         "class = [{name = \"a\", words = 1, operation = [{number = 1, name = \"b\", test = [\"a0\"], answer = \"0\"}]}]",
-        "operation 1 of class \"a\": test must be a list of two terms",
+        "operation 1 of class \"a\": test must be a formula or a list of two terms",
     ),
     (
         "class = [{name = \"a\", words = 1, operation = [{number = 1, name = \"b\", writes = [[\"a0\", \"0\", \"0\", \"0\"]], answer = \"0\"}]}]",
-        "operation 1 of class \"a\": a write must be a list of a word and three terms",
+        "operation 1 of class \"a\": a write must be a formula or a list of a word and three terms",
     ),
     (
         "class = [{name = \"a\", words = 1, operation = [{number = 1, name = \"b\", writes = [[\"w0\", \"0\", \"0\", \"0\"], [\"w0\", \"1\", \"0\", \"0\"]], answer = \"0\"}]}]",
@@ -153,6 +153,38 @@ const FAULTS: [(&str, &str); 40] = [
     (
         "class = [{name = \"a\", words = 1, operation = [{number = 1, name = \"b\", answer = \"w0\"}, {number = 2, name = \"b\", answer = \"w0\"}]}]",
         "operation 2 of class \"a\": name \"b\" is used twice",
+    ),
+    (
+        "class = [{name = \"a\", words = 1, operation = [{number = 1, name = \"b\", test = \"a0 < w0\", answer = \"0\"}]}]",
+        "operation 1 of class \"a\": \"a0 < w0\" is not a test: write two terms, as a0 <= w0",
+    ),
+    (
+        "class = [{name = \"a\", words = 1, operation = [{number = 1, name = \"b\", writes = [\"w0 = w0 - 1 + a0\"], answer = \"0\"}]}]",
+        "operation 1 of class \"a\": \"w0 = w0 - 1 + a0\" is not a write: write a word and terms, as w0 = w0 + a0 - a1",
+    ),
+    (
+        "class = [{name = \"a\", words = 1, operation = [{number = 1, name = \"b\", writes = [\"w0 = w0+1\"], answer = \"0\"}]}]",
+        "operation 1 of class \"a\": \"w0+1\" is not a term",
+    ),
+    (
+        "node = [{number = 1, address = \"[::1]:1\", status = \"[::1]\"}]",
+        "node 1: status must be an IP address with a port from 1 to 65535",
+    ),
+    (
+        "node = [{number = 1, address = \"[::1]:1\", status = \"[::1]:3\"}, {number = 2, address = \"[::1]:2\", status = \"[::1]:3\"}]",
+        "node 2: status is already used by node 1",
+    ),
+    (
+        "node = [{number = 1, address = \"[::1]:1\"}]\nhandler = [{number = 1, name = \"1\", node = 1, class = \"cell\", words = [0]}]",
+        "handler 1: name must be 1 to 32 letters, digits, _ or -, beginning with a letter",
+    ),
+    (
+        "node = [{number = 1, address = \"[::1]:1\"}]\nhandler = [{number = 1, name = \"when\", node = 1, class = \"cell\", words = [0]}]",
+        "handler 1: name \"when\" is a word of client lines",
+    ),
+    (
+        "node = [{number = 1, address = \"[::1]:1\"}]\nhandler = [{number = 1, name = \"a\", node = 1, class = \"cell\", words = [0]}, {number = 2, name = \"a\", node = 1, class = \"cell\", words = [0]}]",
+        "handler 2: name \"a\" is used twice",
     ),
 ];
 

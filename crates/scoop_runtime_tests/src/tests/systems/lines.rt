@@ -2,46 +2,58 @@
 
 use super::SYSTEM;
 use scoop_message::{Args, HandlerId, Request};
-use scoop_system::{ClientLine, LineFault, NamedHandlers, System, TooManyNamed, read_line};
+use scoop_system::{
+    ClientLine, NamedCondition, NamedConditions, NamedHandlers, System, Test, TooManyNamed,
+    read_line,
+};
+use std::alloc::Global;
 use std::process::Abort;
 use std::test::Fail;
 
-const FAULTS: [(&[u8], LineFault); 22] = [
-    (b"lock 1", LineFault::UnknownLine),
-    (b"call", LineFault::WrongNumberOfWords),
-    (b"call 1", LineFault::WrongNumberOfWords),
-    (b"call 1 left least 3", LineFault::WrongNumberOfWords),
-    (b"query 1 left 1 2 3 4 x", LineFault::TooManyArguments),
-    (b"call 1 order", LineFault::TooFewArguments),
-    (b"call 1 order 1 2", LineFault::TooManyArguments),
-    (b"query 3 2", LineFault::TooFewArguments),
-    (b"query 3 balance 1", LineFault::TooManyArguments),
-    (b"query x left", LineFault::NotANumber),
-    (b"query 1 right", LineFault::NoSuchOperation),
-    (b"query 2 left", LineFault::NoSuchHandler),
+const FAULTS: [(&[u8], &str); 22] = [
+    (b"lock 1", "unknown line \"lock\""),
+    (b"call", "wrong number of words"),
+    (b"call 1", "wrong number of words"),
+    (b"call 1 left least 3", "wrong number of words"),
+    (b"query 1 left 1 2 3 4 x", "too many arguments: at most 4"),
+    (b"call 1 order", "too few arguments: 1 needed"),
+    (b"call 1 order 1 2", "too many arguments: at most 1"),
+    (b"query 3 2", "too few arguments: 1 needed"),
+    (b"query 3 balance 1", "too many arguments: at most 0"),
+    (b"query x left", "no such handler \"x\""),
+    (b"query 1 right", "no such operation \"right\""),
+    (b"query 2 left", "no such handler \"2\""),
     (
         b"reserve 1 when 2 left least 1 tries 1",
-        LineFault::NoSuchHandler,
+        "no such handler \"2\"",
     ),
-    (b"query 2 left x", LineFault::NoSuchHandler),
-    (b"query 1 65536", LineFault::NotANumber),
-    (b"query 1 left 18446744073709551616", LineFault::NotANumber),
-    (b"end 1", LineFault::WrongNumberOfWords),
-    (b"reserve 1 2 3 4 5 6 7 8 9 10", LineFault::TooManyHandlers),
-    (b"reserve 1 x", LineFault::NotANumber),
+    (b"query 2 left x", "no such handler \"2\""),
+    (b"query 1 65536", "not a number \"65536\""),
     (
-        b"reserve 1 when 1 left least 1",
-        LineFault::WrongNumberOfWords,
+        b"query 1 left 18446744073709551616",
+        "not a number \"18446744073709551616\"",
     ),
+    (b"end 1", "wrong number of words"),
+    (b"reserve 1 2 3 4 5 6 7 8 9 10", "too many handlers"),
+    (b"reserve 1 x", "no such handler \"x\""),
+    (b"reserve 1 when 1 left least 1", "wrong number of words"),
     (
         b"reserve 1 when 1 left least 1 tries 0",
-        LineFault::NotANumber,
+        "not a number \"0\"",
     ),
     (
         b"reserve 1 when 1 left tries 1 least 1",
-        LineFault::WrongNumberOfWords,
+        "wrong number of words",
     ),
 ];
+
+// The text of the fault of a line.
+fn told(alloc: Global, system: &System, line: &[u8]) -> Result<String, Fail> {
+    match read_line(system, line) {
+        Ok(_) => Ok(String::new(alloc)),
+        Err(fault) => Ok(format!(in alloc; "{fault}")?),
+    }
+}
 
 fn asks_a_client(rt: &impl Abort, system: &System) -> Result<(), Fail> {
     let handlers = NamedHandlers::of(&[HandlerId(3), HandlerId(1)])?;
@@ -76,9 +88,11 @@ fn waits_for_a_balance(rt: &impl Abort, system: &System) -> Result<(), Fail> {
     };
     let wanted = ClientLine::ReserveWhen {
         handlers: NamedHandlers::of(&[HandlerId(3), HandlerId(1)])?,
-        asked: HandlerId(3),
-        request,
-        least: 40,
+        conditions: NamedConditions::of(&[NamedCondition {
+            asked: HandlerId(3),
+            request,
+            test: Test::Least(40),
+        }])?,
         tries: 9,
     };
     assert_eq!(rt; line, wanted);
@@ -95,7 +109,7 @@ fn a_condition_stands_after_when(rt: HostRuntime) -> Result<(), Fail> {
 fn each_fault_of_a_line(rt: HostRuntime) -> Result<(), Fail> {
     let system = System::read(rt.alloc(), SYSTEM)?;
     for (line, fault) in &FAULTS {
-        assert_eq!(rt; read_line(&system, line), Err(*fault));
+        assert_eq!(rt; told(rt.alloc(), &system, line)?.as_str(), *fault);
     }
     Ok(())
 }

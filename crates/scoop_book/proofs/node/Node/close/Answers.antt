@@ -1,32 +1,13 @@
-use Rattle.std.proofs.Common.{◌≡◌, ◌↔◌, ℕ, List, ap, subst}
-use Rattle.scoop_book.specs.declared.error.CloseRefusal.TheVariants.{MissingPass}
-use Rattle.scoop_book.specs.Closing.{IsComplete}
-use Rattle.scoop_book.specs.Passes.{NodeValue, PassValue}
-use Rattle.scoop_book.proofs.NodeLemmas.{closed_of, differs_of, follows_of}
+use Rattle.scoop_book.specs.Closing.{FollowsOpening}
+use Rattle.std.proofs.Common.{sym, subst}
+use Rattle.scoop_book.proofs.ReopeningLemmas.{closed_with}
 use Rattle.scoop_book.proofs.node.Node.close.Goals as goal
 
-pub returns-in-None-clause-closed : goal.returns-in-None-clause-closed
-returns-in-None-clause-closed g c =
-    closed_of g.K.Keeper.handlers g.K.Keeper.is_honest c.into_inner-book.result c.args.self.passes c.self.inside.passes c.args.passes.items c.deref.result.now
-    c.opening.result.now c.history.result.now c.into_closed.result.history.items c.into_closed.result.keeper
-    (ap (λ (n : NodeValue). n.passes) c.self.view_is) c.deref.ensures.value c.opening.ensures c.history.ensures.entries c.into_closed.ensures.history
-    c.into_closed.ensures.keeper
-    c.history.ensures.sound c.in-None.ensures.complete c.in-None.ensures.agree c.in-None.ensures.no_others
+pub returns-in-Ok-clause-closed : goal.returns-in-Ok-clause-closed
+returns-in-Ok-clause-closed g c =
+    closed_with g.K.Keeper.handlers g.K.Keeper.is_honest c.args.self.passes c.args.passes.items c.in-Ok.book.history c.into_closed.result.history.items
+    c.in-Ok.book.keeper c.into_closed.result.keeper c.in-Ok.book.handlers c.into_closed.ensures.history c.into_closed.ensures.keeper c.in-Ok.ensures.closes
 
-pub returns-in-Some-clause-missing : goal.returns-in-Some-clause-missing
-returns-in-Some-clause-missing g c =
-    subst (λ (n : ℕ). (c.in-Some.cause ≡ MissingPass) ↔ (IsComplete n c.args.passes.items → ⊥)) (ap (λ (n : NodeValue). n.passes) c.self.view_is)
-    (subst (λ (ps : List PassValue). (c.in-Some.cause ≡ MissingPass) ↔ (IsComplete c.self.inside.passes ps → ⊥))
-    c.deref.ensures.value c.in-Some.ensures.missing)
-
-pub returns-in-None-clause-since : goal.returns-in-None-clause-since
-returns-in-None-clause-since g c =
-    follows_of g.K.Keeper.handlers g.K.Keeper.is_honest c.into_inner-book.result c.args.passes.items c.deref.result.now c.opening.result.now
-    c.history.result.now c.into_closed.result.keeper c.deref.ensures.value c.opening.ensures c.into_closed.ensures.keeper c.history.ensures.sound
-    c.in-None.ensures.agree
-
-pub returns-in-Some-clause-differs : goal.returns-in-Some-clause-differs
-returns-in-Some-clause-differs g c n is =
-    differs_of g.K.Keeper.handlers g.K.Keeper.is_honest c.into_inner-book.result c.args.self.passes c.self.inside.passes c.args.passes.items c.deref.result.now
-    c.opening.result.now c.history.result.now n (ap (λ (x : NodeValue). x.passes) c.self.view_is) c.deref.ensures.value c.opening.ensures
-    c.history.ensures.entries c.history.ensures.sound (c.in-Some.ensures.differs n is)
+pub returns-in-Ok-clause-since : goal.returns-in-Ok-clause-since
+returns-in-Ok-clause-since g c =
+    subst (λ k. FollowsOpening g.K.Keeper.handlers g.K.Keeper.is_honest c.args.passes.items k) (sym c.into_closed.ensures.keeper) c.in-Ok.ensures.since

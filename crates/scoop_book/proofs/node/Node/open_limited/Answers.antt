@@ -1,15 +1,16 @@
-use Rattle.std.proofs.Common.{◌≡◌, ◌<◌, ℕ, List, Some, slice_get, subst}
-use Rattle.scoop_book.specs.Moves.{LocalHandler}
-use Rattle.scoop_book.specs.Passes.{fresh_pass}
+use Rattle.std.proofs.Common.{inl, inr, arith}
 use Rattle.scoop_book.proofs.node.Node.open_limited.Goals as goal
 
-pub returns-clause-opened : goal.returns-clause-opened
-returns-clause-opened g c = record {
+pub returns-in-Ok-share-clause-opened : goal.returns-in-Ok-share-clause-opened
+returns-in-Ok-share-clause-opened g c = record {
   opening = c.in-Ok.book.opening;
   now = c.in-Ok.book.keeper;
   honest = c.in-Ok.ensures.honest;
-  count_is = c.in-Ok-fresh_passes.ensures.count;
-  fresh = subst (λ (hs : List LocalHandler). (n : ℕ) → n < c.args.passes → slice_get c.in-Ok-fresh_passes.fresh.items n ≡ Some (fresh_pass hs n))
-      c.opening.ensures c.in-Ok-fresh_passes.ensures.fresh;
+  count_is = c.in-Ok-share.ensures.count;
+  fresh = c.in-Ok-share.ensures.fresh;
   opens = c.in-Ok.ensures.opens;
 }
+
+pub returns-in-Err-share-clause-refused : goal.returns-in-Err-share-clause-refused
+returns-in-Err-share-clause-refused g c =
+    inr (omega arith, inr (record { may = c.in-Ok.ensures.may; refused = inl c.in-Err-share.ensures.refused }))

@@ -1,4 +1,4 @@
-use Rattle.scoop_runtime.proofs.Tries.{turned_more}
+use Rattle.scoop_runtime.proofs.Turned.{turned_more}
 use Rattle.scoop_runtime.proofs.session.Session.unlock.Goals as goal
 
 pub returns-in-Err-clause-turned : goal.returns-in-Err-clause-turned

@@ -12,3 +12,12 @@ returns-in-NotATerm-clause-writes g c plain ok = rw c.in-NotATerm.is (simp appen
 
 pub returns-in-NoSuchWord-clause-writes : goal.returns-in-NoSuchWord-clause-writes
 returns-in-NoSuchWord-clause-writes g c plain ok = rw c.in-NoSuchWord.is (c.write-in-NoSuchWord.ensures.writes plain ok)
+
+pub returns-in-LineWord-clause-writes : goal.returns-in-LineWord-clause-writes
+returns-in-LineWord-clause-writes g c plain ok = rw c.in-LineWord.is (simp append_assoc (c.write-in-LineWord.ensures.writes plain ok))
+
+pub returns-in-NotATestFormula-clause-writes : goal.returns-in-NotATestFormula-clause-writes
+returns-in-NotATestFormula-clause-writes g c plain ok = rw c.in-NotATestFormula.is (simp append_assoc (c.write-in-NotATestFormula.ensures.writes plain ok))
+
+pub returns-in-NotAWriteFormula-clause-writes : goal.returns-in-NotAWriteFormula-clause-writes
+returns-in-NotAWriteFormula-clause-writes g c plain ok = rw c.in-NotAWriteFormula.is (simp append_assoc (c.write-in-NotAWriteFormula.ensures.writes plain ok))

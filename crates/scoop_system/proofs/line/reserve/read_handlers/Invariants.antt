@@ -1,6 +1,7 @@
-use Rattle.std.proofs.Common.{◌≡◌, ◌≤◌, ◌+◌, length, take, codes}
+use Rattle.std.proofs.Common.{◌≡◌, ◌≤◌, ◌+◌, length, take}
 use Rattle.scoop_system.specs.declared.named_handlers.TheConstants.{MAX_NAMED}
 use Rattle.scoop_lines.specs.Words.{words_of}
+use Rattle.scoop_system.specs.declared.line.words.Border.TheVariants.{When}
 use Rattle.scoop_system.specs.Words.{before}
 use Rattle.scoop_lines.specs.Reading.{each_of}
 use Rattle.scoop_system.specs.Line.{handler_of}
@@ -9,9 +10,9 @@ use Rattle.scoop_system.proofs.line.reserve.read_handlers.Given as goal
 
 abbrev pub invariant-loop-word : goal.invariant-loop-word
 invariant-loop-word l = record {
-  read : each_of handler_of (before (codes "when") (words_of l.fn.line))
-      ≡ joined (take l.count l.handlers) (each_of handler_of (before (codes "when") (words_of l.rest)));
-  room : l.count + length (before (codes "when") (words_of l.rest)) ≤ MAX_NAMED;
+  read : each_of (handler_of l.fn.system) (before When (words_of l.fn.line))
+      ≡ joined (take l.count l.handlers) (each_of (handler_of l.fn.system) (before When (words_of l.rest)));
+  room : l.count + length (before When (words_of l.rest)) ≤ MAX_NAMED;
   size : length l.handlers ≡ MAX_NAMED;
 }
 

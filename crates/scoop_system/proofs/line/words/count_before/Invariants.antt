@@ -5,7 +5,7 @@ use Rattle.scoop_system.proofs.line.words.count_before.Given as goal
 
 abbrev pub invariant-loop-word : goal.invariant-loop-word
 invariant-loop-word l = record {
-  counted : l.count + length (before l.name (words_of l.rest)) ≡ length (before l.name (words_of l.fn.line));
+  counted : l.count + length (before l.border (words_of l.rest)) ≡ length (before l.border (words_of l.fn.line));
   room : l.count + length l.rest ≤ length l.fn.line;
 }
 

@@ -1,0 +1,10 @@
+mod Texts
+mod Clients
+mod Nodes
+mod Told
+mod World
+mod Owned
+mod Steps
+mod Paged
+mod Groups
+mod Files

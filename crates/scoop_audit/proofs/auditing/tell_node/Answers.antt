@@ -1,0 +1,17 @@
+use Rattle.std.proofs.Common.{◌≡◌, ◌∙◌, List, map, sym, subst}
+use Rattle.scoop_replay.specs.declared.node.Placed.{Placed}
+use Rattle.scoop_system.specs.declared.place.HandlerPlace.{HandlerPlace}
+use Rattle.scoop_audit.specs.Parties.{handlers_on}
+use Rattle.scoop_audit.proofs.Paged.{node_read}
+use Rattle.scoop_audit.proofs.auditing.tell_node.Goals as goal
+
+pub returns-clause-told : goal.returns-clause-told
+returns-clause-told c =
+    let s = c.args.system.now in
+    let n = c.args.number in
+    let placed = rw c.in-Some.is at c.in_ok-placed.ensures.placed in
+    let all = rw c.in-Some.is at c.in_ok-placed.ensures.all in
+    let same = c.deref.ensures.value in
+    node_read s n c.deref.result.now c.args.bytes.now c.read_node.new.post c.read_node.result (same ∙ placed)
+    (subst (λ (ps : List Placed). map (λ (p : Placed). p.handler) ps ≡ map (λ (h : HandlerPlace). h.handler) (handlers_on n s.handlers)) (sym same) all)
+    c.read_node.ensures.told

@@ -1,0 +1,541 @@
+//! The audit of all parties.
+
+ghost use Rattle.std.specs.Prelude.{◌≡◌, ◌≤◌, ◌++◌, ◌∷◌, [], ℕ, List, length, map, IfOk, IfSome, OnOk};
+ghost use Rattle.scoop_message.specs.declared.limits.TheConstants.{MAX_ENTRIES};
+ghost use Rattle.scoop_message.specs.declared.name.HandlerId.{HandlerId as Name};
+ghost use Rattle.scoop_model.specs.Step.{Placement};
+ghost use Rattle.scoop_weaver.specs.Post.{Grows};
+ghost use Rattle.scoop_audit.specs.Members.{AddsTrail, TellMembers, TellsClientOf, TellsNodeOf, TellsPartyOf};
+ghost use Rattle.scoop_audit.specs.Parties.{handlers_on, known_in, placed_in, placed_on};
+ghost use Rattle.scoop_audit.specs.Run.{Explains, journal_at};
+ghost use Rattle.scoop_audit.specs.Told.{TellsClientLife, TellsLife, joining};
+ghost use Rattle.scoop_audit.specs.World.{Weaves};
+
+use crate::blocks::Blocks;
+use crate::client::{Joined, replay_client};
+use crate::error::{AuditError, Move, PartyName, Trouble, Wrong};
+use crate::lives::Tale;
+use crate::node::replay_node;
+use crate::pages::Pages;
+use crate::places::move_at;
+use crate::remarks::Remarks;
+use crate::roster::{Member, roster};
+use scoop_message::{HandlerId, Message, OutOfMemory, limits};
+use scoop_replay::{ClientReplay, NodeReplay, Placed};
+use scoop_system::{HandlerPlace, System};
+use scoop_weaver::{NoWeave, Post, Trail, weave_trails};
+use std::alloc::Global;
+use std::marker::Model;
+
+/// The bytes of a journal.
+#[derive(Clone, Copy)]
+pub struct Journal<'a> {
+    pub bytes: &'a [u8],
+}
+
+// The lives and moves of the parties that were replayed, in their order.
+#[derive(Drop)]
+struct Replayed {
+    tales: Vec<Tale>,
+    trails: Vec<Trail>,
+    remarks: Vec<Remarks>,
+    post: Post,
+    blocks: Blocks,
+}
+
+/// A run that has an explanation: what each party did, and one order of it. Contracts see the order: for each move the place of
+/// its party.
+#[derive(Drop)]
+pub struct Explained {
+    replayed: Replayed,
+    order: Vec<u32>,
+}
+
+impl Model for Explained {
+    ghost use Rattle.std.specs.Prelude.{List, ℕ};
+
+    ghost Value = { List ℕ };
+
+    ghost view = { λ e. e.order.items };
+}
+
+impl Explained {
+    /// The moves of each party.
+    pub(crate) fn trails(&self) -> &[Trail] {
+        &self.replayed.trails
+    }
+
+    /// The deeds of each party.
+    pub(crate) fn remarks(&self) -> &[Remarks] {
+        &self.replayed.remarks
+    }
+
+    /// The messages.
+    pub(crate) fn post(&self) -> &Post {
+        &self.replayed.post
+    }
+
+    /// What each party's journal tells: the nodes in the order of the system's file, then the clients.
+    pub fn tales(&self) -> &[Tale] {
+        &self.replayed.tales
+    }
+
+    /// The blocks.
+    pub fn blocks(&self) -> &Blocks {
+        &self.replayed.blocks
+    }
+
+    /// The order: for each move the place of its party.
+    pub(crate) fn order(&self) -> &[u32] {
+        &self.order
+    }
+
+    /// How many moves there are.
+    pub fn moves(&self) -> usize {
+        self.order.len()
+    }
+}
+
+// Where a replay's trouble stands.
+fn placed(trouble: Trouble, tale: &Tale) -> AuditError {
+    match trouble {
+        Trouble::OutOfMemory => AuditError::OutOfMemory,
+        Trouble::Fault(line, fault) => AuditError::Fault(tale.journal.unwrap_or(0), line, fault),
+        Trouble::Wrong(wrong) => {
+            let entry = match tale.lives.last() {
+                Some(life) => life.entries,
+                None => 0,
+            };
+            let found = Move {
+                party: tale.party(),
+                life: tale.lives() as u64,
+                entry,
+            };
+            AuditError::Unexplained(found, wrong)
+        }
+    }
+}
+
+// The bytes of the party's journal.
+fn bytes_of<'a>(journals: &[Journal<'a>], place: Option<usize>) -> &'a [u8]
+    ensures { result.now ≡ journal_at (map (λ j. j.bytes.now) journals.now) place }
+{
+    match place {
+        Some(place) => match journals.get(place) {
+            Some(journal) => journal.bytes,
+            None => &[],
+        },
+        None => &[],
+    }
+}
+
+// A handler with its class. `None` if the system has no such class.
+fn placed_in(
+    alloc: Global,
+    system: &System,
+    place: &HandlerPlace,
+) -> Result<Option<Placed>, OutOfMemory>
+    ensures { IfOk result (λ placed. placed ≡ placed_in system.now.classes place.now) }
+{
+    let Some(class) = system.class_of(alloc, place.class)? else {
+        return Ok(None);
+    };
+    Ok(Some(Placed {
+        handler: place.handler,
+        class,
+        words: place.words,
+    }))
+}
+
+// The handlers that the system's file places on the node. `None` if one of them has no class there.
+fn placed_on(
+    alloc: Global,
+    system: &System,
+    number: u32,
+) -> Result<Option<Vec<Placed>>, OutOfMemory>
+    ensures placed { IfOk result (λ found. IfSome found (λ placed. placed.items ≡ placed_on system.now number)) }
+    ensures all { IfOk result (λ found. IfSome found (λ placed. map (λ p. p.handler) placed.items
+        ≡ map (λ h. h.handler) (handlers_on number system.now.handlers))) }
+{
+    let mut placed = Vec::new(alloc);
+    let handlers = system.handlers();
+    for place in handlers {
+        if place.node == number {
+            let Some(one) = placed_in(alloc, system, place)? else {
+                return Ok(None);
+            };
+            placed.push(one)?;
+        }
+    }
+    Ok(Some(placed))
+}
+
+// Replays the journal of a node with these handlers. A system that was read has as many words for each as its class has, and no
+// number twice.
+fn read_node(
+    alloc: Global,
+    number: u32,
+    placed: &[Placed],
+    bytes: &[u8],
+    post: &mut Post,
+    pages: &mut Pages<'_>,
+) -> Result<Trail, Trouble>
+    requires { 1 ≤ length placed.now }
+    ensures grows { OnOk result (Grows post.old post.new) }
+    ensures told { (words : Name → List ℕ) → IfOk result (TellsLife words number placed.now bytes.now post.new) }
+{
+    let mut node = match NodeReplay::new(alloc, number, placed) {
+        Ok(Some(node)) => node,
+        Ok(None) | Err(_) => return Err(Trouble::OutOfMemory),
+    };
+    match replay_node(alloc, bytes, &mut node, post, pages) {
+        Ok(()) => Ok(node.into_trail()),
+        Err(trouble) => Err(trouble),
+    }
+}
+
+// Replays a node. One without handlers does nothing.
+fn tell_node(
+    alloc: Global,
+    system: &System,
+    number: u32,
+    bytes: &[u8],
+    post: &mut Post,
+    pages: &mut Pages<'_>,
+) -> Result<Trail, Trouble>
+    ensures grows { OnOk result (Grows post.old post.new) }
+    ensures told { IfOk result (TellsNodeOf system.now number bytes.now post.new) }
+{
+    let Some(placed) = placed_on(alloc, system, number)? else {
+        return Err(Trouble::OutOfMemory);
+    };
+    if placed.is_empty() {
+        return Ok(Trail::new(alloc));
+    }
+    read_node(alloc, number, &placed, bytes, post, pages)
+}
+
+// Replays the journal of a client that knows these handlers.
+fn read_client(
+    alloc: Global,
+    joined: &Joined,
+    known: &[HandlerId],
+    bytes: &[u8],
+    post: &mut Post,
+    pages: &mut Pages<'_>,
+) -> Result<Trail, Trouble>
+    requires some { 1 ≤ joined.now.batch }
+    requires limit { joined.now.batch ≤ MAX_ENTRIES }
+    ensures grows { OnOk result (Grows post.old post.new) }
+    ensures told { (ps : List Placement) → known.now ≡ map (λ p. p.handler) ps
+        → IfOk result (TellsClientLife ps (joining joined.now.id joined.now.batch) bytes.now post.new) }
+{
+    let mut replay = match ClientReplay::new(alloc, joined.id, known, joined.batch) {
+        Ok(replay) => replay,
+        Err(_) => return Err(Trouble::OutOfMemory),
+    };
+    match replay_client(alloc, joined, bytes, &mut replay, post, pages) {
+        Ok(()) => Ok(replay.into_trail()),
+        Err(trouble) => Err(trouble),
+    }
+}
+
+// Replays a client. One without a journal does nothing.
+fn tell_client(
+    alloc: Global,
+    joined: &Joined,
+    known: &[HandlerId],
+    bytes: &[u8],
+    post: &mut Post,
+    pages: &mut Pages<'_>,
+) -> Result<Trail, Trouble>
+    ensures grows { OnOk result (Grows post.old post.new) }
+    ensures told { IfOk result (TellsClientOf known.now (joining joined.now.id joined.now.batch) bytes.now post.new) }
+{
+    if bytes.is_empty() {
+        return Ok(Trail::new(alloc));
+    }
+    let batch = joined.batch;
+    if batch < 1 || batch as usize > limits::MAX_ENTRIES {
+        return Ok(Trail::new(alloc));
+    }
+    read_client(alloc, joined, known, bytes, post, pages)
+}
+
+// Replays a party.
+fn tell_party(
+    alloc: Global,
+    system: &System,
+    known: &[HandlerId],
+    member: &Member,
+    bytes: &[u8],
+    post: &mut Post,
+    pages: &mut Pages<'_>,
+) -> Result<Trail, Trouble>
+    ensures grows { OnOk result (Grows post.old post.new) }
+    ensures told { IfOk result (λ trail. TellsPartyOf system.now known.now bytes.now post.new trail member.now.batch member.now.party) }
+{
+    match member.party {
+        PartyName::Node(number) => tell_node(alloc, system, number, bytes, post, pages),
+        PartyName::Client(id) => {
+            let joined = Joined {
+                id,
+                batch: member.batch,
+            };
+            tell_client(alloc, &joined, known, bytes, post, pages)
+        }
+    }
+}
+
+// What the party's journal tells.
+fn tell(
+    alloc: Global,
+    system: &System,
+    known: &[HandlerId],
+    member: &Member,
+    bytes: &[u8],
+    post: &mut Post,
+    blocks: &mut Blocks,
+    has_chart: bool,
+) -> Result<(Tale, Trail, Remarks), AuditError>
+    ensures grows { OnOk result (Grows post.old post.new) }
+    ensures told { IfOk result (λ told. TellsPartyOf system.now known.now bytes.now post.new told.1 member.now.batch member.now.party) }
+{
+    let mut remarks = Remarks::new(alloc, has_chart);
+    let mut tale = Tale::new(alloc, member.party, member.journal);
+    let mut pages = Pages {
+        tale: &mut tale,
+        blocks,
+        remarks: &mut remarks,
+    };
+    match tell_party(alloc, system, known, member, bytes, post, &mut pages) {
+        Ok(trail) => Ok((tale, trail, remarks)),
+        Err(trouble) => Err(placed(trouble, &tale)),
+    }
+}
+
+// Adds the handlers on the node of this number.
+fn add_known(system: &System, number: u32, known: &mut Vec<HandlerId>) -> Result<(), OutOfMemory>
+    ensures { OnOk result (known.new.items ≡ known.old.items ++ map (λ h. h.handler) (handlers_on number system.now.handlers)) }
+{
+    let handlers = system.handlers();
+    for place in handlers {
+        if place.node == number {
+            known.push(place.handler)?;
+        }
+    }
+    Ok(())
+}
+
+// The handlers of the system, node by node: every client knows them in this order.
+fn known_handlers(alloc: Global, system: &System) -> Result<Vec<HandlerId>, OutOfMemory>
+    ensures { IfOk result (λ known. known.items ≡ known_in system.now) }
+{
+    let mut known = Vec::new(alloc);
+    let nodes = system.nodes();
+    for node in nodes {
+        add_known(system, node.number, &mut known)?;
+    }
+    Ok(known)
+}
+
+// The party that would have sent the message, if it has no journal.
+fn silent_party(system: &System, tales: &[Tale], message: &Message) -> Option<PartyName> {
+    let sender = if message.for_handler() {
+        PartyName::Client(message.client())
+    } else {
+        PartyName::Node(system.handler(message.handler())?.node)
+    };
+    for tale in tales {
+        if tale.party() == sender && !tale.has_journal() {
+            return Some(sender);
+        }
+    }
+    None
+}
+
+// The move at this place of a party's trail hears what nobody sent.
+fn unsent(
+    system: &System,
+    journals: &[Journal<'_>],
+    known: &[HandlerId],
+    tales: &[Tale],
+    trails: &[Trail],
+    post: &Post,
+    party: usize,
+    place: usize,
+) -> AuditError {
+    let Some(tale) = tales.get(party) else {
+        return AuditError::OutOfMemory;
+    };
+    let Some(trail) = trails.get(party) else {
+        return AuditError::OutOfMemory;
+    };
+    let Some(next) = trail.get(place) else {
+        return AuditError::OutOfMemory;
+    };
+    let Some(message) = post.message(next.heard) else {
+        return AuditError::OutOfMemory;
+    };
+    let found = move_at(tale, bytes_of(journals, tale.journal), known.len(), place);
+    let silent = silent_party(system, tales, &message);
+    AuditError::Unexplained(found, Wrong::Unsent(message, silent))
+}
+
+// One order of the parties' moves.
+fn order_of(
+    alloc: Global,
+    system: &System,
+    journals: &[Journal<'_>],
+    known: &[HandlerId],
+    tales: &[Tale],
+    trails: &[Trail],
+    post: &Post,
+) -> Result<Vec<u32>, AuditError>
+    ensures { IfOk result (λ order. Weaves post.now trails.now order.items) }
+{
+    match weave_trails(alloc, post, trails) {
+        Ok(order) => Ok(order),
+        Err(NoWeave::OutOfMemory) => Err(AuditError::OutOfMemory),
+        Err(NoWeave::Unsent(party, place)) => {
+            Err(unsent(system, journals, known, tales, trails, post, party, place))
+        }
+    }
+}
+
+// Adds what the party did.
+fn add(
+    tale: Tale,
+    trail: Trail,
+    remarks: Remarks,
+    replayed: &mut Replayed,
+) -> Result<(), OutOfMemory>
+    ensures trail { OnOk result (replayed.new.trails.items ≡ replayed.old.trails.items ++ trail ∷ []) }
+    ensures post { replayed.new.post ≡ replayed.old.post }
+{
+    replayed.tales.push(tale)?;
+    replayed.trails.push(trail)?;
+    replayed.remarks.push(remarks)?;
+    Ok(())
+}
+
+// Replays the party's journal, and adds what it tells.
+fn replay(
+    alloc: Global,
+    system: &System,
+    known: &[HandlerId],
+    member: &Member,
+    bytes: &[u8],
+    has_chart: bool,
+    replayed: &mut Replayed,
+) -> Result<(), AuditError>
+    ensures grows { OnOk result (Grows replayed.old.post replayed.new.post) }
+    ensures adds { OnOk result (AddsTrail system.now known.now bytes.now replayed.new.post member.now replayed.old.trails.items
+        replayed.new.trails.items) }
+{
+    let told = tell(
+        alloc,
+        system,
+        known,
+        member,
+        bytes,
+        &mut replayed.post,
+        &mut replayed.blocks,
+        has_chart,
+    );
+    match told {
+        Ok((tale, trail, remarks)) => {
+            add(tale, trail, remarks, replayed)?;
+            Ok(())
+        }
+        Err(error) => Err(error),
+    }
+}
+
+// Replays the journals of all parties.
+fn replay_all(
+    alloc: Global,
+    system: &System,
+    journals: &[Journal<'_>],
+    known: &[HandlerId],
+    members: &[Member],
+    has_chart: bool,
+    replayed: &mut Replayed,
+) -> Result<(), AuditError>
+    ensures { OnOk result (replayed.old.trails.items ≡ [] → TellMembers system.now known.now (map (λ j. j.bytes.now) journals.now)
+        replayed.new.post members.now replayed.new.trails.items) }
+{
+    for member in members {
+        let bytes = bytes_of(journals, member.journal);
+        match replay(alloc, system, known, member, bytes, has_chart, replayed) {
+            Ok(()) => {}
+            Err(error) => return Err(error),
+        }
+    }
+    Ok(())
+}
+
+// Replays the journals of all parties, and finds one order of their moves.
+fn explain(
+    alloc: Global,
+    system: &System,
+    journals: &[Journal<'_>],
+    has_chart: bool,
+    replayed: &mut Replayed,
+) -> Result<Vec<u32>, AuditError>
+    ensures { IfOk result (λ order. replayed.old.trails.items ≡ []
+        → Explains system.now (map (λ j. j.bytes.now) journals.now) order.items) }
+{
+    let members = roster(alloc, system, journals)?;
+    let known = known_handlers(alloc, system)?;
+    match replay_all(
+        alloc, system, journals, &known, &members, has_chart, replayed,
+    ) {
+        Ok(()) => {}
+        Err(error) => return Err(error),
+    }
+    order_of(
+        alloc,
+        system,
+        journals,
+        &known,
+        &replayed.tales,
+        &replayed.trails,
+        &replayed.post,
+    )
+}
+
+// Nothing is replayed yet.
+fn nothing_replayed(alloc: Global) -> Replayed
+    ensures { result.trails.items ≡ [] }
+{
+    Replayed {
+        tales: Vec::new(alloc),
+        trails: Vec::new(alloc),
+        remarks: Vec::new(alloc),
+        post: Post::new(alloc),
+        blocks: Blocks::new(alloc),
+    }
+}
+
+/// Whether the journals are those of a run of the system, and if so, one order of all that happened. If a chart of it is
+/// wanted, the run keeps what the chart shows.
+///
+/// Each node that has handlers, and each client, has its own journal among these, or none. Each journal with a line is that of
+/// a party. If a world may open with the system's parties (`MayRun`), the order is that of a world, in which each party lives
+/// the life that its journal tells. [`systems_may_run`](crate::systems_may_run) proves `MayRun` of each system that was read
+/// and has a handler.
+pub fn audit(
+    alloc: Global,
+    system: &System,
+    journals: &[Journal<'_>],
+    has_chart: bool,
+) -> Result<Explained, AuditError>
+    ensures { IfOk result (Explains system.now (map (λ j. j.bytes.now) journals.now)) }
+{
+    let mut replayed = nothing_replayed(alloc);
+    match explain(alloc, system, journals, has_chart, &mut replayed) {
+        Ok(order) => Ok(Explained { replayed, order }),
+        Err(error) => Err(error),
+    }
+}

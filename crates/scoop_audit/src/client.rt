@@ -1,0 +1,266 @@
+//! The replay of a client's journal.
+
+ghost use Rattle.std.specs.Prelude.{◌≡◌, ◌++◌, ◌<◌, ℕ, IfNone, IfOk, List, OnOk};
+ghost use Rattle.scoop_driver.specs.declared.step.Step.TheVariants.{Gave, Turned};
+ghost use Rattle.scoop_journal.specs.Journal.{ended};
+ghost use Rattle.scoop_message.specs.declared.message.Message.{Message as Told};
+ghost use Rattle.scoop_replay.specs.Client.{ClientValue, StepsOn};
+ghost use Rattle.scoop_weaver.specs.Post.{Grows};
+ghost use Rattle.scoop_audit.specs.Client.{ClientRead, ClientUpTo, StepsBy, last_turn as supposed, received_as};
+
+use crate::cursor::{Cursor, read_line};
+use crate::error::{Fault, PartyName, Trouble, Wrong};
+use crate::pages::Pages;
+use crate::remarks::Deed;
+use scoop_client::Command;
+use scoop_journal::{Arrival, Line, LineFault};
+use scoop_message::ClientId;
+use scoop_replay::{ClientReplay, ReplayError};
+use scoop_weaver::Post;
+use std::alloc::Global;
+
+// The most lives without a line that are supposed before a life.
+const MAX_LEFT_OUT: u32 = 100_000;
+
+/// The client as the system's file has it.
+#[derive(Clone, Copy)]
+pub(crate) struct Joined {
+    pub(crate) id: ClientId,
+    pub(crate) batch: u8,
+}
+
+// Why the step of this line isn't made.
+fn unmade(number: u64, error: ReplayError) -> Trouble {
+    match error {
+        ReplayError::Refused(refusal) => Trouble::Wrong(Wrong::Refused(refusal)),
+        ReplayError::NothingDue(place) => Trouble::Wrong(Wrong::NothingDue(place)),
+        ReplayError::NoFrame => Trouble::Fault(number, Fault::Line(LineFault::NoFrame)),
+        _ => Trouble::OutOfMemory,
+    }
+}
+
+// The turn that is supposed at the end of each life: a client that was killed may have sent what was due.
+fn last_turn(
+    alloc: Global,
+    replay: &mut ClientReplay,
+    post: &mut Post,
+    pages: &mut Pages<'_>,
+) -> Result<(), Trouble>
+    ensures grows { OnOk result (Grows post.old post.new) }
+    ensures turned { OnOk result (StepsOn supposed replay.old replay.new post.old post.new) }
+{
+    pages.tale.turns = pages.tale.turns.saturating_add(1);
+    match replay.wait(alloc, post) {
+        Ok(()) => Ok(()),
+        Err(_) => Err(Trouble::OutOfMemory),
+    }
+}
+
+// Ends the client's life, and begins the next one.
+fn go_on(
+    alloc: Global,
+    id: ClientId,
+    batch: u8,
+    replay: &mut ClientReplay,
+    post: &mut Post,
+    pages: &mut Pages<'_>,
+) -> Result<(), Trouble>
+    ensures grows { OnOk result (Grows post.old post.new) }
+    ensures told { (last : ℕ) (bytes rest : List ℕ) (first : ClientValue) (sent : List Told)
+        → OnOk result (ClientUpTo id batch last bytes rest first replay.old sent post.old → ClientUpTo id batch last bytes rest first replay.new sent post.new) }
+{
+    last_turn(alloc, replay, post, pages)?;
+    pages.blocks.cut(&replay.block())?;
+    let place = replay.moves();
+    match replay.restart(alloc, post) {
+        Ok(()) => {}
+        Err(_) => return Err(Trouble::OutOfMemory),
+    }
+    pages.remarks.add(place, Deed::Restarted(replay.inc()))?;
+    Ok(())
+}
+
+// Why the life can't come after that of the incarnation `last`.
+fn refuse_life(joined: &Joined, client: ClientId, last: u32, inc: u32, batch: u8) -> Option<Fault>
+    ensures { IfNone result ((client ≡ joined.now.id) × (batch ≡ joined.now.batch) × (last < inc)) }
+{
+    if client != joined.id {
+        return Some(Fault::OtherParty(PartyName::Client(client)));
+    }
+    if batch != joined.batch {
+        return Some(Fault::OtherBatch(batch, joined.batch));
+    }
+    if inc <= last {
+        return Some(Fault::OutOfOrder(inc, last));
+    }
+    if inc - last > MAX_LEFT_OUT {
+        return Some(Fault::TooManyLeftOut(inc, last));
+    }
+    None
+}
+
+// A life of the client begins. The lives up to it of which there is no line are supposed.
+fn begin_life(
+    alloc: Global,
+    joined: &Joined,
+    inc: u32,
+    replay: &mut ClientReplay,
+    post: &mut Post,
+    pages: &mut Pages<'_>,
+) -> Result<(), Trouble>
+    ensures grows { OnOk result (Grows post.old post.new) }
+    ensures told { (last : ℕ) (bytes rest : List ℕ) (first : ClientValue) (sent : List Told)
+        → OnOk result (ClientUpTo joined.now.id joined.now.batch last bytes rest first replay.old sent post.old
+        → ClientUpTo joined.now.id joined.now.batch last bytes rest first replay.new sent post.new) }
+    ensures inc { OnOk result (replay.new.client.inc ≡ inc) }
+{
+    for _ in replay.inc()..inc {
+        match go_on(alloc, joined.id, joined.batch, replay, post, pages) {
+            Ok(()) => {}
+            Err(trouble) => return Err(trouble),
+        }
+    }
+    if replay.inc() == inc {
+        Ok(())
+    } else {
+        Err(Trouble::OutOfMemory)
+    }
+}
+
+// The client takes the command.
+fn give(
+    alloc: Global,
+    command: &Command,
+    replay: &mut ClientReplay,
+    post: &mut Post,
+    pages: &mut Pages<'_>,
+) -> Result<(), ReplayError>
+    ensures grows { OnOk result (Grows post.old post.new) }
+    ensures steps { OnOk result (StepsOn (Gave command.now) replay.old replay.new post.old post.new) }
+{
+    let place = replay.moves();
+    match replay.give(alloc, post, command) {
+        Ok(()) => {}
+        Err(error) => return Err(error),
+    }
+    pages.remarks.add(place, Deed::Gave(*command))?;
+    pages.blocks.gave(&replay.block(), command)?;
+    Ok(())
+}
+
+// The client sends what is due, and hears what it received. Only a frame is heard: no move tells what else came, since the
+// client does nothing with it.
+fn turn(
+    alloc: Global,
+    arrival: &Arrival,
+    replay: &mut ClientReplay,
+    post: &mut Post,
+) -> Result<(), ReplayError>
+    ensures grows { OnOk result (Grows post.old post.new) }
+    ensures steps { OnOk result (StepsOn (Turned (received_as arrival.now)) replay.old replay.new post.old post.new) }
+{
+    match arrival {
+        Arrival::Frame(version, message) => replay.hear(alloc, post, *version, message),
+        Arrival::Nothing | Arrival::NoFrame | Arrival::Fault => match replay.wait(alloc, post) {
+            Ok(()) => Ok(()),
+            Err(_) => Err(ReplayError::OutOfMemory),
+        },
+    }
+}
+
+// Makes the step of a line, which stands in the life that the client is in.
+fn take(
+    alloc: Global,
+    number: u64,
+    line: &Line<'_>,
+    replay: &mut ClientReplay,
+    post: &mut Post,
+    pages: &mut Pages<'_>,
+) -> Result<(), Trouble>
+    ensures grows { OnOk result (Grows post.old post.new) }
+    ensures steps { OnOk result (StepsBy line.now replay.old replay.new post.old post.new) }
+{
+    pages.tale.count();
+    match line {
+        Line::Do(command) => match give(alloc, command, replay, post, pages) {
+            Ok(()) => Ok(()),
+            Err(error) => Err(unmade(number, error)),
+        },
+        Line::Turn(arrival) => match turn(alloc, arrival, replay, post) {
+            Ok(()) => Ok(()),
+            Err(error) => Err(unmade(number, error)),
+        },
+        Line::Broke(place) => match replay.break_off(alloc, post, *place) {
+            Ok(()) => Ok(()),
+            Err(error) => Err(unmade(number, error)),
+        },
+        Line::NodeLife(node) => {
+            let other = PartyName::Node(*node);
+            Err(Trouble::Fault(number, Fault::OtherParty(other)))
+        }
+        Line::ClientLife(..) | Line::Open(..) | Line::Hear(..) | Line::Begin(_) | Line::Finish(_) =>
+            Err(Trouble::Fault(number, Fault::Misplaced)),
+    }
+}
+
+// Takes a line after a life of this incarnation has begun, or before any has if it is 0. Returns the incarnation of the last life
+// that has begun.
+fn take_line(
+    alloc: Global,
+    joined: &Joined,
+    last: u32,
+    number: u64,
+    line: &Line<'_>,
+    replay: &mut ClientReplay,
+    post: &mut Post,
+    pages: &mut Pages<'_>,
+) -> Result<u32, Trouble>
+    ensures grows { OnOk result (Grows post.old post.new) }
+    ensures told { (bytes rest : List ℕ) (first : ClientValue) (sent : List Told)
+        → IfOk result (λ next. ClientUpTo joined.now.id joined.now.batch last bytes (ended line.now ++ rest) first replay.old sent post.old
+        → ClientUpTo joined.now.id joined.now.batch next bytes rest first replay.new sent post.new) }
+{
+    if let Line::ClientLife(client, inc, batch) = *line {
+        match refuse_life(joined, client, last, inc, batch) {
+            Some(fault) => return Err(Trouble::Fault(number, fault)),
+            None => {}
+        }
+        begin_life(alloc, joined, inc, replay, post, pages)?;
+        pages.tale.begin(replay.moves(), number)?;
+        return Ok(inc);
+    }
+    if replay.inc() != last {
+        return Err(Trouble::Fault(number, Fault::NoJournal));
+    }
+    take(alloc, number, line, replay, post, pages)?;
+    Ok(last)
+}
+
+/// Replays the journal of a client that has begun with its first incarnation.
+pub(crate) fn replay_client(
+    alloc: Global,
+    joined: &Joined,
+    bytes: &[u8],
+    replay: &mut ClientReplay,
+    post: &mut Post,
+    pages: &mut Pages<'_>,
+) -> Result<(), Trouble>
+    ensures grows { OnOk result (Grows post.old post.new) }
+    ensures told { OnOk result (ClientRead joined.now.id joined.now.batch bytes.now replay.old replay.new post.old post.new) }
+{
+    let mut cursor = Cursor::new(bytes);
+    let mut last = 0;
+    while let Some(text) = cursor.next_text() {
+        let number = cursor.number;
+        let line = match read_line(number, text) {
+            Ok(line) => line,
+            Err(trouble) => return Err(trouble),
+        };
+        match take_line(alloc, joined, last, number, &line, replay, post, pages) {
+            Ok(next) => last = next,
+            Err(trouble) => return Err(trouble),
+        }
+    }
+    last_turn(alloc, replay, post, pages)?;
+    Ok(())
+}

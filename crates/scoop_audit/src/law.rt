@@ -1,0 +1,20 @@
+//! The theorem on journals, and that its premise holds.
+
+ghost use Rattle.std.specs.Prelude.{◌≡◌, ◌≤◌, ℕ, List, Ok, length};
+ghost use Rattle.scoop_message.specs.declared.message.Message.{Message as Told};
+ghost use Rattle.scoop_system.specs.File.{Means};
+ghost use Rattle.scoop_system.specs.System.{Plan};
+ghost use Rattle.scoop_audit.specs.Parties.{MayRun};
+ghost use Rattle.scoop_audit.specs.World.{AreTold, ClientPages, IsExplained, NodePages, Weaves, trails_of};
+
+/// If each party's journal tells a life, and there is one order of the lives' moves, then this order is that of a world. So all
+/// promises for a world hold of what the journals tell, whatever wrote them.
+pub fn journals_are_a_world()
+    ensures { (nodes : List NodePages) (clients : List ClientPages) (post : List Told) (turns : List ℕ) → AreTold nodes clients post
+        → Weaves post (trails_of nodes clients) turns → IsExplained nodes clients turns }
+{}
+
+/// A world may open with the handlers and clients of a system that was read, if it has a handler.
+pub fn systems_may_run()
+    ensures { (text : List ℕ) (s : Plan) → Means text (Ok s) → 1 ≤ length s.handlers → MayRun s }
+{}

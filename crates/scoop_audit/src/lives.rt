@@ -1,0 +1,117 @@
+//! What the journal of one party tells: its lives, and where they begin.
+
+use crate::error::PartyName;
+use scoop_message::OutOfMemory;
+use std::alloc::Global;
+
+/// A life of a party.
+#[derive(Clone, Copy, Debug)]
+pub struct Life {
+    /// The place of its first move.
+    pub(crate) first: usize,
+    /// The number of its line that says that it begins.
+    pub(crate) line: u64,
+    /// How many entries or steps it has.
+    pub(crate) entries: u64,
+    /// Whether its last entry is left out, since it was not stored.
+    pub(crate) is_shortened: bool,
+}
+
+/// The lives of one party.
+#[derive(Drop)]
+pub struct Tale {
+    party: PartyName,
+    pub(crate) journal: Option<usize>,
+    pub(crate) lives: Vec<Life>,
+    pub(crate) turns: u64,
+}
+
+impl Tale {
+    /// The party, of which nothing is told yet.
+    pub(crate) fn new(alloc: Global, party: PartyName, journal: Option<usize>) -> Tale {
+        Tale {
+            party,
+            journal,
+            lives: Vec::new(alloc),
+            turns: 0,
+        }
+    }
+
+    /// The party.
+    pub fn party(&self) -> PartyName {
+        self.party
+    }
+
+    /// Whether the party has a journal.
+    pub fn has_journal(&self) -> bool {
+        self.journal.is_some()
+    }
+
+    /// How many lives its journal tells.
+    pub fn lives(&self) -> usize {
+        self.lives.len()
+    }
+
+    /// How many entries or steps they have.
+    pub fn entries(&self) -> u64 {
+        let mut sum: u64 = 0;
+        for life in self.lives.as_slice() {
+            sum = sum.saturating_add(life.entries);
+        }
+        sum
+    }
+
+    /// The life at this place, counted from 0, has a last entry that was not stored, and is left out: its number in the
+    /// life, counted from 1.
+    pub fn left_out(&self, place: usize) -> Option<u64> {
+        let life = self.lives.get(place)?;
+        if life.is_shortened {
+            Some(life.entries)
+        } else {
+            None
+        }
+    }
+
+    /// How many last turns of lives are supposed.
+    pub fn supposed_turns(&self) -> u64 {
+        self.turns
+    }
+
+    /// One more life, which begins with the move at this place and at this line.
+    pub(crate) fn begin(&mut self, first: usize, line: u64) -> Result<(), OutOfMemory> {
+        self.lives.push(Life {
+            first,
+            line,
+            entries: 0,
+            is_shortened: false,
+        })?;
+        Ok(())
+    }
+
+    /// One more entry of the last life.
+    pub(crate) fn count(&mut self) {
+        let last = self.lives.len().saturating_sub(1);
+        if let Some(life) = self.lives.get_mut(last) {
+            life.entries = life.entries.saturating_add(1);
+        }
+    }
+
+    /// The last entry of the last life is left out.
+    pub(crate) fn shorten(&mut self) {
+        let last = self.lives.len().saturating_sub(1);
+        if let Some(life) = self.lives.get_mut(last) {
+            life.is_shortened = true;
+        }
+    }
+
+    /// The life, counted from 0, that has the move at this place.
+    pub(crate) fn life_of(&self, place: usize) -> usize {
+        let mut found = 0;
+        for (at, life) in self.lives.iter().enumerate() {
+            if life.first <= place {
+                found = at;
+            }
+        }
+        found
+    }
+}

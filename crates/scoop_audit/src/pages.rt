@@ -1,0 +1,13 @@
+//! What a replay notes beside its moves.
+
+use crate::blocks::Blocks;
+use crate::lives::Tale;
+use crate::remarks::Remarks;
+
+/// The party's lives, the blocks, and what a chart needs.
+#[derive(Drop)]
+pub(crate) struct Pages<'p> {
+    pub(crate) tale: &'p mut Tale,
+    pub(crate) blocks: &'p mut Blocks,
+    pub(crate) remarks: &'p mut Remarks,
+}

@@ -1,0 +1,4 @@
+pub mod Text
+pub mod Line
+pub mod Journal
+pub mod Reading

@@ -1,0 +1,177 @@
+//! The first lines of a node's life.
+
+ghost use Rattle.std.specs.Prelude.{◌≡◌, [], IfErr, OnErr};
+ghost use Rattle.scoop_keeper.specs.Keeper.{IsPutError, IsSame, Stays};
+
+use hex::encode;
+use scoop_handler::HandlerState;
+use scoop_journal::{AppendError, Journal, Line};
+use scoop_keeper::{Keeper, KeeperError};
+use scoop_message::{HandlerId, OutOfMemory};
+use scoop_record::{image, pending_row};
+use std::alloc::Allocator;
+use std::io::Write;
+
+/// The keeper's refusal for a line that isn't appended.
+pub(crate) fn refusal(error: AppendError) -> KeeperError
+    ensures { IsPutError result }
+{
+    match error {
+        AppendError::OutOfMemory => KeeperError::OutOfMemory,
+        AppendError::NoFrame | AppendError::Write => KeeperError::Refused,
+    }
+}
+
+// The lines of a state are gathered together, and written by one call of the writer.
+fn gather<W: Write + Drop, A: Allocator>(
+    journal: &mut Journal<W, A>,
+    line: &Line<'_>,
+) -> Result<(), KeeperError>
+    ensures { IfErr result IsPutError }
+{
+    match journal.gather(line) {
+        Ok(()) => Ok(()),
+        Err(error) => Err(refusal(error)),
+    }
+}
+
+/// Writes the first lines of a life of this node: that it begins, and the state that the keeper has of each handler.
+pub(crate) fn write_opening<A: Allocator + Copy, K: Keeper<A>, W: Write + Drop>(
+    alloc: A,
+    keeper: &mut K,
+    journal: &mut Journal<W, A>,
+    node: u32,
+    handlers: &[HandlerId],
+) -> Result<(), KeeperError>
+    ensures forgotten { journal.new.text ≡ [] }
+    ensures named { IfErr result IsPutError }
+    ensures handlers { K.is_honest keeper.new → Stays (K.handlers keeper.old) (K.handlers keeper.new) }
+    ensures incarnations { K.is_honest keeper.new → IsSame (K.incarnations keeper.old) (K.incarnations keeper.new) }
+    ensures honest { K.is_honest keeper.new → K.is_honest keeper.old }
+{
+    let gathered = gather_opening(alloc, keeper, journal, node, handlers);
+    commit(journal, gathered)
+}
+
+// Writes what was gathered, or forgets it.
+fn commit<W: Write + Drop, A: Allocator>(
+    journal: &mut Journal<W, A>,
+    gathered: Result<(), KeeperError>,
+) -> Result<(), KeeperError>
+    requires { IfErr gathered IsPutError }
+    ensures forgotten { journal.new.text ≡ [] }
+    ensures named { IfErr result IsPutError }
+{
+    match gathered {
+        Ok(()) => {}
+        Err(error) => {
+            journal.forget();
+            return Err(error);
+        }
+    }
+    match journal.commit() {
+        Ok(()) => Ok(()),
+        Err(error) => Err(refusal(error)),
+    }
+}
+
+// Gathers the first lines of a life.
+fn gather_opening<A: Allocator + Copy, K: Keeper<A>, W: Write + Drop>(
+    alloc: A,
+    keeper: &mut K,
+    journal: &mut Journal<W, A>,
+    node: u32,
+    handlers: &[HandlerId],
+) -> Result<(), KeeperError>
+    ensures named { IfErr result IsPutError }
+    ensures handlers { K.is_honest keeper.new → Stays (K.handlers keeper.old) (K.handlers keeper.new) }
+    ensures incarnations { K.is_honest keeper.new → IsSame (K.incarnations keeper.old) (K.incarnations keeper.new) }
+    ensures honest { K.is_honest keeper.new → K.is_honest keeper.old }
+{
+    match gather(journal, &Line::NodeLife(node)) {
+        Ok(()) => gather_states(alloc, keeper, journal, handlers),
+        Err(error) => Err(error),
+    }
+}
+
+// Gathers the lines of the handlers' states.
+fn gather_states<A: Allocator + Copy, K: Keeper<A>, W: Write + Drop>(
+    alloc: A,
+    keeper: &mut K,
+    journal: &mut Journal<W, A>,
+    handlers: &[HandlerId],
+) -> Result<(), KeeperError>
+    ensures named { IfErr result IsPutError }
+    ensures handlers { K.is_honest keeper.new → Stays (K.handlers keeper.old) (K.handlers keeper.new) }
+    ensures incarnations { K.is_honest keeper.new → IsSame (K.incarnations keeper.old) (K.incarnations keeper.new) }
+    ensures honest { K.is_honest keeper.new → K.is_honest keeper.old }
+{
+    match handlers {
+        [] => Ok(()),
+        [first, rest @ ..] => match gather_handler(alloc, keeper, journal, *first) {
+            Ok(()) => gather_states(alloc, keeper, journal, rest),
+            Err(error) => Err(error),
+        },
+    }
+}
+
+// Gathers the line of a handler's state.
+fn gather_handler<A: Allocator + Copy, K: Keeper<A>, W: Write + Drop>(
+    alloc: A,
+    keeper: &mut K,
+    journal: &mut Journal<W, A>,
+    handler: HandlerId,
+) -> Result<(), KeeperError>
+    ensures named { IfErr result IsPutError }
+    ensures handlers { K.is_honest keeper.new → Stays (K.handlers keeper.old) (K.handlers keeper.new) }
+    ensures incarnations { K.is_honest keeper.new → IsSame (K.incarnations keeper.old) (K.incarnations keeper.new) }
+    ensures honest { K.is_honest keeper.new → K.is_honest keeper.old }
+{
+    match keeper.load_handler(handler) {
+        Ok(Some(state)) => gather_state(alloc, journal, handler, &state),
+        Ok(None) => Err(KeeperError::Refused),
+        Err(KeeperError::OutOfMemory) => Err(KeeperError::OutOfMemory),
+        Err(_) => Err(KeeperError::Refused),
+    }
+}
+
+// Gathers the line of this state.
+fn gather_state<A: Allocator + Copy, W: Write + Drop>(
+    alloc: A,
+    journal: &mut Journal<W, A>,
+    handler: HandlerId,
+    state: &HandlerState<A>,
+) -> Result<(), KeeperError>
+    ensures { IfErr result IsPutError }
+{
+    let Ok(image) = image_digits(alloc, state) else {
+        return Err(KeeperError::OutOfMemory);
+    };
+    let Ok(pending) = pending_digits(alloc, state) else {
+        return Err(KeeperError::OutOfMemory);
+    };
+    let line = Line::Open(handler, image.as_bytes(), pending.as_bytes());
+    gather(journal, &line)
+}
+
+fn image_digits<A: Allocator + Copy>(
+    alloc: A,
+    state: &HandlerState<A>,
+) -> Result<String<A>, OutOfMemory> {
+    let bytes = image(alloc, state)?;
+    match encode(alloc, bytes.as_slice()) {
+        Ok(digits) => Ok(digits),
+        Err(_) => Err(OutOfMemory),
+    }
+}
+
+fn pending_digits<A: Allocator + Copy>(
+    alloc: A,
+    state: &HandlerState<A>,
+) -> Result<String<A>, OutOfMemory> {
+    let bytes = pending_row(alloc, state)?;
+    match encode(alloc, bytes.as_slice()) {
+        Ok(digits) => Ok(digits),
+        Err(_) => Err(OutOfMemory),
+    }
+}

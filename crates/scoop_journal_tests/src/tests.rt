@@ -1,0 +1,6 @@
+//! Journals.
+
+mod audits;
+mod files;
+mod keepers;
+mod lines;

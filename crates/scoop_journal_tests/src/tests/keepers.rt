@@ -1,0 +1,120 @@
+//! A keeper that writes a journal.
+
+use scoop_handler::{Heard, Note};
+use scoop_journal_keeper::JournaledKeeper;
+use scoop_keeper::{FailingKeeper, Keeper, KeeperError, MemoryKeeper};
+use scoop_message::{ClientId, HandlerId, Message};
+use scoop_record::read_image;
+use std::alloc::Global;
+use std::io;
+use std::io::{Error, ErrorKind, Write};
+use std::test::Fail;
+
+const ONE: HandlerId = HandlerId(1);
+
+const HELLO: Message = Message::Hello(ONE, ClientId(7), 1);
+
+const GREETED: Heard = Heard {
+    reply: Some(Message::Welcome(ONE, ClientId(7), 1)),
+    note: Note::Greeted,
+};
+
+// Handler 1 as it is new: its one word is 5.
+const IMAGE: [u8; 17] = *b"\x02\0\0\0\x01\x01\0\0\0\0\0\0\0\x05\0\0\0";
+
+const FIRST: &str = "scoop journal 1 node 1\nopen 1 0200000001010000000000000005000000 -\n";
+
+const HEARD: &str = "hear 5351020100000001000000070000000100000000000000000000 \
+    5351020200000001000000070000000100000000000000000000\n";
+
+// A writer that takes a number of writes, and refuses every later one.
+#[derive(Drop)]
+struct Failing<'a> {
+    text: &'a mut Vec<u8>,
+    left: u32,
+}
+
+impl Write for Failing<'_> {
+    fn write(&mut self, buf: &[u8]) -> io::Result<usize> {
+        if self.left == 0 {
+            return Err(Error::new(ErrorKind::Other, "full"));
+        }
+        self.left -= 1;
+        self.text.write(buf)
+    }
+
+    fn flush(&mut self) -> io::Result<()> {
+        Ok(())
+    }
+}
+
+// A keeper of handler 1.
+fn kept(alloc: Global) -> Result<MemoryKeeper, Fail> {
+    let mut keeper = MemoryKeeper::new(alloc);
+    let state = read_image(alloc, ONE, &IMAGE, &[])?;
+    keeper.put_handler(&state)?;
+    Ok(keeper)
+}
+
+#[test]
+fn events_are_written_after_the_first_lines(rt: HostRuntime) -> Result<(), Fail> {
+    let alloc = rt.alloc();
+    let mut text = Vec::new(alloc);
+    let handlers = Vec::from_slice(alloc, &[ONE])?;
+    let writer = Failing {
+        text: &mut text,
+        left: 9,
+    };
+    let mut keeper = JournaledKeeper::new(alloc, kept(alloc)?, writer, 1, handlers);
+    keeper.note_heard(&HELLO, &GREETED)?;
+    keeper.note_finished(ONE)?;
+    let _kept = keeper.into_inner();
+    let whole = format!(in alloc; "{FIRST}{HEARD}begin 1\nfinish 1\n")?;
+    assert_eq!(rt; text.as_slice(), whole.as_bytes());
+    Ok(())
+}
+
+#[test]
+fn nothing_is_written_after_a_failed_write(rt: HostRuntime) -> Result<(), Fail> {
+    let alloc = rt.alloc();
+    let mut text = Vec::new(alloc);
+    let handlers = Vec::from_slice(alloc, &[ONE])?;
+    let writer = Failing {
+        text: &mut text,
+        left: 1,
+    };
+    let mut keeper = JournaledKeeper::new(alloc, kept(alloc)?, writer, 1, handlers);
+    assert_eq!(rt;
+        keeper.note_heard(&HELLO, &GREETED),
+        Err(KeeperError::Refused)
+    );
+    assert_eq!(rt; keeper.note_finished(ONE), Err(KeeperError::Refused));
+    let _kept = keeper.into_inner();
+    assert_eq!(rt; text.as_slice(), FIRST.as_bytes());
+    Ok(())
+}
+
+#[test]
+fn a_keeper_that_fails_ends_the_node(rt: HostRuntime) -> Result<(), Fail> {
+    let alloc = rt.alloc();
+    let state = read_image(alloc, ONE, &IMAGE, &[])?;
+    let handlers = Vec::from_slice(alloc, &[ONE])?;
+    // the opening is loaded, and the put is refused
+    let failing = FailingKeeper::new(kept(alloc)?, 1);
+    let mut keeper = JournaledKeeper::new(alloc, failing, Vec::new(alloc), 1, handlers);
+    keeper.note_heard(&HELLO, &GREETED)?;
+    assert_eq!(rt; keeper.put_handler(&state), Err(KeeperError::Refused));
+    Ok(())
+}
+
+#[test]
+fn a_handler_without_a_state_is_refused(rt: HostRuntime) -> Result<(), Fail> {
+    let alloc = rt.alloc();
+    let handlers = Vec::from_slice(alloc, &[HandlerId(2)])?;
+    let mut keeper = JournaledKeeper::new(alloc, kept(alloc)?, Vec::new(alloc), 1, handlers);
+    assert_eq!(rt;
+        keeper.note_finished(HandlerId(2)),
+        Err(KeeperError::Refused)
+    );
+    Ok(())
+}

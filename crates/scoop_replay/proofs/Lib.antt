@@ -1,0 +1,6 @@
+mod Lists
+pub mod Numbering
+pub mod Lives
+pub mod Drivers
+pub mod Clients
+pub mod Nodes

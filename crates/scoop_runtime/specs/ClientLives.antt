@@ -1,0 +1,114 @@
+-- The lives of a system's client: each has an incarnation that its keeper gave it, and the steps of its driver.
+use Rattle.std.specs.Prelude.{◌≡◌, ◌≤◌, ℕ, List, [], ◌∷◌, length, false, OnOk, Option, Result, Ok, Err}
+use Rattle.scoop_message.specs.declared.name.ClientId.{ClientId}
+use Rattle.scoop_message.specs.declared.name.HandlerId.{HandlerId}
+use Rattle.scoop_client.specs.declared.phase.Phase.TheVariants.{Idle}
+use Rattle.scoop_client.specs.State.{ClientState, phase_of}
+use Rattle.scoop_keeper.specs.Keeper.{IsSame, Sets, last_incarnation, next_of}
+use Rattle.scoop_driver.specs.declared.step.Step.{Step}
+use Rattle.scoop_driver.specs.Steps.{AllCan, commands_by, walk}
+use Rattle.scoop_runtime.specs.declared.error.RuntimeError.{RuntimeError}
+use Rattle.scoop_runtime.specs.declared.parting.Left.{Left}
+use Rattle.scoop_runtime.specs.declared.parting.Left.TheVariants as left
+use Rattle.scoop_runtime.specs.declared.progress.ClientStop.{ClientStop}
+use Rattle.scoop_runtime.specs.declared.progress.Unended.{Unended}
+use Rattle.scoop_runtime.specs.declared.progress.Unended.TheVariants.{Nothing, When, GivenUp, Cut, Held}
+use Rattle.scoop_runtime.specs.Beginnings.{BeginsNext}
+use Rattle.scoop_runtime.specs.Parting.{owes}
+
+-- ---- lives
+
+-- the next incarnation of the client is stored, and the others stay
+pub record TakesNext (id : ClientId) (old new : ℕ → Option ℕ) : Type 0 where
+  pub limit : next_of (old id.0) ≤ last_incarnation
+  pub sets : Sets old new id.0 (next_of (old id.0))
+
+-- A life of a client: the client as it began, the steps of its driver, and the incarnations that are stored since it began.
+-- Or no client began with the incarnation that was taken, as when its journal can't be written.
+pub data ClientLife : Type 0 where
+  Lived : ClientState → List Step → (ℕ → Option ℕ) → ClientLife
+  Unbegun : (ℕ → Option ℕ) → ClientLife
+
+-- These lives followed one another, and took each incarnation that the keeper gave meanwhile. Each client began with the next
+-- one of an honest keeper, and its driver's steps can be made, one after another.
+abbrev pub AreLives : ClientId → ℕ → List HandlerId → Type 0 → (ℕ → Option ℕ) → List ClientLife → (ℕ → Option ℕ) → Type 0
+AreLives id batch known is_honest old [] new = is_honest → IsSame old new
+AreLives id batch known is_honest old (Lived fresh steps stored ∷ lives) new =
+    BeginsNext id batch known old stored is_honest fresh × AllCan fresh steps × AreLives id batch known is_honest stored lives new
+AreLives id batch known is_honest old (Unbegun stored ∷ lives) new =
+    (is_honest → TakesNext id old stored) × AreLives id batch known is_honest stored lives new
+
+-- at most one life
+pub record LivesAtMostOnce (id : ClientId) (batch : ℕ) (known : List HandlerId) (old new : ℕ → Option ℕ) (is_honest : Type 0) : Type 0 where
+  pub lives : List ClientLife
+  pub are : AreLives id batch known is_honest old lives new
+  pub few : length lives ≤ 1
+
+-- the client of the first life began, and these lives came after it
+pub record LivesThen (lives later : List ClientLife) : Type 0 where
+  pub fresh : ClientState
+  pub steps : List Step
+  pub stored : ℕ → Option ℕ
+  pub are : lives ≡ Lived fresh steps stored ∷ later
+
+-- one life, after which the client was idle
+pub record LivesIdle (lives : List ClientLife) : Type 0 where
+  pub once : LivesThen lives []
+  pub idle : phase_of (walk once.fresh once.steps) ≡ Idle
+
+-- two lives, the second of which gave no command, and took turns until nothing was due to these handlers
+pub record LivesAgain (lives : List ClientLife) : Type 0 where
+  pub later : List ClientLife
+  pub first : LivesThen lives later
+  pub last : LivesThen later []
+  pub silent : commands_by last.steps ≡ []
+  pub handlers : List HandlerId
+  pub greeted : owes (walk last.fresh last.steps) handlers ≡ false
+
+-- a first life and at most one more
+pub record LivesOnceOrTwice (lives : List ClientLife) : Type 0 where
+  pub later : List ClientLife
+  pub first : LivesThen lives later
+  pub few : length later ≤ 1
+
+-- ---- a run
+
+-- the lives of a run that ended early, by what became of its block
+abbrev pub LivesBy : Unended → List ClientLife → Type 0
+LivesBy Nothing lives = length lives ≤ 1
+LivesBy When lives = LivesThen lives []
+LivesBy (GivenUp b) lives = LivesIdle lives
+LivesBy (Cut b) lives = LivesAgain lives
+LivesBy (Held b) lives = LivesOnceOrTwice lives
+
+-- the lives of a run, by how it ended
+abbrev pub LivesOf : {E : Type 0} → Result (Unit {0}) E → Unended → List ClientLife → Type 0
+LivesOf (Ok u) unended lives = LivesIdle lives
+LivesOf (Err e) unended lives = LivesBy unended lives
+
+-- A run of a client had these lives, which took its keeper's incarnations from the old ones to the new ones.
+pub record RunsLives {E : Type 0} (id : ClientId) (batch : ℕ) (known : List HandlerId) (old new : ℕ → Option ℕ) (is_honest : Type 0)
+    (ended : Result (Unit {0}) E) (unended : Unended) : Type 0 where
+  pub lives : List ClientLife
+  pub are : AreLives id batch known is_honest old lives new
+  pub by_end : LivesOf ended unended lives
+
+-- the same by the result of the whole run
+abbrev pub ClientRan : ClientId → ℕ → List HandlerId → (ℕ → Option ℕ) → (ℕ → Option ℕ) → Type 0 → Result (Unit {0}) ClientStop → Type 0
+ClientRan id batch known old new is_honest (Ok u) = RunsLives {E = ClientStop} id batch known old new is_honest (Ok u) Nothing
+ClientRan id batch known old new is_honest (Err stop) = RunsLives {E = ClientStop} id batch known old new is_honest (Err stop) stop.progress.unended
+
+-- ---- one life
+
+-- A client's driver made these steps, and left this. If it ended well, the client is idle and left no block.
+pub record LivesOn (c : ClientState) (ended : Result (Unit {0}) RuntimeError) (rest : Left) : Type 0 where
+  pub steps : List Step
+  pub can : AllCan c steps
+  pub idle : OnOk ended (phase_of (walk c steps) ≡ Idle)
+  pub nothing : OnOk ended (rest ≡ left.Nothing)
+  pub given_up : rest ≡ left.GivenUp → phase_of (walk c steps) ≡ Idle
+
+-- no incarnation was taken, or the next one was, and no client began with it
+pub data BeginsNone (id : ClientId) (old new : ℕ → Option ℕ) (is_honest : Type 0) : Type 0 where
+  it_stays : (is_honest → IsSame old new) → BeginsNone id old new is_honest
+  it_takes : (is_honest → TakesNext id old new) → BeginsNone id old new is_honest

@@ -1,0 +1,235 @@
+//! Cuts: a client's next incarnation greets its handlers.
+
+ghost use Rattle.std.specs.Prelude.{◌≡◌, OnOk};
+ghost use Rattle.std.specs.Io.KnownBytes.{Appends};
+ghost use Rattle.scoop_keeper.specs.Keeper.{Stays};
+ghost use Rattle.scoop_runtime.specs.Beginnings.{known_in};
+ghost use Rattle.scoop_runtime.specs.ClientLives.{LivesAtMostOnce};
+ghost use Rattle.scoop_runtime.specs.Cutting.{BecomesOf, Cuts, IsNotGivenUp, Parts, PartsFrom, cut_text, freeing_text, held_text, unended_line};
+
+use crate::client::{begin_client, client_link, known_handlers};
+use crate::error::RuntimeError;
+use crate::lent_link::LentLink;
+use crate::parting::{Left, PARTING_TURNS};
+use crate::plan::ClientPlan;
+use crate::progress::Unended;
+use crate::session::Session;
+use crate::typing::send_out;
+use crate::waiting_link::print_numbers;
+use scoop_client::HandlerList;
+use scoop_errors::PartyError;
+use scoop_journal::Journal;
+use scoop_keeper::Keeper;
+use scoop_link::Link;
+use scoop_message::{Block, ClientId, HandlerId};
+use std::alloc::Global;
+use std::io;
+use std::io::Write;
+
+/// What a session left, and the client's last block with its handlers.
+#[derive(Clone, Copy)]
+pub(crate) struct Remains {
+    pub(crate) left: Left,
+    pub(crate) last: Option<(Block, HandlerList)>,
+}
+
+// Writes what frees handlers that may hold a block of the client.
+fn print_freeing<N: Write>(client: ClientId, notes: &mut N) -> io::Result<()>
+    ensures { OnOk result (Appends (N.contents notes.old) (N.contents notes.new) (freeing_text client)) }
+{
+    writeln!(
+        notes,
+        " have not welcomed client {client} again, and may hold its block\n\
+        hint: when their nodes answer, run client {client} with --store and --cut, which frees them"
+    )
+}
+
+// Writes which handlers may hold a block of the client still, and what frees them.
+fn print_held<N: Write>(client: ClientId, handlers: &[HandlerId], notes: &mut N) -> io::Result<()>
+    ensures { OnOk result (Appends (N.contents notes.old) (N.contents notes.new) (held_text client handlers.now)) }
+{
+    notes.write_all(b"scoop: handlers")?;
+    print_numbers(handlers, notes)?;
+    print_freeing(client, notes)
+}
+
+// Writes the same of those handlers that owe a client's next incarnation their welcome.
+fn tell_held<L: Link, J: Write + Drop, N: Write>(
+    alloc: Global,
+    client: ClientId,
+    session: &Session<'_, L, J>,
+    handlers: &[HandlerId],
+    notes: &mut N,
+) {
+    let written = match session.awaited(alloc, handlers) {
+        Ok(awaited) => print_held(client, &awaited, notes),
+        Err(_) => print_held(client, handlers, notes),
+    };
+    send_out(written, notes);
+}
+
+// Begins the client's next incarnation, and greets these handlers with it. That cuts the client's block at each of them.
+// Those that don't welcome it are written to `notes`.
+fn greet_anew<K: Keeper<Global>, L: Link, J: Write + Drop, N: Write>(
+    alloc: Global,
+    plan: &ClientPlan<'_>,
+    keeper: &mut K,
+    link: &mut L,
+    journal: &mut Option<Journal<J>>,
+    known: &[HandlerId],
+    handlers: &[HandlerId],
+    turns: u64,
+    notes: &mut N,
+) -> Result<(), RuntimeError>
+    ensures cuts { OnOk result (Cuts plan.now.place.client plan.now.place.batch known.now handlers.now (K.incarnations keeper.old) (K.incarnations keeper.new) (K.is_honest keeper.new)) }
+    ensures lives { LivesAtMostOnce plan.now.place.client plan.now.place.batch known.now
+        (K.incarnations keeper.old) (K.incarnations keeper.new) (K.is_honest keeper.new) }
+    ensures handlers { K.is_honest keeper.new → Stays (K.handlers keeper.old) (K.handlers keeper.new) }
+    ensures honest { K.is_honest keeper.new → K.is_honest keeper.old }
+{
+    let client = begin_client(alloc, plan, keeper, known, journal)?;
+    let mut session = Session::new(alloc, client, LentLink::new(link), turns, journal);
+    match session.greet(handlers, turns) {
+        Ok(()) => Ok(()),
+        Err(error) => {
+            tell_held(alloc, plan.place().client, &session, handlers, notes);
+            Err(session.ended_by(error, plan.system().handlers()))
+        }
+    }
+}
+
+// Cuts a block that the client's session left open.
+fn cut_block<K: Keeper<Global>, L: Link, J: Write + Drop, N: Write>(
+    alloc: Global,
+    plan: &ClientPlan<'_>,
+    keeper: &mut K,
+    link: &mut L,
+    journal: &mut Option<Journal<J>>,
+    known: &[HandlerId],
+    block: Block,
+    handlers: &[HandlerId],
+    notes: &mut N,
+) -> Unended
+    ensures parts { Parts plan.now.place.client plan.now.place.batch known.now handlers.now result
+        (K.incarnations keeper.old) (K.incarnations keeper.new) (K.is_honest keeper.new) }
+    ensures given_up { IsNotGivenUp result }
+    ensures honest { K.is_honest keeper.new → K.is_honest keeper.old }
+{
+    let turns = PARTING_TURNS;
+    match greet_anew(
+        alloc, plan, keeper, link, journal, known, handlers, turns, notes,
+    ) {
+        Ok(()) => Unended::Cut(block),
+        Err(_) => Unended::Held(block),
+    }
+}
+
+/// Cuts the block that the client's session left, if it left one open.
+pub(crate) fn cut_left<K: Keeper<Global>, L: Link, J: Write + Drop, N: Write>(
+    alloc: Global,
+    plan: &ClientPlan<'_>,
+    keeper: &mut K,
+    link: &mut L,
+    journal: &mut Option<Journal<J>>,
+    known: &[HandlerId],
+    remains: Remains,
+    notes: &mut N,
+) -> Unended
+    ensures parts { PartsFrom plan.now.place.client plan.now.place.batch known.now remains.last result
+        (K.incarnations keeper.old) (K.incarnations keeper.new) (K.is_honest keeper.new) }
+    ensures left { BecomesOf remains.left result }
+    ensures honest { K.is_honest keeper.new → K.is_honest keeper.old }
+{
+    match (remains.left, remains.last) {
+        (Left::When, _) => Unended::When,
+        (Left::Nothing, _) | (_, None) => Unended::Nothing,
+        (Left::GivenUp, Some((block, _))) => Unended::GivenUp(block),
+        (Left::Open, Some((block, handlers))) => {
+            let handlers = handlers.as_slice();
+            cut_block(
+                alloc, plan, keeper, link, journal, known, block, handlers, notes,
+            )
+        }
+    }
+}
+
+// Writes that a block is cut, or given up. Nothing is written of other blocks.
+fn print_unended<W: Write>(unended: Unended, writer: &mut W) -> io::Result<()>
+    ensures { OnOk result (Appends (W.contents writer.old) (W.contents writer.new) (unended_line unended)) }
+{
+    match unended {
+        Unended::Cut(block) => writeln!(writer, "cut {block}"),
+        Unended::GivenUp(block) => writeln!(writer, "given up {block}"),
+        Unended::Nothing | Unended::When | Unended::Held(_) => Ok(()),
+    }
+}
+
+/// Writes the same, and flushes. The client has another error by then, so a line that can't be written is lost.
+pub(crate) fn tell_unended<W: Write>(unended: Unended, writer: &mut W) {
+    let written = print_unended(unended, writer);
+    send_out(written, writer);
+}
+
+// Writes that the client's blocks are cut at these handlers.
+fn print_cut<W: Write>(client: ClientId, handlers: &[HandlerId], writer: &mut W) -> io::Result<()>
+    ensures { OnOk result (Appends (W.contents writer.old) (W.contents writer.new) (cut_text client handlers.now)) }
+{
+    write!(writer, "cut client {client} at handlers")?;
+    print_numbers(handlers, writer)?;
+    writer.write_all(b"\n")
+}
+
+/// Cuts the block of a client that was killed: the client takes its next incarnation from the keeper, and greets every
+/// handler of the system. Then no handler holds a block of its earlier incarnations, and it writes
+/// `cut client 7 at handlers 1 2`. Handlers that don't welcome it are written to `notes`, with what frees them. `waits`
+/// gets the handlers that it waits for, and `faults` the calls of the link that fail. It writes its journal, if there is one.
+///
+/// Refused:
+/// - what the keeper refuses, before anything is sent;
+/// - `NotWelcomed` when the turns are over, and `link: LinkFault`;
+/// - `write fault`, and `out of memory`.
+pub fn client_cut<K, L, J, E, W, N>(
+    alloc: Global,
+    plan: &ClientPlan<'_>,
+    keeper: &mut K,
+    link: L,
+    mut journal: Option<Journal<J>>,
+    waits: E,
+    faults: E,
+    writer: &mut W,
+    notes: &mut N,
+) -> Result<(), RuntimeError>
+where
+    K: Keeper<Global>,
+    L: Link,
+    J: Write + Drop,
+    E: Write + Drop,
+    W: Write,
+    N: Write,
+    ensures cuts { OnOk result (Cuts plan.now.place.client plan.now.place.batch (known_in plan.now.system.now) (known_in plan.now.system.now)
+        (K.incarnations keeper.old) (K.incarnations keeper.new) (K.is_honest keeper.new)) }
+    ensures lives { LivesAtMostOnce plan.now.place.client plan.now.place.batch (known_in plan.now.system.now)
+        (K.incarnations keeper.old) (K.incarnations keeper.new) (K.is_honest keeper.new) }
+    ensures honest { K.is_honest keeper.new → K.is_honest keeper.old }
+{
+    let known = known_handlers(alloc, plan.system())?;
+    let mut link = client_link(alloc, link, waits, faults, &known)?;
+    let turns = plan.turns();
+    greet_anew(
+        alloc,
+        plan,
+        keeper,
+        &mut link,
+        &mut journal,
+        &known,
+        &known,
+        turns,
+        notes,
+    )?;
+    let written = print_cut(plan.place().client, &known, writer);
+    if written.is_ok() && writer.flush().is_ok() {
+        Ok(())
+    } else {
+        Err(RuntimeError::from(PartyError::Write))
+    }
+}

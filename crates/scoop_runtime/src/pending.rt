@@ -1,0 +1,216 @@
+//! The entries that are pending when a node opens, and the first opening of a node.
+
+ghost use Rattle.std.specs.Prelude.{◌≡◌, ◌≤◌, ℕ, IfOk, OnOk, vec_len};
+ghost use Rattle.scoop_runtime.specs.NodeLives.{GainedAt, GoesOn, IsKept, OpenedFrom, RanTo, RunsFrom};
+
+use crate::error::RuntimeError;
+use crate::openings::{require_handlers, store_openings};
+use crate::plan::{NodePlan, Serving};
+use scoop_book::{Book, BookError, Node, OpenError, Pass, ReopenError, Standing};
+use scoop_client::BeginError;
+use scoop_errors::PartyError;
+use scoop_keeper::{Keeper, KeeperError};
+use scoop_message::HandlerId;
+use scoop_netloop::{ServeEnd, run_out};
+use scoop_object::Table;
+use std::alloc::Global;
+use std::sync::Wait;
+
+// The pass of the entries that run before the node is served.
+const FIRST_PASS: u32 = 0;
+
+/// A node between two openings: its keeper, and its handlers as they stand.
+#[derive(Drop)]
+pub(crate) struct Resting<K: Keeper<Global>> {
+    pub(crate) keeper: K,
+    pub(crate) stood: Standing<Table>,
+}
+
+// The error for handlers that don't open.
+fn unopened(error: OpenError) -> RuntimeError {
+    match error {
+        OpenError::WrongClass(handler) => RuntimeError::Ended(PartyError::WrongClass(handler)),
+        OpenError::Keeper(refusal) => RuntimeError::from(refusal),
+        OpenError::OutOfMemory => RuntimeError::Ended(PartyError::OutOfMemory),
+        OpenError::Repeated(handler) => RuntimeError::Handlers(BeginError::Repeated(handler)),
+        OpenError::NoPasses => RuntimeError::Ended(PartyError::NoThread),
+    }
+}
+
+// The error for handlers that don't open again.
+fn not_reopened(error: ReopenError) -> RuntimeError
+    ensures { error ≡ ReopenError.OtherStates → result ≡ RuntimeError.OtherStates }
+{
+    match error {
+        ReopenError::Unopened(error) => unopened(error),
+        ReopenError::OtherStates => RuntimeError::OtherStates,
+    }
+}
+
+// The error for handlers that can't run what is pending.
+fn unrun(error: BookError) -> RuntimeError {
+    RuntimeError::Ended(match error {
+        BookError::HistoryFull => PartyError::Loop(ServeEnd::HistoryFull),
+        BookError::NodeFailed | BookError::UnknownHandler => {
+            PartyError::Loop(ServeEnd::NodeFailed)
+        }
+        BookError::StoreRefused => PartyError::Store(KeeperError::Refused),
+        BookError::OutOfMemory => PartyError::OutOfMemory,
+    })
+}
+
+// Runs what is pending, handler after handler. Returns the handlers that are left; the history was full at the first.
+fn run_some<'h, K: Keeper<Global>>(
+    book: &mut Book<Table, K>,
+    handlers: &'h [HandlerId],
+) -> Result<&'h [HandlerId], BookError>
+    ensures opening { book.new.opening ≡ book.old.opening }
+    ensures honest { K.is_honest book.new.keeper → K.is_honest book.old.keeper }
+{
+    for (place, handler) in handlers.iter().enumerate() {
+        match run_out(book, FIRST_PASS, *handler) {
+            Ok(()) => {}
+            Err(BookError::HistoryFull) => return Ok(&handlers[place..]),
+            Err(error) => return Err(error),
+        }
+    }
+    Ok(&handlers[handlers.len()..])
+}
+
+// Runs what is pending at `left`. Returns the node at rest, and the handlers that are still left.
+fn run_book<'h, K: Keeper<Global>>(
+    mut book: Book<Table, K>,
+    left: &'h [HandlerId],
+) -> Result<(Resting<K>, &'h [HandlerId]), RuntimeError>
+    ensures ran { IfOk result (λ r. RunsFrom K.handlers K.is_honest book.opening r.0.stood r.0.keeper) }
+    ensures honest { IfOk result (λ r. K.is_honest r.0.keeper → K.is_honest book.keeper) }
+{
+    match run_some(&mut book, left) {
+        Ok(left) => {
+            let (keeper, stood) = book.into_standing();
+            Ok((Resting { keeper, stood }, left))
+        }
+        Err(error) => Err(unrun(error)),
+    }
+}
+
+// Opens the handlers over the keeper for the first time and runs what is pending. Returns the node at rest, and the
+// handlers that are still left.
+fn run_opened<'h, K: Keeper<Global>>(
+    alloc: Global,
+    plan: &'h NodePlan,
+    keeper: K,
+) -> Result<(Resting<K>, &'h [HandlerId]), RuntimeError>
+    ensures ran { IfOk result (λ r. RanTo K.handlers K.is_honest plan.now.members.items keeper r.0.keeper r.0.stood) }
+    ensures kept { IfOk result (λ r. IsKept K.handlers K.is_honest r.0.stood r.0.keeper) }
+{
+    match Book::open(alloc, plan.objects(alloc)?, keeper) {
+        Ok(book) => run_book(book, &plan.numbers),
+        Err(error) => Err(unopened(error)),
+    }
+}
+
+// The same for a node at rest.
+fn run_again<'h, K: Keeper<Global>>(
+    alloc: Global,
+    plan: &NodePlan,
+    resting: Resting<K>,
+    left: &'h [HandlerId],
+) -> Result<(Resting<K>, &'h [HandlerId]), RuntimeError>
+    ensures goes_on { IfOk result (λ r. GoesOn K.handlers K.is_honest resting.stood resting.keeper r.0.stood r.0.keeper) }
+    ensures honest { IfOk result (λ r. K.is_honest r.0.keeper → K.is_honest resting.keeper) }
+{
+    let handlers = plan.objects(alloc)?;
+    let Resting { keeper, stood } = resting;
+    match Book::reopen(alloc, handlers, keeper, &stood) {
+        Ok(book) => run_book(book, left),
+        Err(error) => Err(not_reopened(error)),
+    }
+}
+
+// Runs what is pending at `left`, opening after opening.
+fn run_left<'h, K: Keeper<Global>, R: Wait>(
+    rt: &R,
+    alloc: Global,
+    plan: &NodePlan,
+    mut resting: Resting<K>,
+    mut left: &'h [HandlerId],
+) -> Result<Resting<K>, RuntimeError>
+    ensures goes_on { IfOk result (λ r. GoesOn K.handlers K.is_honest resting.stood resting.keeper r.stood r.keeper) }
+    ensures honest { IfOk result (λ r. K.is_honest r.keeper → K.is_honest resting.keeper) }
+{
+    for _ in rt.forever() {
+        if left.is_empty() {
+            return Ok(resting);
+        }
+        let (kept, rest) = run_again(alloc, plan, resting, left)?;
+        resting = kept;
+        left = rest;
+    }
+    unreachable!()
+}
+
+/// Runs the entries that a node took but didn't run before its history was full. No client would send them again, since
+/// they are acknowledged. Each pass over the handlers opens them anew, with an empty history.
+pub(crate) fn run_all<K: Keeper<Global>, R: Wait>(
+    rt: &R,
+    alloc: Global,
+    plan: &NodePlan,
+    resting: Resting<K>,
+) -> Result<Resting<K>, RuntimeError>
+    ensures { IfOk result (λ r. GoesOn K.handlers K.is_honest resting.stood resting.keeper r.stood r.keeper) }
+{
+    run_left(rt, alloc, plan, resting, &plan.numbers)
+}
+
+// The record has every handler.
+fn prepare<K: Keeper<Global>>(
+    alloc: Global,
+    plan: &NodePlan,
+    serving: &Serving,
+    keeper: &mut K,
+) -> Result<(), RuntimeError>
+    ensures gained { K.is_honest keeper.new → OnOk result ((h : ℕ) → GainedAt (K.handlers keeper.old) (K.handlers keeper.new) plan.now.members.items h) }
+    ensures honest { K.is_honest keeper.new → K.is_honest keeper.old }
+{
+    if serving.goes_on() {
+        require_handlers(plan, keeper)
+    } else {
+        store_openings(alloc, plan, keeper)
+    }
+}
+
+/// Prepares a node's record: it has every handler, and nothing is pending of what the node took before it was killed.
+pub(crate) fn run_first<K: Keeper<Global>, R: Wait>(
+    rt: &R,
+    alloc: Global,
+    plan: &NodePlan,
+    serving: &Serving,
+    mut keeper: K,
+) -> Result<Resting<K>, RuntimeError>
+    ensures ran { IfOk result (λ r. RanTo K.handlers K.is_honest plan.now.members.items keeper r.keeper r.stood) }
+    ensures kept { IfOk result (λ r. IsKept K.handlers K.is_honest r.stood r.keeper) }
+{
+    prepare(alloc, plan, serving, &mut keeper)?;
+    let (resting, left) = run_opened(alloc, plan, keeper)?;
+    run_left(rt, alloc, plan, resting, left)
+}
+
+/// Opens the node again, with enough passes for a loop.
+pub(crate) fn open_node<K: Keeper<Global>>(
+    alloc: Global,
+    plan: &NodePlan,
+    serving: &Serving,
+    resting: Resting<K>,
+) -> Result<(Node<Table, K>, Vec<Pass>), RuntimeError>
+    ensures enough { IfOk result (λ opened. 2 ≤ vec_len opened.1) }
+    ensures opened { IfOk result (λ opened. OpenedFrom resting.stood opened.1.items) }
+{
+    let handlers = plan.objects(alloc)?;
+    let Resting { keeper, stood } = resting;
+    let passes = serving.passes();
+    match Node::reopen_limited(alloc, handlers, keeper, passes, serving.history(), &stood) {
+        Ok(opened) => Ok(opened),
+        Err(error) => Err(not_reopened(error)),
+    }
+}

@@ -1,0 +1,54 @@
+//! A keeper whose store another program empties.
+
+ghost use Rattle.std.specs.Prelude.{⊤, None};
+
+use scoop_handler::HandlerState;
+use scoop_keeper::{Keeper, KeeperError, MemoryKeeper};
+use scoop_message::{ClientId, HandlerId};
+use std::alloc::Global;
+
+/// A keeper that has nothing of its handlers any more after this many loads. Nobody may call it honest.
+#[derive(Drop)]
+pub struct EmptiedKeeper {
+    keeper: MemoryKeeper,
+    loads: u32,
+}
+
+impl EmptiedKeeper {
+    /// A new keeper that gives what it has at this many loads.
+    pub fn new(alloc: Global, loads: u32) -> EmptiedKeeper {
+        EmptiedKeeper {
+            keeper: MemoryKeeper::new(alloc),
+            loads,
+        }
+    }
+}
+
+impl Keeper<Global> for EmptiedKeeper {
+    ghost handlers = { λ _ _ _. ⊤ };
+
+    ghost incarnations = { λ _ _. None };
+
+    ghost is_honest = { λ _. ⊥ };
+
+    fn put_handler(&mut self, state: &HandlerState<Global>) -> Result<(), KeeperError> {
+        self.keeper.put_handler(state)
+    }
+
+    fn load_handler(
+        &mut self,
+        handler: HandlerId,
+    ) -> Result<Option<HandlerState<Global>>, KeeperError> {
+        match self.loads {
+            0 => Ok(None),
+            loads => {
+                self.loads = loads - 1;
+                self.keeper.load_handler(handler)
+            }
+        }
+    }
+
+    fn next_incarnation(&mut self, client: ClientId) -> Result<u32, KeeperError> {
+        self.keeper.next_incarnation(client)
+    }
+}

@@ -1,0 +1,140 @@
+//! What is shown of a node, as metrics in Prometheus' text form.
+
+use crate::counts::{COUNTS, CountsView, MEANINGS};
+use crate::view::{HandlerView, NodeView};
+use scoop_watch::{NOTES, REASONS};
+use std::io;
+use std::io::Write;
+
+// What is measured of each handler of which a state is known.
+const GAUGES: [(Gauge, &str, &str); 4] = [
+    (
+        Gauge::Locked,
+        "locked",
+        "Whether a block has the handler's lock.",
+    ),
+    (Gauge::Queues, "queues", "Private queues of the handler."),
+    (
+        Gauge::Pending,
+        "pending_entries",
+        "Entries that wait in the handler's private queues.",
+    ),
+    (
+        Gauge::Clients,
+        "clients",
+        "Clients that have greeted the handler.",
+    ),
+];
+
+#[derive(Clone, Copy)]
+enum Gauge {
+    Locked,
+    Queues,
+    Pending,
+    Clients,
+}
+
+impl Gauge {
+    fn value_of(self, handler: &HandlerView) -> u64 {
+        match self {
+            Gauge::Locked => u64::from(handler.holder.is_some()),
+            Gauge::Queues => handler.queues.len() as u64,
+            Gauge::Pending => handler.pending(),
+            Gauge::Clients => handler.marks.len() as u64,
+        }
+    }
+}
+
+/// Writes the view as metrics. Each count is the counter `scoop_NAME_total`.
+pub fn print_metrics<W: Write>(view: &NodeView<'_>, writer: &mut W) -> io::Result<()> {
+    print_node(view, writer)?;
+    print_counts(&view.counts, writer)?;
+    for (gauge, name, help) in &GAUGES {
+        print_gauge(*gauge, name, help, &view.handlers, writer)?;
+    }
+    Ok(())
+}
+
+// Writes the lines that say what a metric is: its name without `scoop_`, its kind, and its meaning.
+fn print_head<W: Write>(name: &str, kind: &str, help: &str, writer: &mut W) -> io::Result<()> {
+    writeln!(
+        writer,
+        "# HELP scoop_{name} {help}\n# TYPE scoop_{name} {kind}"
+    )
+}
+
+// Writes a gauge of the node.
+fn print_one<W: Write>(name: &str, help: &str, value: u64, writer: &mut W) -> io::Result<()> {
+    print_head(name, "gauge", help, writer)?;
+    writeln!(writer, "scoop_{name} {value}")
+}
+
+fn print_node<W: Write>(view: &NodeView<'_>, writer: &mut W) -> io::Result<()> {
+    let node = view.node;
+    print_head("node_info", "gauge", "The node's number.", writer)?;
+    writeln!(writer, "scoop_node_info{{node=\"{node}\"}} 1")?;
+    let help = "Whether the node is ready and hasn't closed.";
+    print_one("node_open", help, u64::from(view.open), writer)?;
+    let help = "The time since the node began.";
+    print_one("node_uptime_seconds", help, view.uptime_seconds, writer)?;
+    let help = "Entries of the history since the node was last opened.";
+    print_one("history_entries", help, view.history_entries, writer)
+}
+
+fn print_counts<W: Write>(counts: &CountsView, writer: &mut W) -> io::Result<()> {
+    let values = counts.values();
+    for ((name, help), value) in COUNTS.iter().zip(MEANINGS.iter()).zip(values.iter()) {
+        print_count(name, help, *value, writer)?;
+    }
+    let help = "Messages that handlers heard, by what they did.";
+    print_head("messages_total", "counter", help, writer)?;
+    print_each("messages_total{note", &NOTES, &counts.tally.notes, writer)?;
+    let help = "Messages that handlers dropped, by the reason.";
+    print_head("messages_dropped_total", "counter", help, writer)?;
+    let name = "messages_dropped_total{reason";
+    print_each(name, &REASONS, &counts.tally.dropped, writer)
+}
+
+fn print_count<W: Write>(name: &str, help: &str, value: u64, writer: &mut W) -> io::Result<()> {
+    writeln!(
+        writer,
+        "# HELP scoop_{name}_total {help}\n# TYPE scoop_{name}_total counter\nscoop_{name}_total {value}"
+    )
+}
+
+// Writes the values of a metric by the words of its label.
+fn print_each<W: Write>(
+    metric: &str,
+    words: &[&str],
+    values: &[u64],
+    writer: &mut W,
+) -> io::Result<()> {
+    for (word, value) in words.iter().zip(values.iter()) {
+        writeln!(writer, "scoop_{metric}=\"{word}\"}} {value}")?;
+    }
+    Ok(())
+}
+
+// Writes a gauge that has a value for each handler of which a state is known.
+fn print_gauge<W: Write>(
+    gauge: Gauge,
+    name: &str,
+    help: &str,
+    handlers: &[HandlerView],
+    writer: &mut W,
+) -> io::Result<()> {
+    writeln!(
+        writer,
+        "# HELP scoop_handler_{name} {help}\n# TYPE scoop_handler_{name} gauge"
+    )?;
+    for handler in handlers {
+        if handler.known {
+            let (number, value) = (handler.handler, gauge.value_of(handler));
+            writeln!(
+                writer,
+                "scoop_handler_{name}{{handler=\"{number}\"}} {value}"
+            )?;
+        }
+    }
+    Ok(())
+}

@@ -1,0 +1,216 @@
+//! A server of the status over sockets of this machine, with requests of all kinds.
+
+use super::watch;
+use jiff::Timestamp;
+use mio::net::TcpListener;
+use scoop_status::About;
+use scoop_status_server::{Pages, Server};
+use scoop_system::{NodePlace, System};
+use scoop_watch::{LogLevel, Watch};
+use std::alloc::Global;
+use std::hash::RandomState;
+use std::io::{ErrorKind, Read, Write};
+use std::net::{Net, SocketAddr, TcpStream};
+use std::process::Abort;
+use std::sync::Wait;
+use std::test::Fail;
+use std::thread;
+use std::time::{Clock, Duration, Instant};
+
+const SYSTEM: &str = "\
+[[node]]
+number = 1
+address = \"127.0.0.1:47101\"
+[[handler]]
+number = 1
+node = 1
+class = \"cell\"
+words = [5]
+[[client]]
+number = 7
+address = \"127.0.0.1:47107\"
+";
+
+// A server, what it serves, and its address.
+#[derive(Drop)]
+struct Served {
+    server: Server,
+    address: SocketAddr,
+}
+
+fn serve(rt: &HostRuntime) -> Result<Served, Fail> {
+    let listener = TcpListener::bind(rt, "127.0.0.1:0".parse::<SocketAddr>()?)?;
+    let address = listener.local_addr()?;
+    let server = Server::new(rt.alloc(), RandomState::new(rt)?, listener)?;
+    Ok(Served { server, address })
+}
+
+fn about<'a>(system: &'a System, place: &NodePlace, started: Timestamp) -> About<'a> {
+    About {
+        system,
+        place: *place,
+        store: None,
+        is_sealed: false,
+        started,
+    }
+}
+
+// Sends these bytes, and turns the server until the connection ends. Returns what came back, and after how long.
+fn ask<R: Wait + Clock>(
+    rt: &R,
+    alloc: Global,
+    served: &mut Served,
+    pages: &mut Pages<'_, R>,
+    mut stream: TcpStream,
+    bytes: &[u8],
+) -> Result<(Vec<u8>, Duration), Fail> {
+    let start = Instant::now(rt)?;
+    stream.write_all(bytes)?;
+    stream.set_nonblocking(true)?;
+    let mut back = Vec::new(alloc);
+    let mut buffer = [0; 4096];
+    for _ in 0..1_000 {
+        served.server.turn(rt, pages);
+        match stream.read(&mut buffer) {
+            Ok(0) => break,
+            Ok(len) => back.extend_from_slice(&buffer[..len])?,
+            Err(error) if error.kind() == ErrorKind::WouldBlock => {
+                thread::sleep(rt, Duration::from_millis(5));
+            }
+            Err(_) => break,
+        }
+    }
+    Ok((back, start.elapsed(rt)?))
+}
+
+// Each of these gets an answer that begins so, and ends the connection within two seconds.
+const CASES: [(&[u8], &str); 9] = [
+    (
+        b"GET / HTTP/1.1\r\nHost: h\r\n\r\n",
+        "HTTP/1.1 200 OK\r\ncontent-type: text/html; charset=utf-8\r\nconnection: close\r\n",
+    ),
+    (
+        b"GET /status.json HTTP/1.1\r\nHost: h\r\n\r\n",
+        "HTTP/1.1 200 OK\r\ncontent-type: application/json\r\n",
+    ),
+    (
+        b"GET /metrics HTTP/1.1\r\nHost: h\r\n\r\n",
+        "HTTP/1.1 200 OK\r\ncontent-type: text/plain; version=0.0.4; charset=utf-8\r\n",
+    ),
+    (
+        b"GET /healthz HTTP/1.1\r\nHost: h\r\n\r\n",
+        "HTTP/1.1 503 Service Unavailable\r\n",
+    ),
+    (
+        b"GET /other HTTP/1.1\r\nHost: h\r\n\r\n",
+        "HTTP/1.1 404 Not Found\r\n",
+    ),
+    (
+        b"DELETE / HTTP/1.1\r\nHost: h\r\n\r\n",
+        "HTTP/1.1 405 Method Not Allowed\r\n",
+    ),
+    (
+        b"POST / HTTP/1.1\r\nHost: h\r\nContent-Length: 5\r\n\r\nhello",
+        "HTTP/1.1 413 Payload Too Large\r\n",
+    ),
+    (b"no HTTP at all\r\n\r\n", "HTTP/1.1 400 Bad Request\r\n"),
+    // a request that never ends
+    (b"GET / HTTP/1.1\r\nHost: h\r\n", ""),
+];
+
+// What is owned is lent in these functions, so that no early return has to drop it.
+fn answers_each<R: Wait + Clock + Abort + Net<Stream = TcpStream>>(
+    rt: &R,
+    alloc: Global,
+    system: &System,
+    watch: &Watch,
+    served: &mut Served,
+) -> Result<(), Fail> {
+    let place = system.node(1).ok_or("no node")?;
+    let about = about(system, place, Timestamp::now(rt)?);
+    let mut pages = Pages {
+        rt,
+        alloc,
+        watch,
+        about: &about,
+    };
+    for (request, wanted) in CASES {
+        let (back, took) = asked(rt, alloc, served, &mut pages, request)?;
+        assert!(rt; back.starts_with(wanted.as_bytes()), "{wanted}");
+        assert!(rt; took < Duration::from_secs(2), "{wanted}");
+    }
+    let mut long = b"GET / HTTP/1.1\r\nHost: h\r\nX: ".to_vec(alloc)?;
+    long.resize(5_000, b'a')?;
+    let (back, _) = asked(rt, alloc, served, &mut pages, &long)?;
+    assert!(rt; back.starts_with(b"HTTP/1.1 431 "));
+    Ok(())
+}
+
+// What comes back to these bytes over a connection of its own, and after how long.
+fn asked<R: Wait + Clock + Abort + Net<Stream = TcpStream>>(
+    rt: &R,
+    alloc: Global,
+    served: &mut Served,
+    pages: &mut Pages<'_, R>,
+    bytes: &[u8],
+) -> Result<(Vec<u8>, Duration), Fail> {
+    let stream = TcpStream::connect(rt, served.address)?;
+    ask(rt, alloc, served, pages, stream, bytes)
+}
+
+#[test]
+fn each_request_gets_its_answer_in_time(rt: HostRuntime) -> Result<(), Fail> {
+    let system = System::read(rt.alloc(), SYSTEM)?;
+    let watch: Watch = watch(rt.alloc(), LogLevel::Off)?;
+    let mut served = serve(&rt)?;
+    answers_each(&rt, rt.alloc(), &system, &watch, &mut served)
+}
+
+// Connections that send nothing take all places, until their time is over.
+fn leaves_room<R: Wait + Clock + Abort + Net<Stream = TcpStream>>(
+    rt: &R,
+    alloc: Global,
+    system: &System,
+    watch: &Watch,
+    served: &mut Served,
+    silent: &mut Vec<TcpStream>,
+) -> Result<(), Fail> {
+    let place = system.node(1).ok_or("no node")?;
+    let about = about(system, place, Timestamp::now(rt)?);
+    let mut pages = Pages {
+        rt,
+        alloc,
+        watch,
+        about: &about,
+    };
+    for _ in 0..40 {
+        silent.push(TcpStream::connect(rt, served.address)?)?;
+    }
+    let start = Instant::now(rt)?;
+    served.server.turn(rt, &mut pages);
+    served.server.turn(rt, &mut pages);
+    // all places are taken
+    let (back, took) = asked(rt, alloc, served, &mut pages, b"")?;
+    assert!(rt; back.starts_with(b"HTTP/1.1 503 ") && took < Duration::from_secs(1));
+    // their time is over
+    for _ in 0..400 {
+        served.server.turn(rt, &mut pages);
+        if start.elapsed(rt)? > Duration::from_millis(1_600) {
+            break;
+        }
+        thread::sleep(rt, Duration::from_millis(5));
+    }
+    let request = b"GET /metrics HTTP/1.1\r\nHost: h\r\n\r\n";
+    let (back, _) = asked(rt, alloc, served, &mut pages, request)?;
+    assert!(rt; back.starts_with(b"HTTP/1.1 200 OK\r\n"));
+    Ok(())
+}
+
+#[test]
+fn silent_connections_leave_room(rt: HostRuntime) -> Result<(), Fail> {
+    let system = System::read(rt.alloc(), SYSTEM)?;
+    let watch: Watch = watch(rt.alloc(), LogLevel::Off)?;
+    let mut served = serve(&rt)?;
+    let mut silent = Vec::new(rt.alloc());
+    leaves_room(&rt, rt.alloc(), &system, &watch, &mut served, &mut silent)
+}

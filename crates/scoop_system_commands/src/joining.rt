@@ -1,0 +1,125 @@
+//! Nodes in threads of this process, beside a client.
+
+use crate::ending::End;
+use crate::host::Host;
+use crate::typed_lines::TypedLines;
+use scoop_journal::{Journal, JournalFile};
+use scoop_keeper::Keeper;
+use scoop_link::UdpLink;
+use scoop_message::OutOfMemory;
+use scoop_report::{Hints, hint, report};
+use scoop_runtime::{Backoff, ClientPlan, Ending, client_run};
+use std::alloc::Global;
+use std::io::{BufWriter, Stderr};
+use std::net::Net;
+use std::sync::Wait;
+use std::thread::Threads;
+use std::time::Clock;
+use std::{io, thread};
+
+// A client with its record and its link, before it runs.
+#[derive(Drop)]
+struct Asking<'a, 'p, 'k, K: Keeper<Global>> {
+    rt: &'a HostRuntime,
+    plan: &'a ClientPlan<'p>,
+    keeper: &'k mut K,
+    link: UdpLink,
+}
+
+impl<'a, 'p, 'k, K: Keeper<Global>> Asking<'a, 'p, 'k, K> {
+    fn run(self) -> Result<(), End> {
+        let Asking {
+            rt,
+            plan,
+            keeper,
+            link,
+        } = self;
+        ask(rt, plan, keeper, link)
+    }
+}
+
+/// Runs the nodes, each in a thread, while the client runs. Then it asks the nodes to end, and joins all threads. Returns the
+/// nodes, and the end of the client.
+pub(crate) fn run_beside<K, T>(
+    rt: &HostRuntime,
+    threads: &T,
+    hosts: Vec<Host<K>>,
+    plan: &ClientPlan<'_>,
+    keeper: &mut K,
+    link: UdpLink,
+) -> (Vec<Host<K>>, Result<(), End>)
+where
+    K: Keeper<Global> + Send,
+    T: Threads + Wait + Clock + Net + Sync,
+{
+    let ending = Ending::new();
+    let asking = Asking {
+        rt,
+        plan,
+        keeper,
+        link,
+    };
+    host_beside(threads, rt.alloc(), rt.stderr(), hosts, &ending, asking)
+}
+
+// Starts a thread for each node, runs the client in this one, and waits for all.
+fn host_beside<K, T>(
+    threads: &T,
+    alloc: Global,
+    notes: Stderr,
+    mut hosts: Vec<Host<K>>,
+    ending: &Ending,
+    asking: Asking<'_, '_, '_, K>,
+) -> (Vec<Host<K>>, Result<(), End>)
+where
+    K: Keeper<Global> + Send,
+    T: Threads + Wait + Clock + Net + Sync,
+{
+    let lent = hosts.as_mut_slice();
+    let ran = thread::scope(thread::scope_env(), threads, move |scope| {
+        for host in lent.iter_mut() {
+            let spawned = scope.spawn(move || host.run(threads, alloc, notes, ending));
+            if spawned.is_err() {
+                report_no_thread(asking.rt);
+            }
+        }
+        let ran = asking.run();
+        ending.ask();
+        ran
+    });
+    (hosts, ran)
+}
+
+fn report_no_thread(rt: &HostRuntime) {
+    report(rt, "a node has no thread");
+    hint(
+        rt,
+        Hints::Always,
+        "the operating system refuses more threads: end other programs",
+    );
+}
+
+// Runs the client with the lines of standard input.
+fn ask<K: Keeper<Global>>(
+    rt: &HostRuntime,
+    plan: &ClientPlan<'_>,
+    keeper: &mut K,
+    link: UdpLink,
+) -> Result<(), End> {
+    let alloc = rt.alloc();
+    let mut output = BufWriter::new(alloc, io::writer(rt)).map_err(|_| OutOfMemory)?;
+    client_run(
+        alloc,
+        plan,
+        keeper,
+        link,
+        None::<Journal<&JournalFile>>,
+        &mut TypedLines::new(rt.reader()),
+        rt.stderr(),
+        rt.stderr(),
+        &mut Backoff::new(rt, plan.place().client),
+        &mut output,
+        &mut rt.stderr(),
+    )?;
+    Ok(())
+}

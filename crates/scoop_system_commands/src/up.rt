@@ -1,0 +1,371 @@
+//! `scoop up`: all nodes of a system in one process, and a client.
+
+use crate::ending::{End, Party, report_end, report_plainly, report_range};
+use crate::folder::{make_folder, open_client_store, open_node_store, store_path};
+use crate::host::Host;
+use crate::joining::run_beside;
+use crate::system_file::{read_system, report_fault};
+use scoop_command_line::UpOptions;
+use scoop_files::{FiledStore, close, report_file};
+use scoop_keeper::{Keeper, MemoryKeeper};
+use scoop_message::{ClientId, OutOfMemory};
+use scoop_record::Store;
+use scoop_report::{Hints, Status, report};
+use scoop_runtime::{ClientPlan, FileFault, OutOfRange, RuntimeError, Serving, open_client_link};
+use scoop_system::{ClientPlace, NodePlace, System};
+use sqlite::Alter;
+use std::alloc::Global;
+use std::io::IsTerminal;
+use std::mem;
+use std::net::Net;
+use std::sync::Wait;
+use std::thread::Threads;
+use std::time::Clock;
+
+// The settings of the nodes: those that `scoop node` has by default.
+const EXECUTORS: u32 = 2;
+
+const HISTORY: usize = 100_000;
+
+// The turns of a command of the client: those that `scoop client` has by default.
+const TURNS: u64 = 100_000;
+
+/// Runs all nodes of the options' system, and a client whose commands are the lines of standard input. At the end of the
+/// client the nodes are asked to end.
+pub fn run_up<T: Threads + Wait + Clock + Net + Sync>(
+    rt: &HostRuntime,
+    threads: &T,
+    options: &UpOptions<'_>,
+) -> Result<(), Status> {
+    let serving = match Serving::new(EXECUTORS, HISTORY, u64::MAX) {
+        Ok(serving) => serving,
+        Err(range) => return Err(report_range(rt, range)),
+    };
+    let system = read_system(rt, options.system)?;
+    let Some(place) = client_place(&system, options.client) else {
+        return Err(report_no_client(rt, options));
+    };
+    match plan_of(rt, &system, place, options.is_strict) {
+        Ok(plan) => run_in(rt, threads, options, serving, &plan),
+        Err(range) => Err(report_range(rt, range)),
+    }
+}
+
+// Reports that the system's file lacks the client that the options name, or any client.
+fn report_no_client(rt: &HostRuntime, options: &UpOptions<'_>) -> Status {
+    let (path, fault) = (options.system, FileFault::NoClient);
+    match options.client {
+        Some(number) => report_fault(rt, path, format_args!("no client {number}"), fault),
+        None => report_fault(rt, path, "it has no clients", fault),
+    }
+}
+
+// The client that the options name, or the first one.
+fn client_place(system: &System, client: Option<u32>) -> Option<&ClientPlace> {
+    match client {
+        Some(number) => system.client(ClientId(number)),
+        None => system.clients().first(),
+    }
+}
+
+fn plan_of<'a>(
+    rt: &HostRuntime,
+    system: &'a System,
+    place: &ClientPlace,
+    is_strict: bool,
+) -> Result<ClientPlan<'a>, OutOfRange> {
+    let plan = ClientPlan::new(system, *place, TURNS, rt.stdin().is_terminal())?;
+    if is_strict {
+        Ok(plan.strict())
+    } else {
+        Ok(plan)
+    }
+}
+
+// Runs the parties over stores in the folder of the options, or over memory alone.
+fn run_in<T: Threads + Wait + Clock + Net + Sync>(
+    rt: &HostRuntime,
+    threads: &T,
+    options: &UpOptions<'_>,
+    serving: Serving,
+    plan: &ClientPlan<'_>,
+) -> Result<(), Status> {
+    match options.dir {
+        Some(dir) => run_stored(rt, threads, serving, plan, dir),
+        None => run_unstored(rt, threads, serving, plan),
+    }
+}
+
+// Runs the parties, and stores nothing. The nodes are borrowed by what can fail, so that no early return has to drop them.
+fn run_unstored<T: Threads + Wait + Clock + Net + Sync>(
+    rt: &HostRuntime,
+    threads: &T,
+    serving: Serving,
+    plan: &ClientPlan<'_>,
+) -> Result<(), Status> {
+    report(rt, "no --dir: nothing is stored");
+    let mut hosts = Vec::new(rt.alloc());
+    let mut keeper = MemoryKeeper::new(rt.alloc());
+    run_unstored_in(rt, threads, serving, plan, &mut hosts, &mut keeper)
+}
+
+// The same over these nodes, which are none yet, and this record of the client.
+fn run_unstored_in<T: Threads + Wait + Clock + Net + Sync>(
+    rt: &HostRuntime,
+    threads: &T,
+    serving: Serving,
+    plan: &ClientPlan<'_>,
+    hosts: &mut Vec<Host<MemoryKeeper>>,
+    keeper: &mut MemoryKeeper,
+) -> Result<(), Status> {
+    for place in plan.system().nodes() {
+        let record = MemoryKeeper::new(rt.alloc());
+        add_host(
+            rt,
+            threads,
+            plan.system(),
+            place,
+            serving,
+            record,
+            None,
+            hosts,
+        )?;
+    }
+    run_together(rt, threads, hosts, plan, keeper)?;
+    for host in hosts.iter() {
+        host.report(rt, plan.system())?;
+    }
+    Ok(())
+}
+
+// Adds the node at this place, over its port and this keeper.
+fn add_host<K: Keeper<Global> + Send, T: Net>(
+    rt: &HostRuntime,
+    net: &T,
+    system: &System,
+    place: &NodePlace,
+    serving: Serving,
+    keeper: K,
+    path: Option<String>,
+    hosts: &mut Vec<Host<K>>,
+) -> Result<(), Status> {
+    match Host::open(rt, net, system, place, serving, keeper, path) {
+        Ok(host) => keep(rt, host, hosts),
+        Err(error) => Err(report_plainly(rt, error)),
+    }
+}
+
+fn keep<K: Keeper<Global>>(
+    rt: &HostRuntime,
+    host: Host<K>,
+    hosts: &mut Vec<Host<K>>,
+) -> Result<(), Status> {
+    match hosts.push(host) {
+        Ok(()) => Ok(()),
+        Err(_) => Err(report_plainly(rt, RuntimeError::from(OutOfMemory))),
+    }
+}
+
+// Runs the parties over the stores in this folder.
+fn run_stored<T: Threads + Wait + Clock + Net + Sync>(
+    rt: &HostRuntime,
+    threads: &T,
+    serving: Serving,
+    plan: &ClientPlan<'_>,
+    dir: &str,
+) -> Result<(), Status> {
+    make_folder(rt, dir)?;
+    let mut hosts = Vec::new(rt.alloc());
+    let ran = run_stored_in(rt, threads, serving, plan, dir, &mut hosts);
+    let ended = close_hosts(rt, plan.system(), hosts);
+    ran?;
+    ended
+}
+
+// The same over these nodes, which are none yet.
+fn run_stored_in<T: Threads + Wait + Clock + Net + Sync>(
+    rt: &HostRuntime,
+    threads: &T,
+    serving: Serving,
+    plan: &ClientPlan<'_>,
+    dir: &str,
+    hosts: &mut Vec<Host<FiledStore>>,
+) -> Result<(), Status> {
+    for place in plan.system().nodes() {
+        add_stored(rt, threads, plan.system(), place, serving, dir, hosts)?;
+    }
+    let client = plan.place().client;
+    let path = store_path(rt, dir, "client", client.0)?;
+    match open_client_store(rt, &path, client) {
+        Ok(store) => run_filed(rt, threads, plan, hosts, &path, store),
+        Err(status) => Err(status),
+    }
+}
+
+// The same over the client's store in this file, which is closed then.
+fn run_filed<T: Threads + Wait + Clock + Net + Sync>(
+    rt: &HostRuntime,
+    threads: &T,
+    plan: &ClientPlan<'_>,
+    hosts: &mut Vec<Host<FiledStore>>,
+    path: &str,
+    store: FiledStore,
+) -> Result<(), Status> {
+    let (ran, store) = run_kept(rt, threads, plan, hosts, store);
+    let closed = close_store(rt, path, store);
+    match ran {
+        Ok(()) => closed,
+        Err(status) => Err(status),
+    }
+}
+
+// The same over a store in any place, which is returned.
+fn run_kept<S: Alter + Drop + Send, T: Threads + Wait + Clock + Net + Sync>(
+    rt: &HostRuntime,
+    threads: &T,
+    plan: &ClientPlan<'_>,
+    hosts: &mut Vec<Host<Store<S>>>,
+    mut store: Store<S>,
+) -> (Result<(), Status>, Store<S>) {
+    let ran = run_together(rt, threads, hosts, plan, &mut store);
+    (ran, store)
+}
+
+// Adds the node at this place, over its store.
+fn add_stored<T: Net>(
+    rt: &HostRuntime,
+    net: &T,
+    system: &System,
+    place: &NodePlace,
+    serving: Serving,
+    dir: &str,
+    hosts: &mut Vec<Host<FiledStore>>,
+) -> Result<(), Status> {
+    let path = store_path(rt, dir, "node", place.number)?;
+    add_filed(rt, net, system, place, serving, &path, hosts)
+}
+
+// Adds the node over the store in this file. A function that names the files' type does one thing alone: the prover takes too
+// many steps at more.
+fn add_filed<T: Net>(
+    rt: &HostRuntime,
+    net: &T,
+    system: &System,
+    place: &NodePlace,
+    serving: Serving,
+    path: &str,
+    hosts: &mut Vec<Host<FiledStore>>,
+) -> Result<(), Status> {
+    match open_node_store(rt, path) {
+        Ok(opened) => add_opened(rt, net, system, place, serving, opened, path, hosts),
+        Err(status) => Err(status),
+    }
+}
+
+// Adds the node over the store that was opened in this file, and goes on with what it holds if it is old.
+fn add_opened<S: Alter + Drop + Send, T: Net>(
+    rt: &HostRuntime,
+    net: &T,
+    system: &System,
+    place: &NodePlace,
+    serving: Serving,
+    opened: (Store<S>, bool),
+    path: &str,
+    hosts: &mut Vec<Host<Store<S>>>,
+) -> Result<(), Status> {
+    let (store, is_old) = opened;
+    let serving = if is_old { serving.going_on() } else { serving };
+    let Ok(path) = String::from_str(rt.alloc(), path) else {
+        return Err(report_plainly(rt, RuntimeError::from(OutOfMemory)));
+    };
+    add_host(rt, net, system, place, serving, store, Some(path), hosts)
+}
+
+// Runs the nodes beside the client, and reports why the client ends early.
+fn run_together<K: Keeper<Global> + Send, T: Threads + Wait + Clock + Net + Sync>(
+    rt: &HostRuntime,
+    threads: &T,
+    hosts: &mut Vec<Host<K>>,
+    plan: &ClientPlan<'_>,
+    keeper: &mut K,
+) -> Result<(), Status> {
+    let place = plan.place();
+    let link = match open_client_link(threads, rt.alloc(), plan.system(), &place) {
+        Ok(link) => link,
+        Err(error) => return Err(report_client(rt, plan, End::Runtime(error))),
+    };
+    let lent = mem::replace(hosts, Vec::new(rt.alloc()));
+    let (lent, ran) = run_beside(rt, threads, lent, plan, keeper, link);
+    *hosts = lent;
+    match ran {
+        Ok(()) => Ok(()),
+        Err(end) => Err(report_client(rt, plan, end)),
+    }
+}
+
+// Reports why the client ends early.
+fn report_client(rt: &HostRuntime, plan: &ClientPlan<'_>, end: End) -> Status {
+    let party = Party {
+        system: plan.system(),
+        address: plan.place().address,
+        store: None,
+        journal: None,
+    };
+    report_end(rt, &party, end)
+}
+
+// Closes the stores of the nodes. Returns the status of the first node that ended early.
+fn close_hosts(
+    rt: &HostRuntime,
+    system: &System,
+    hosts: Vec<Host<FiledStore>>,
+) -> Result<(), Status> {
+    let mut ended = Ok(());
+    for host in hosts {
+        let closed = close_host(rt, system, host);
+        if ended.is_ok() {
+            ended = closed;
+        }
+    }
+    ended
+}
+
+// Reports why a node ended early, or closes its store.
+fn close_host(rt: &HostRuntime, system: &System, host: Host<FiledStore>) -> Result<(), Status> {
+    match store_of(rt, system, host) {
+        Ok((store, path)) => close_kept(rt, path, store),
+        Err(status) => Err(status),
+    }
+}
+
+// Reports why a node ended early, or returns its store and the file of that.
+fn store_of<S: Alter + Drop + Send>(
+    rt: &HostRuntime,
+    system: &System,
+    host: Host<Store<S>>,
+) -> Result<(Option<Store<S>>, Option<String>), Status> {
+    match host.report(rt, system) {
+        Ok(()) => Ok(host.into_keeper()),
+        Err(status) => Err(status),
+    }
+}
+
+// Closes the store of a node, which is in this file.
+fn close_kept(
+    rt: &HostRuntime,
+    path: Option<String>,
+    store: Option<FiledStore>,
+) -> Result<(), Status> {
+    match store {
+        Some(store) => close_store(rt, path.as_deref().unwrap_or(""), store),
+        None => Ok(()),
+    }
+}
+
+// Closes a store.
+fn close_store(rt: &HostRuntime, path: &str, store: FiledStore) -> Result<(), Status> {
+    match close(store) {
+        Ok(()) => Ok(()),
+        Err(error) => Err(report_file(rt, Hints::Always, path, error)),
+    }
+}

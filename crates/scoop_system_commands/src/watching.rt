@@ -1,0 +1,220 @@
+//! A node that runs beside the thread that shows it.
+
+use crate::ending::End;
+use mio::net::TcpListener;
+use scoop_command_line::{LogChoice, NodeOptions};
+use scoop_errors::PartyError;
+use scoop_journal::JournalFile;
+use scoop_keeper::Keeper;
+use scoop_link::Link;
+use scoop_message::{ClientId, OutOfMemory};
+use scoop_report::report;
+use scoop_runtime::{NodePlan, RuntimeError, Serving, node_run};
+use scoop_status::{About, Log};
+use scoop_status_server::{Server, show};
+use scoop_system::System;
+use scoop_watch::{
+    LogLevel, RefusesForged, Settings, Watch, WatchedKeeper, WatchedLink, WatchedOutput,
+};
+use std::alloc::Global;
+use std::hash::RandomState;
+use std::io::{BufWriter, Stderr, Stdout};
+use std::net::SocketAddr;
+use std::sync::Wait;
+use std::thread::Threads;
+use std::time::Clock;
+use std::{io, thread};
+
+/// How a node is shown: what is known of it, and its log's level.
+#[derive(Clone, Copy)]
+pub(crate) struct Shown<'a> {
+    pub(crate) about: About<'a>,
+    pub(crate) log: LogLevel,
+    /// The address of its status, if it has one.
+    pub(crate) status: Option<SocketAddr>,
+}
+
+/// A node that is served, with its journal if it writes one, and how it is shown.
+#[derive(Clone, Copy)]
+pub(crate) struct Served<'a> {
+    pub(crate) plan: &'a NodePlan,
+    pub(crate) serving: &'a Serving,
+    pub(crate) journal: Option<&'a JournalFile>,
+    pub(crate) shown: &'a Shown<'a>,
+}
+
+/// The level of the log that the command line asks for.
+pub(crate) fn level_of(options: &NodeOptions<'_>) -> LogLevel {
+    match options.log {
+        LogChoice::Off => LogLevel::Off,
+        LogChoice::Warn => LogLevel::Warn,
+        LogChoice::Info => LogLevel::Info,
+        LogChoice::Debug => LogLevel::Debug,
+    }
+}
+
+/// Opens the server of a node's status at this address, if there is one. It says so if other machines can reach it.
+pub(crate) fn open_server(
+    rt: &HostRuntime,
+    status: Option<SocketAddr>,
+) -> Result<Option<Server>, End> {
+    let Some(address) = status else {
+        return Ok(None);
+    };
+    if !address.ip().is_loopback() {
+        report(
+            rt,
+            format_args!(
+                "status: {address} is no loopback address: whoever reaches it can read this node's status"
+            ),
+        );
+    }
+    match listen(rt, address) {
+        Ok(server) => Ok(Some(server)),
+        Err(_) => Err(End::Status(address)),
+    }
+}
+
+// The server of what comes to this address.
+fn listen(rt: &HostRuntime, address: SocketAddr) -> io::Result<Server> {
+    let keys = RandomState::new(rt)?;
+    let listener = TcpListener::bind(rt, address)?;
+    Ok(Server::new(rt.alloc(), keys, listener)?)
+}
+
+// The watch of the node that is shown so. States are copied only if there is a status that shows them, or a log that needs
+// them.
+fn watch_of(alloc: Global, shown: &Shown<'_>) -> Result<Watch, OutOfMemory> {
+    let clients = clients_of(alloc, shown.about.system)?;
+    let settings = Settings {
+        log: shown.log,
+        shows_states: shown.status.is_some(),
+        clients,
+    };
+    Ok(Watch::new(alloc, settings))
+}
+
+// The clients that the system's file names.
+fn clients_of(alloc: Global, system: &System) -> Result<Vec<ClientId>, OutOfMemory> {
+    let mut clients = Vec::new(alloc);
+    for place in system.clients() {
+        clients.push(place.client).map_err(OutOfMemory::from)?;
+    }
+    Ok(clients)
+}
+
+// A node under its watch, before it runs.
+#[derive(Drop)]
+struct WatchedNode<'s, 'w, K: Keeper<Global>, L: Link, T> {
+    plan: &'s NodePlan,
+    serving: &'s Serving,
+    watch: &'w Watch,
+    keeper: WatchedKeeper<'w, K, T>,
+    link: WatchedLink<'w, L>,
+}
+
+impl<'s, 'w, K, L, T> WatchedNode<'s, 'w, K, L, T>
+where
+    K: Keeper<Global> + Send,
+    L: Link + RefusesForged,
+    T: Threads + Wait + Clock + Sync,
+{
+    // Runs the node, lets its watch end, and returns the keeper.
+    fn run(
+        self,
+        threads: &T,
+        alloc: Global,
+        output: Stdout,
+        notes: Stderr,
+    ) -> Result<K, RuntimeError> {
+        let watch = self.watch;
+        let ended = self.serve(threads, alloc, output, notes);
+        watch.end();
+        ended
+    }
+
+    fn serve(
+        self,
+        threads: &T,
+        alloc: Global,
+        output: Stdout,
+        notes: Stderr,
+    ) -> Result<K, RuntimeError> {
+        let WatchedNode {
+            plan,
+            serving,
+            watch,
+            keeper,
+            link,
+        } = self;
+        let output = BufWriter::new(alloc, output).map_err(|_| OutOfMemory)?;
+        let mut output = WatchedOutput::new(output, threads, watch);
+        match node_run(
+            threads,
+            alloc,
+            plan,
+            serving,
+            keeper,
+            link,
+            notes,
+            &mut output,
+        ) {
+            Ok(keeper) => Ok(keeper.into_inner()),
+            Err(error) => Err(error),
+        }
+    }
+}
+
+/// Runs the node over this keeper and link, with its watch over both, and returns the keeper. The server of its status, if it
+/// has one, and its log run beside it.
+pub(crate) fn run_watched<K, L, T>(
+    rt: &HostRuntime,
+    threads: &T,
+    served: &Served<'_>,
+    server: &mut Option<Server>,
+    keeper: K,
+    link: L,
+) -> Result<K, RuntimeError>
+where
+    K: Keeper<Global> + Send,
+    L: Link + RefusesForged + Send,
+    T: Threads + Wait + Clock + Sync,
+{
+    let watch = watch_of(rt.alloc(), served.shown)?;
+    let node = WatchedNode {
+        plan: served.plan,
+        serving: served.serving,
+        watch: &watch,
+        keeper: WatchedKeeper::new(keeper, threads, &watch),
+        link: WatchedLink::new(link, &watch),
+    };
+    show_beside(rt, threads, &watch, served.shown, server.take(), node)
+}
+
+// Starts a thread for the node, shows the node in this one until it has ended, and returns its keeper.
+fn show_beside<K, L, T>(
+    rt: &HostRuntime,
+    threads: &T,
+    watch: &Watch,
+    shown: &Shown<'_>,
+    server: Option<Server>,
+    node: WatchedNode<'_, '_, K, L, T>,
+) -> Result<K, RuntimeError>
+where
+    K: Keeper<Global> + Send,
+    L: Link + RefusesForged + Send,
+    T: Threads + Wait + Clock + Sync,
+{
+    let (alloc, output, notes) = (rt.alloc(), rt.stdout(), rt.stderr());
+    let about = &shown.about;
+    let log = Log::new(notes, about.place.number, shown.log);
+    thread::scope(thread::scope_env(), threads, move |scope| {
+        match scope.spawn(move || node.run(threads, alloc, output, notes)) {
+            Ok(running) => {
+                show(threads, alloc, watch, about, server, log);
+                running.join(threads)
+            }
+            Err(_) => Err(RuntimeError::from(PartyError::NoThread)),
+        }
+    })
+}

@@ -1,0 +1,36 @@
+//! Watchers of a node that runs: what passes through its keeper, its link and its output is copied onto a board and counted.
+//!
+//! A [`Watch`] is shared by the node's threads and the one that shows it. A [`WatchedKeeper`] stands over the node's keeper: it
+//! passes every call on, copies each stored state onto the board, and counts what was heard and run. A [`WatchedLink`] counts
+//! datagrams, and a [`WatchedOutput`] the openings of the node. None of them changes what it passes on, and nobody who reads a
+//! watch can change the node.
+//!
+//! ```
+//! let watch = Watch::new(alloc, settings);
+//! let mut keeper = WatchedKeeper::new(MemoryKeeper::new(alloc), rt, &watch);
+//! keeper.put_handler(state)?;
+//! // what is shown of the handler is the state of that put
+//! let shown = watch.state(rt, HandlerId(1))?.ok_or("no state")?;
+//! assert!(rt; shown.same(state));
+//! assert_eq!(rt; watch.tally(rt).puts, 1);
+//! ```
+#![tactic(auto)]
+
+mod board;
+mod event;
+mod event_list;
+mod link_counts;
+mod tally;
+mod watch;
+mod watched_keeper;
+mod watched_link;
+mod watched_output;
+
+pub use event::{Event, Level, LogLevel};
+pub use event_list::{EventList, MAX_EVENTS};
+pub use link_counts::{LinkTally, RefusesForged};
+pub use tally::{NOTES, REASONS, Tally};
+pub use watch::{Settings, Watch};
+pub use watched_keeper::WatchedKeeper;
+pub use watched_link::WatchedLink;
+pub use watched_output::WatchedOutput;

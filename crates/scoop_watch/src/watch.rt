@@ -1,0 +1,167 @@
+//! What threads share to watch a node.
+
+ghost use Rattle.std.specs.Prelude.{◌≡◌};
+
+use crate::board::Board;
+use crate::event::{Event, Level, LogLevel};
+use crate::event_list::EventList;
+use crate::link_counts::{LinkCounts, LinkTally};
+use crate::tally::Tally;
+use scoop_handler::{HandlerState, Heard};
+use scoop_keeper::KeeperError;
+use scoop_message::{ClientId, HandlerId, Message, OutOfMemory};
+use std::alloc::Global;
+use std::marker::Model;
+use std::sync::atomic::{AtomicBool, Ordering};
+use std::sync::{Mutex, Wait};
+
+/// What a watch looks at.
+#[derive(Drop)]
+pub struct Settings {
+    /// The log's level.
+    pub log: LogLevel,
+    /// Whether states are copied onto the board. A log that tells cuts needs them too.
+    pub shows_states: bool,
+    /// The clients that the system's file names.
+    pub clients: Vec<ClientId>,
+}
+
+/// The board of a node, the counts of its link, and whether the node has ended. All threads share it. Contracts see its
+/// settings alone: what another thread may change at any time, no clause can name.
+#[derive(Drop)]
+pub struct Watch {
+    board: Mutex<Board>,
+    link: LinkCounts,
+    ended: AtomicBool,
+    settings: Settings,
+}
+
+impl Model for Watch {
+    ghost use Rattle.scoop_watch.specs.declared.watch.Settings.{Settings};
+
+    ghost Value = { Settings };
+
+    ghost view = { λ w. w.settings };
+}
+
+impl Watch {
+    /// A watch of a node that begins.
+    pub fn new(alloc: Global, settings: Settings) -> Watch
+        ensures { result ≡ settings }
+    {
+        Watch {
+            board: Mutex::new(Board::new(alloc)),
+            link: LinkCounts::new(),
+            ended: AtomicBool::new(false),
+            settings,
+        }
+    }
+
+    /// How often things happened at the node's handlers.
+    pub fn tally<R: Wait>(&self, rt: &R) -> Tally {
+        self.board.lock(rt).tally
+    }
+
+    /// How many datagrams passed through the node's link.
+    pub fn link_tally(&self) -> LinkTally {
+        self.link.tally()
+    }
+
+    // The counts of the node's link.
+    pub(crate) fn link_counts(&self) -> &LinkCounts {
+        &self.link
+    }
+
+    /// A copy of the handler's latest state, `None` if none is known. It is the state of one moment: the copy of one put.
+    pub fn state<R: Wait>(
+        &self,
+        rt: &R,
+        handler: HandlerId,
+    ) -> Result<Option<HandlerState>, OutOfMemory> {
+        self.board.lock(rt).state(handler)
+    }
+
+    /// The events of this level since they were last taken.
+    pub fn take_events<R: Wait>(&self, rt: &R, level: Level) -> EventList {
+        let mut board = self.board.lock(rt);
+        match level {
+            Level::Warn => board.warnings.take(),
+            Level::Info => board.infos.take(),
+            Level::Debug => board.details.take(),
+        }
+    }
+
+    /// Says that the node has ended.
+    pub fn end(&self) {
+        self.ended.store(true, Ordering::SeqCst);
+    }
+
+    /// Whether the node has ended.
+    pub fn has_ended(&self) -> bool {
+        self.ended.load(Ordering::SeqCst)
+    }
+
+    /// The log's level.
+    pub fn log(&self) -> LogLevel
+        ensures { result ≡ self.now.log }
+    {
+        self.settings.log
+    }
+
+    /// Notes that the node is ready, was opened again or has closed.
+    pub(crate) fn tell_line<R: Wait>(&self, rt: &R, line: Event) {
+        let mut board = self.board.lock(rt);
+        let board = &mut *board;
+        match line {
+            Event::Closed => board.tally.is_open = false,
+            Event::Reopened => board.tally.reopen(),
+            _ => board.tally.is_open = true,
+        }
+        board.tell(line, self.settings.log);
+    }
+
+    /// Notes that a handler heard a message.
+    pub(crate) fn hear<R: Wait>(&self, rt: &R, message: &Message, heard: &Heard) {
+        let client = message.client();
+        let is_stranger = !self.settings.clients.contains(&client);
+        let mut board = self.board.lock(rt);
+        let board = &mut *board;
+        if is_stranger {
+            board.tally.meet_stranger(client, message.handler());
+        }
+        board.hear(message, heard, self.settings.log);
+    }
+
+    /// Notes that an entry has run.
+    pub(crate) fn run<R: Wait>(&self, rt: &R) {
+        self.board.lock(rt).tally.run();
+    }
+
+    /// Notes a state that was stored, or that the store refused.
+    pub(crate) fn put<R: Wait>(
+        &self,
+        rt: &R,
+        state: &HandlerState,
+        stored: Result<(), KeeperError>,
+    ) {
+        let shows = self.shows_states() && stored.is_ok();
+        let mut board = self.board.lock(rt);
+        let board = &mut *board;
+        board.put(state.handler(), stored, self.settings.log);
+        if shows {
+            board.show(state);
+        }
+    }
+
+    /// Notes a state that was loaded.
+    pub(crate) fn load<R: Wait>(&self, rt: &R, state: &HandlerState) {
+        if self.shows_states() {
+            self.board.lock(rt).show(state);
+        }
+    }
+
+    // Whether states are copied onto the board.
+    fn shows_states(&self) -> bool {
+        self.settings.shows_states || self.settings.log.tells(Level::Info)
+    }
+}

@@ -1,0 +1,39 @@
+-- The numbers of messages: places among keys.
+use Rattle.std.proofs.Common.{◌≡◌, ℕ, zero, suc, ◌+◌, ◌-◌, true, Bool, List, [], ◌∷◌, ◌++◌, map, slice_get, Option, Some, None, refl, sym, ap, ◌∙◌, subst, append-nil, arith}
+use Rattle.std.specs.Prelude.{if◌then◌else◌}
+use Rattle.std.specs.List.{list_any}
+use Rattle.std.specs.Option.{option_map}
+use Rattle.std.proofs.lemmas.List.{map-append}
+use Rattle.std.proofs.lemmas.Option.{slice_get-map}
+use Rattle.indexmap.specs.IndexSet.{insert_key}
+use Rattle.scoop_message.specs.declared.message.Message.{Message}
+use Rattle.scoop_message.proofs.Same.{message_decides}
+use Rattle.scoop_model.proofs.Basics.{by_test}
+use Rattle.scoop_weaver.specs.declared.key.Key.{Key}
+use Rattle.scoop_weaver.specs.contracts.key.KeyPartialEq.TheImpl as on_key
+use Rattle.scoop_weaver.specs.Post.{message_at, Grows}
+use Rattle.scoop_weaver.proofs.Found.{messages_of}
+
+pub keys_grow : (ks new : List Key) (now : List Message) (x : Key) → messages_of ks ≡ now → new ≡ insert_key on_key.eq-value.it ks x → Grows now (messages_of new)
+keys_grow ks new now x is told =
+    subst (λ xs. Grows xs (messages_of new)) is (subst (λ ns. Grows (messages_of ks) (messages_of ns)) (sym told)
+    (by_test (λ b. Grows (messages_of ks) (messages_of (if b then ks else ks ++ x ∷ []))) (list_any (on_key.eq-value.it x) ks)
+    (λ _. record { more = []; is = sym (append-nil (messages_of ks)) })
+    (λ _. record { more = x.0 ∷ []; is = map-append (λ (k : Key). k.0) ks (x ∷ []) })))
+
+-- the message of a number is that of the key at its place
+pub message_there : (ks : List Key) (i : ℕ) (k : Key) → slice_get ks i ≡ Some k → message_at (messages_of ks) (i + 1) ≡ Some k.0
+message_there ks i k e =
+    let e1 : i + 1 ≡ suc i = omega arith in
+    ap (message_at (messages_of ks)) e1 ∙ (slice_get-map (λ (x : Key). x.0) ks i ∙ ap (option_map (λ (x : Key). x.0)) e)
+
+pub key_named : (ks : List Key) (i : ℕ) (m : Message) (k : Key) → slice_get ks i ≡ Some k → on_key.eq-value.it (record { 0 = m }) k ≡ true
+    → message_at (messages_of ks) (i + 1) ≡ Some m
+key_named ks i m k e same = message_there ks i k e ∙ ap Some (sym ((message_decides m k.0).0 same))
+
+pub message_read : (ks : List Key) (now : List Message) (n : ℕ) (o : Option Key) → messages_of ks ≡ now → (n ≡ 0 → ⊥) → o ≡ slice_get ks (n - 1)
+    → option_map (λ (k : Key). k.0) o ≡ message_at now n
+message_read ks now zero o is h e = absurd (h refl)
+message_read ks now (suc i) o is h e =
+    let less : suc i - 1 ≡ i = omega arith in
+    ap (option_map (λ (k : Key). k.0)) (e ∙ ap (slice_get ks) less) ∙ (sym (slice_get-map (λ (k : Key). k.0) ks i) ∙ ap (λ ms. slice_get ms i) is)
