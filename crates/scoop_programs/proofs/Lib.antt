@@ -1,0 +1,4 @@
+mod Keeping
+mod Clients
+mod Nodes
+mod Worlds
