@@ -1,5 +1,5 @@
 -- The lives of a client's run are drivers, one after another, with a restart between. Each life takes the next incarnation.
-use Rattle.std.proofs.Common.{◌≡◌, ℕ, ◌+◌, ◌-◌, ◌^◌, ◌==◌, ◌≤◌, Bool, true, false, List, [], ◌∷◌, map, Option, Some, None, Result, Ok, Err, refl, sym, ap, subst, ◌∙◌, arith}
+use Rattle.std.proofs.Common.{◌≡◌, ℕ, ◌+◌, ◌-◌, ◌^◌, ◌==◌, ◌≤◌, Bool, true, false, List, [], ◌∷◌, ◌++◌, flat_map, map, Option, Some, None, Result, Ok, Err, refl, sym, ap, subst, ◌∙◌, arith}
 use Rattle.std.specs.Prelude.{if◌then◌else◌, length, nat_lt, unwrap_or, ⊤}
 use Rattle.scoop_message.specs.declared.limits.TheConstants.{MAX_HANDLERS}
 use Rattle.scoop_message.specs.declared.name.ClientId.{ClientId}
@@ -20,7 +20,7 @@ use Rattle.scoop_model.specs.Step.{Placement}
 use Rattle.scoop_runtime.specs.declared.progress.ClientStop.{ClientStop}
 use Rattle.scoop_runtime.specs.ClientLives.{AreLives, ClientRan, Lived, Unbegun}
 use Rattle.scoop_runtime.specs.ClientLives.{ClientLife as Life}
-use Rattle.scoop_programs.specs.Programs.{ClientRun, Knew, first_of, life_of_client, lives_by, lives_in, more_of, now_after, steps_in}
+use Rattle.scoop_programs.specs.Programs.{BeginAfter, ClientMayRun, ClientRun, ClientRuns, first_of, life_of_client, lives_by, lives_in, more_of, now_after, steps_in}
 use Rattle.scoop_programs.proofs.Keeping.{walk_same}
 
 -- ---- a client that has begun
@@ -53,9 +53,11 @@ module _ (id : ClientId) (batch : ℕ) (known : List HandlerId) where
   abbrev stored_at : (ℕ → Option ℕ) → ℕ
   stored_at old = unwrap_or (old id.0) 0
 
-  follow : (honest : Type 0) → honest → (old new : ℕ → Option ℕ) (lives : List Life) → AreLives id batch known honest old lives new → Follow (stored_at old) lives
-  follow honest h old new [] are = tt
-  follow honest h old new (Lived fresh steps stored ∷ lives) are =
+  -- the lives of a run, and those that come after it
+  follow : (honest : Type 0) → honest → (old new : ℕ → Option ℕ) (lives rest : List Life) → AreLives id batch known honest old lives new
+      → Follow (stored_at new) rest → Follow (stored_at old) (lives ++ rest)
+  follow honest h old new [] rest are next_ones = subst (λ (o : Option ℕ). Follow (unwrap_or o 0) rest) ((are h).each id.0) next_ones
+  follow honest h old new (Lived fresh steps stored ∷ lives) rest are next_ones =
       let begins = are.0 in
       let next : begins.inc ≡ stored_at old + 1 = begins.next h in
       let is : fresh ≡ greeting id (stored_at old + 1) known 0 batch =
@@ -63,12 +65,12 @@ module _ (id : ClientId) (batch : ℕ) (known : List HandlerId) where
       let there : stored_at stored ≡ stored_at old + 1 = ap (λ (o : Option ℕ). unwrap_or o 0) (begins.stored h).there ∙ next in (
         subst (λ i. i ≤ last_incarnation) next begins.limit,
         subst (λ c. AllCan c steps) is are.1,
-        subst (λ i. Follow i lives) there (follow honest h stored new lives are.2),
+        subst (λ i. Follow i (lives ++ rest)) there (follow honest h stored new lives rest are.2 next_ones),
       )
-  follow honest h old new (Unbegun stored ∷ lives) are =
+  follow honest h old new (Unbegun stored ∷ lives) rest are next_ones =
       let takes = are.0 h in
       let there : stored_at stored ≡ stored_at old + 1 = ap (λ (o : Option ℕ). unwrap_or o 0) takes.sets.there in
-      (takes.limit, tt, subst (λ i. Follow i lives) there (follow honest h stored new lives are.1))
+      (takes.limit, tt, subst (λ i. Follow i (lives ++ rest)) there (follow honest h stored new lives rest are.1 next_ones))
 
   restarted : (i : ℕ) (steps : List Step) → AllCan (greeting id i known 0 batch) steps → after_restart (driven (opened i) steps) ≡ opened (i + 1)
   restarted i steps can =
@@ -106,12 +108,22 @@ ran_lives id batch known old new honest (Ok u) ran = ran.are
 ran_lives id batch known old new honest (Err stop) ran = ran.are
 
 module _ {K : Type 0} {incarnations : K → ℕ → Option ℕ} {is_honest : K → Type 0} where
-  pub is_client_life : (ps : List Placement) (c : ClientRun incarnations is_honest) → Knew (map (λ (p : Placement). p.handler) ps) c
+  runs_follow : (id : ClientId) (batch : ℕ) (known : List HandlerId) (r : ClientRun incarnations is_honest id batch known)
+      (later : List (ClientRun incarnations is_honest id batch known)) → is_honest r.after → BeginAfter r later
+      → Follow id batch known (stored_at id batch known (incarnations r.before)) (lives_in r ++ flat_map lives_in later)
+  runs_follow id batch known r [] honest after =
+      follow id batch known (is_honest r.after) honest (incarnations r.before) (incarnations r.after) (lives_in r) []
+      (ran_lives id batch known (incarnations r.before) (incarnations r.after) (is_honest r.after) r.result r.ran) tt
+  runs_follow id batch known r (s ∷ later) honest after =
+      let rest : List Life = lives_in s ++ flat_map lives_in later in
+      follow id batch known (is_honest r.after) honest (incarnations r.before) (incarnations r.after) (lives_in r) rest
+      (ran_lives id batch known (incarnations r.before) (incarnations r.after) (is_honest r.after) r.result r.ran)
+      (subst (λ (o : Option ℕ). Follow id batch known (unwrap_or o 0) rest) after.0.same (runs_follow id batch known s later after.0.honest after.1))
+
+  pub is_client_life : (ps : List Placement) (c : ClientRuns incarnations is_honest) → ClientMayRun (map (λ (p : Placement). p.handler) ps) c
       → IsClientLife ps (life_of_client c)
-  is_client_life ps c knew =
+  is_client_life ps c may =
       let life : ClientLife = life_of_client c in
-      let i : ℕ = unwrap_or (incarnations c.before c.id.0) 0 in
-      let own = lives c.id c.batch c.known i (lives_in c)
-      (follow c.id c.batch c.known (is_honest c.after) knew.honest (incarnations c.before) (incarnations c.after) (lives_in c)
-      (ran_lives c.id c.batch c.known (incarnations c.before) (incarnations c.after) (is_honest c.after) c.result c.ran)) in
-      subst (λ hs. Lives (new_client hs life.joined) life.first life.more life.now) knew.knows own
+      let own = lives c.id c.batch c.known (unwrap_or (incarnations c.first.before c.id.0) 0) (lives_in c.first ++ flat_map lives_in c.later)
+      (runs_follow c.id c.batch c.known c.first c.later may.honest may.after) in
+      subst (λ hs. Lives (new_client hs life.joined) life.first life.more life.now) may.knows own

@@ -1,4 +1,5 @@
 mod Keeping
 mod Clients
+mod Standing
 mod Nodes
 mod Worlds
