@@ -1,5 +1,6 @@
 -- The lives of a client's run are drivers, one after another, with a restart between. Each life takes the next incarnation.
-use Rattle.std.proofs.Common.{◌≡◌, ℕ, ◌+◌, ◌-◌, ◌^◌, ◌==◌, ◌≤◌, Bool, true, false, List, [], ◌∷◌, ◌++◌, flat_map, map, Option, Some, None, Result, Ok, Err, refl, sym, ap, subst, ◌∙◌, arith}
+use Rattle.std.proofs.Common.{◌≡◌, ℕ, ◌+◌, ◌-◌, ◌^◌, ◌==◌, ◌≤◌, Bool, true, false, List, [], ◌∷◌, ◌++◌, flat_map, map}
+use Rattle.std.proofs.Common.{Option, Some, None, Result, Ok, Err, refl, sym, ap, subst, ◌∙◌, arith}
 use Rattle.std.specs.Prelude.{if◌then◌else◌, length, nat_lt, unwrap_or, ⊤}
 use Rattle.scoop_message.specs.declared.limits.TheConstants.{MAX_HANDLERS}
 use Rattle.scoop_message.specs.declared.name.ClientId.{ClientId}
@@ -20,7 +21,8 @@ use Rattle.scoop_model.specs.Step.{Placement}
 use Rattle.scoop_runtime.specs.declared.progress.ClientStop.{ClientStop}
 use Rattle.scoop_runtime.specs.ClientLives.{AreLives, ClientRan, Lived, Unbegun}
 use Rattle.scoop_runtime.specs.ClientLives.{ClientLife as Life}
-use Rattle.scoop_programs.specs.Programs.{BeginAfter, ClientMayRun, ClientRun, ClientRuns, first_of, life_of_client, lives_by, lives_in, more_of, now_after, steps_in}
+use Rattle.scoop_programs.specs.Programs.{BeginAfter, ClientMayRun, ClientRun, ClientRuns, first_of, life_of_client}
+use Rattle.scoop_programs.specs.Programs.{lives_by, lives_in, more_of, now_after, steps_in}
 use Rattle.scoop_programs.proofs.Keeping.{walk_same}
 
 -- ---- a client that has begun

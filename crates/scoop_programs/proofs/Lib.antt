@@ -3,3 +3,4 @@ mod Clients
 mod Standing
 mod Nodes
 mod Worlds
+mod Files

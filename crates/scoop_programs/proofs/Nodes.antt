@@ -1,5 +1,6 @@
 -- What a node did in its first run is a life: its handlers opened for the first time, and again as they were stored.
-use Rattle.std.proofs.Common.{◌≡◌, ◌⊎◌, inl, inr, ℕ, ◌≤◌, suc, false, List, [], ◌∷◌, ◌++◌, flat_map, slice_get, append-nil, append_assoc, map, length, Option, Some, None, refl, sym, ap, subst, ◌∙◌, arith}
+use Rattle.std.proofs.Common.{◌≡◌, ◌⊎◌, inl, inr, ℕ, ◌≤◌, suc, false, List, [], ◌∷◌, ◌++◌, flat_map, slice_get, append-nil, append_assoc}
+use Rattle.std.proofs.Common.{map, length, Option, Some, None, refl, sym, ap, subst, ◌∙◌, arith}
 use Rattle.std.specs.List.{AllByRecursion, AllZip}
 use Rattle.scoop_message.specs.declared.name.HandlerId.{HandlerId}
 use Rattle.scoop_handler.specs.State.{HandlerState, new_state}
@@ -33,7 +34,8 @@ stored_first : (has : Stored → Type 0) (fresh : HandlerState) (o : Option Hand
 stored_first has fresh o missing (inl one) = inl (none_stored o (missing.only (stored_of o) one.there))
 stored_first has fresh o missing (inr both) = inr both.1
 
-opens_first : (has : ℕ → Stored → Type 0) (honest : Type 0) → honest → (n : ℕ) (ms : List Member) (hs : List LocalHandler) → AllByRecursion (HasNothingOf has) ms
+opens_first : (has : ℕ → Stored → Type 0) (honest : Type 0) → honest → (n : ℕ) (ms : List Member) (hs : List LocalHandler)
+    → AllByRecursion (HasNothingOf has) ms
     → AllZip (OpensFrom has honest) ms hs → AllOpenFirst (map (placed_at n) ms) hs
 opens_first has honest h n [] [] missing all = tt
 opens_first has honest h n (m ∷ ms) (s ∷ hs) missing all = (
@@ -64,8 +66,8 @@ module _ (words : HandlerId → List ℕ) where
       (last, replays, subst (λ hs. Lives words hs es more now) (again last r.0 r.2) (lives r.0 es more r.1 now r.3 r.4))
 
   -- lives, and then those of handlers that opened again
-  both_live : (opening : List LocalHandler) (first : List Entry) (more : List (List Entry)) (last : List LocalHandler) (next_one : List Entry) (later : List (List Entry))
-      (now : List LocalHandler) → Lives words opening first more last → Lives words (map (reopened words) last) next_one later now
+  both_live : (opening : List LocalHandler) (first : List Entry) (more : List (List Entry)) (last : List LocalHandler) (next_one : List Entry)
+      (later : List (List Entry)) (now : List LocalHandler) → Lives words opening first more last → Lives words (map (reopened words) last) next_one later now
       → Lives words opening first (more ++ next_one ∷ later) now
   both_live opening first [] last next_one later now here there = (last, here, there)
   both_live opening first (es ∷ more) last next_one later now here there =

@@ -18,12 +18,14 @@ all_of f P Q each [] all = tt
 all_of f P Q each (x ∷ xs) all = (each x all.0, all_of f P Q each xs all.1)
 
 module _ {K : Type 0} {has : K → ℕ → Stored → Type 0} {is_honest : K → Type 0} where
-  numbers : (nodes : List (NodeRuns has is_honest)) → map (λ (l : NodeLife). l.number) (map life_of_node nodes) ≡ map (λ (n : NodeRuns has is_honest). n.number) nodes
+  numbers : (nodes : List (NodeRuns has is_honest))
+      → map (λ (l : NodeLife). l.number) (map life_of_node nodes) ≡ map (λ (n : NodeRuns has is_honest). n.number) nodes
   numbers [] = refl
   numbers (n ∷ nodes) = ap (λ xs. n.number ∷ xs) (numbers nodes)
 
 module _ {K : Type 0} {has : K → ℕ → Stored → Type 0} {is_honest : K → Type 0} {J : Type 0} {incarnations : J → ℕ → Option ℕ} {is_faithful : J → Type 0} where
-  pub are_a_world : (nodes : List (NodeRuns has is_honest)) (clients : List (ClientRuns incarnations is_faithful)) → MayRun nodes clients → AreAWorld nodes clients
+  pub are_a_world : (nodes : List (NodeRuns has is_honest)) (clients : List (ClientRuns incarnations is_faithful))
+      → MayRun nodes clients → AreAWorld nodes clients
   are_a_world nodes clients runs =
       let ps : List Placement = placements_in nodes clients in
       let hs : List HandlerId = map (λ (p : Placement). p.handler) ps in

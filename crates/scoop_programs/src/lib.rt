@@ -6,4 +6,4 @@
 
 mod law;
 
-pub use law::programs_are_a_world;
+pub use law::{programs_are_a_world, systems_are_a_world};
