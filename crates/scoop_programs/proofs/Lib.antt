@@ -4,3 +4,4 @@ mod Standing
 mod Nodes
 mod Worlds
 mod Files
+mod ExampleRuns
