@@ -26,7 +26,8 @@ use Rattle.scoop_model.specs.Examples.Parties.{block, cell, client, handler}
 use Rattle.scoop_model.proofs.OpenedExamples.{two_cells_open}
 use Rattle.scoop_weave.specs.NodeHistories.{reopened}
 use Rattle.scoop_weave.specs.Lives.{words_in}
-use Rattle.scoop_weave.specs.Example.{after_event, cells, entries_by, first_events, first_steps, gone_on, handlers_by, next_events, next_steps, node, opened_again}
+use Rattle.scoop_weave.specs.Example.{after_event, cells, entries_by, first_events, first_steps, gone_on, handlers_by, next_events, next_steps}
+use Rattle.scoop_weave.specs.Example.{node, opened_again}
 use Rattle.scoop_weave.specs.Example.{opening, order, reply_to, told_at}
 use Rattle.scoop_weave.proofs.ExampleRuns.{runs}
 use Rattle.scoop_runtime.specs.declared.error.RuntimeError.TheVariants.{InsideBlock}

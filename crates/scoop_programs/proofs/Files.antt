@@ -49,7 +49,8 @@ members_named s (h ∷ hs) (m ∷ ms) all =
 members_named s [] (m ∷ ms) all = absurd all
 members_named s (h ∷ hs) [] all = absurd all
 
-numbers_there : (place : NodePlace) (hs : List HandlerPlace) → gather (numbers_on place) hs ≡ map (λ (h : HandlerPlace). h.handler) (handlers_on place.number hs)
+numbers_there : (place : NodePlace) (hs : List HandlerPlace)
+    → gather (numbers_on place) hs ≡ map (λ (h : HandlerPlace). h.handler) (handlers_on place.number hs)
 numbers_there place [] = refl
 numbers_there place (h ∷ hs) =
     by_test (λ t. (if t then h.handler ∷ [] else []) ++ gather (numbers_on place) hs
@@ -65,7 +66,8 @@ nobody_there n (h ∷ hs) none =
 -- nodes without handlers add nothing
 known_with : (s : Plan) (places : List NodePlace)
     → gather (λ n. gather (numbers_on n) s.handlers) places
-    ≡ gather (λ (n : NodePlace). map (λ (h : HandlerPlace). h.handler) (handlers_on n.number s.handlers)) (filter (λ (n : NodePlace). has_handlers s n.number) places)
+    ≡ gather (λ (n : NodePlace). map (λ (h : HandlerPlace). h.handler) (handlers_on n.number s.handlers))
+    (filter (λ (n : NodePlace). has_handlers s n.number) places)
 known_with s [] = refl
 known_with s (p ∷ places) =
     let named : NodePlace → List HandlerId = λ n. map (λ (h : HandlerPlace). h.handler) (handlers_on n.number s.handlers) in

@@ -18,7 +18,8 @@ pub record IsMemberOf (s : Plan) (h : HandlerPlace) (m : Member) : Type 0 where
   pub words : m.words ≡ h.words
 
 -- the node is this one of the file, and its members are the handlers that the file places on it, in order
-pub record IsNodeOf {K : Type 0} {has : K → ℕ → Stored → Type 0} {is_honest : K → Type 0} (s : Plan) (place : NodePlace) (n : NodeRuns has is_honest) : Type 0 where
+pub record IsNodeOf {K : Type 0} {has : K → ℕ → Stored → Type 0} {is_honest : K → Type 0} (s : Plan) (place : NodePlace)
+    (n : NodeRuns has is_honest) : Type 0 where
   pub number : n.number ≡ place.number
   pub members : AllZip (IsMemberOf s) (handlers_on place.number s.handlers) n.members
   pub may : NodeMayRun n

@@ -13,8 +13,8 @@ use std::alloc::Global;
 /// What the programs of nodes and clients did is a world. It supposes what `node_run` and `client_run` ensure of each run,
 /// each over any keeper, and:
 /// - each node has a number of its own and a handler, and its keeper had nothing of its handlers before the first run;
-/// - each further run of a node begins with what the keeper had of its handlers at the end of the last one, and each further
-///   run of a client with the incarnation that the last one left;
+/// - each further run of a node begins with what the last one's keeper had of its handlers at its end;
+/// - each further run of a client begins with the incarnation that the last one left;
 /// - each keeper was honest: of a node when the node was ready, and at the end of each run that another one follows; of a
 ///   client at the end of each run;
 /// - a world may open with these handlers and clients, and each client knows all handlers, in their order.
