@@ -4,3 +4,4 @@ mod audits;
 mod files;
 mod keepers;
 mod lines;
+mod programs;

@@ -44,6 +44,8 @@ fn report_unread(rt: &HostRuntime, path: &str, error: &io::Error) -> Status {
         _ => "the file could not be read",
     };
     report(rt, format_args!("{path}: {wrong}"));
+    let advice = "check the name of the journal, and that you may read it";
+    hint_of_file(rt, Hints::Always, path, advice);
     Status(UNREAD)
 }
 
@@ -57,6 +59,8 @@ fn report_fault(rt: &HostRuntime, paths: &[&str], place: usize, line: u64, fault
         }
         _ => report(rt, format_args!("{path}: line {line}: {fault}")),
     }
+    let advice = "name each party's journal once, and the system's file with which it was written";
+    hint_of_file(rt, Hints::Always, path, advice);
     Status(UNREAD)
 }
 

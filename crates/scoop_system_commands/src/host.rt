@@ -14,8 +14,8 @@ use std::sync::Wait;
 use std::thread::Threads;
 use std::time::Clock;
 
-// Reports why a node ends early, whose store is in this file if it has one.
-fn report_node<'a>(
+/// Reports why a node ends early, whose store is in this file if it has one.
+pub(crate) fn report_node<'a>(
     rt: &HostRuntime,
     system: &'a System,
     address: SocketAddr,

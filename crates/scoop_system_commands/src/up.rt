@@ -2,7 +2,7 @@
 
 use crate::ending::{End, Party, report_end, report_plainly, report_range};
 use crate::folder::{make_folder, open_client_store, open_node_store, store_path};
-use crate::host::Host;
+use crate::host::{Host, report_node};
 use crate::joining::run_beside;
 use crate::system_file::{read_system, report_fault};
 use scoop_command_line::UpOptions;
@@ -151,7 +151,7 @@ fn add_host<K: Keeper<Global> + Send, T: Net>(
 ) -> Result<(), Status> {
     match Host::open(rt, net, system, place, serving, keeper, path) {
         Ok(host) => keep(rt, host, hosts),
-        Err(error) => Err(report_plainly(rt, error)),
+        Err(error) => Err(report_node(rt, system, place.address, None, error)),
     }
 }
 

@@ -1,0 +1,7 @@
+mod Keeping
+mod Clients
+mod Standing
+mod Nodes
+mod Worlds
+mod Files
+mod ExampleRuns

@@ -1,0 +1,39 @@
+//! The theorem on runs of the programs.
+
+ghost use Rattle.std.specs.Prelude.{◌≡◌, ◌≤◌, ℕ, List, Ok, length};
+ghost use Rattle.scoop_system.specs.File.{Means};
+ghost use Rattle.scoop_system.specs.System.{Plan};
+ghost use Rattle.scoop_programs.specs.Files.{AreOf};
+ghost use Rattle.scoop_programs.specs.Programs.{AreAWorld, ClientRuns, MayRun, NodeRuns};
+
+use scoop_audit::systems_may_run;
+use scoop_keeper::Keeper;
+use std::alloc::Global;
+
+/// What the programs of nodes and clients did is a world. It supposes what `node_run` and `client_run` ensure of each run,
+/// each over any keeper, and:
+/// - each node has a number of its own and a handler, and its keeper had nothing of its handlers before the first run;
+/// - each further run of a node begins with what the last one's keeper had of its handlers at its end;
+/// - each further run of a client begins with the incarnation that the last one left;
+/// - each keeper was honest: of a node when the node was ready, and at the end of each run that another one follows; of a
+///   client at the end of each run;
+/// - a world may open with these handlers and clients, and each client knows all handlers, in their order.
+///
+/// Then the histories and steps that the runs had are lives of nodes and clients. Each order of all their moves, in which each
+/// message that is heard was sent before, is that of a world. Nothing else is asked of the network.
+///
+/// A run of a node that returned an error is none of these runs. A run of a client may have ended in any way.
+pub fn programs_are_a_world<K: Keeper<Global>, J: Keeper<Global>>()
+    ensures { (nodes : List (NodeRuns K.handlers K.is_honest)) (clients : List (ClientRuns J.incarnations J.is_honest)) → MayRun nodes clients
+        → AreAWorld nodes clients }
+{}
+
+/// The same for the nodes and clients of a system that was read from a text, and has a handler. Then a world may open with
+/// them, and each client knows all handlers by its own contract. A client's keeper had no incarnation of it before its first
+/// run. A node's members are the handlers that the file places on it, each with its class. A node without handlers is left out.
+pub fn systems_are_a_world<K: Keeper<Global>, J: Keeper<Global>>()
+    ensures { (text : List ℕ) (s : Plan) (nodes : List (NodeRuns K.handlers K.is_honest)) (clients : List (ClientRuns J.incarnations J.is_honest))
+        → Means text (Ok s) → 1 ≤ length s.handlers → AreOf s nodes clients → AreAWorld nodes clients }
+{
+    systems_may_run();
+}
