@@ -136,4 +136,4 @@ granting_kept w o i = record {
 }
 
 pub opens_granting : (ps : List Placement) (ns : List Newcomer) → Granting (opening ps ns)
-opens_granting ps ns = record { messages = tt; parties = λ c p at r held. absurd (none_reserved c (map (λ y. y.handler) ps) ns p at r held) }
+opens_granting ps ns = record { messages = tt; parties = λ c p at r held. absurd (none_reserved c ns p at r held) }

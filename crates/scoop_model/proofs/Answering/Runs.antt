@@ -38,7 +38,7 @@ pub opens_answering : (ps : List Placement) (ns : List Newcomer) → Answering (
 opens_answering ps ns = record {
   messages = tt;
   sites = all_made new_site SiteAnswers (λ p. record { words = refl; answers = tt; kept = tt }) ps;
-  parties = all_made (new_party (map (λ p. p.handler) ps)) (PartyAnswers (opening ps ns)) (λ n. record { accepted = tt; once = no_repeats }) ns;
+  parties = all_made new_party (PartyAnswers (opening ps ns)) (λ n. record { accepted = tt; once = no_repeats }) ns;
 }
 
 -- ---- what this says of a world

@@ -54,7 +54,7 @@ opens_ordered ps ns = record {
     next = λ b held e. absurd (true≢false (sym e));
     left = nothing;
   }) ps;
-  parties = all_made (new_party (map (λ p. p.handler) ps)) (PartyFits (opening ps ns)) (λ n. record {
+  parties = all_made new_party (PartyFits (opening ps ns)) (λ n. record {
     stored = refl;
     newest = λ b ks own e. absurd (cc);
     reservation = λ r e. absurd (cc);

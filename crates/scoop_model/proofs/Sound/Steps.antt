@@ -102,6 +102,6 @@ opens_sound ps ns may = record {
       (λ p placed. record { state = new_state_is p.handler p.words placed.words; words = placed.class; job = λ out. absurd (true≢false (sym out)) })
       ps may.placed;
   messages = tt;
-  parties = all_mapped (new_party (map (λ p. p.handler) ps)) IsJoining PartySound (λ n joining. record { some = joining.some; limit = joining.limit })
+  parties = all_mapped new_party IsJoining PartySound (λ n joining. record { some = joining.some; limit = joining.limit })
       ns may.joining;
 }

@@ -39,5 +39,5 @@ opens_standing ps ns = record {
   locked = tt;
   opened = λ b e. absurd (true≢false (sym e));
   joint = λ b e. absurd (true≢false (sym e));
-  parties = λ c p at r held. absurd (none_reserved c (map (λ y. y.handler) ps) ns p at r held);
+  parties = λ c p at r held. absurd (none_reserved c ns p at r held);
 }
