@@ -314,7 +314,7 @@ same_hello : (c d : ClientId) (g h : HandlerId) (i j : ℕ) → Hello g c i ≡ 
 same_hello c d g h i j e = cc
 
 due_hello : (c : ClientState) (k : HandlerId) (m : Message) → Sends c k m → 1 ≤ c.inc → (h : HandlerId) (d : ClientId) (inc : ℕ) → m ≡ Hello h d inc → 1 ≤ inc
-due_hello c k m sends_hello one h d inc e = omega (arith, one, same_hello c.id d k h c.inc inc e)
+due_hello c k m (sends_hello left) one h d inc e = omega (arith, one, same_hello c.id d k h c.inc inc e)
 due_hello c k m s one h d inc e = absurd (cc)
 
 -- ---- sites

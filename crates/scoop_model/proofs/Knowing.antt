@@ -3,6 +3,7 @@ pub mod Joining
 pub mod Clients
 pub mod Owing
 pub mod Runs
+pub mod Meeting
 pub use Facts.*
 pub use Joining.*
 pub use Clients.*

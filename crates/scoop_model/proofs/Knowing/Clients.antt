@@ -19,7 +19,7 @@ module _ (hs : Known) (ss : List Site) where
   -- ---- what a client owes
 
   pub due_names : (c : ClientState) (h : HandlerId) → ClientKnown hs ss c → (m : Message) → Sends c h m → Names hs ss m
-  due_names c h k m sends_hello = λ b e. absurd (cc)
+  due_names c h k m (sends_hello left) = λ b e. absurd (cc)
   due_names c h k m (sends_lock r held at low) = λ b e. subst (IsKnown hs ss) (same_Some r.block b e) (k.block r held)
   due_names c h k m (sends_open r held at is) = λ b e. subst (IsKnown hs ss) (same_Some r.block b e) (k.block r held)
   due_names c h k m (sends_unlock r held at is) = λ b e. subst (IsKnown hs ss) (same_Some r.block b e) (k.block r held)

@@ -1,9 +1,9 @@
 -- A client owes a message only to a handler that it knows. It greets handlers that it knows, and a block's handlers are among them.
 -- What is left to do of a reservation is among the block's handlers, and so are the windows. Each move of the client keeps it.
-use Rattle.scoop_model.proofs.Names.{◌≡◌, ◌⊎◌, inl, inr, ⊎_elim, Bool, if◌then◌else◌, List, [], ◌∷◌, Some, None, refl, sym, ap, ◌∙◌, subst, arith, Ok, Option, true, false, true≢false, same_Some, AllByRecursion}
-use Rattle.scoop_model.proofs.Names.{client_of, Message, Lock, Open, Unlock, HandlerId, all_found, all_made, StepRow, one_is_locked, all_are_locked, one_is_opened}
+use Rattle.scoop_model.proofs.Names.{◌≡◌, List, [], ◌∷◌, Some, None, refl, sym, ap, ◌∙◌, subst, arith, Ok, Option, true, false, true≢false, same_Some, AllByRecursion}
+use Rattle.scoop_model.proofs.Names.{client_of, Message, HandlerId, all_found, all_made, StepRow, one_is_locked, all_are_locked, one_is_opened}
 use Rattle.scoop_model.proofs.Names.{all_are_opened, is_unlocked, is_given_back, asked, has, without, is_lowest, first_unknown, fresh, started, unless_unknown}
-use Rattle.scoop_model.proofs.Names.{unless_repeated, ReservationState, at_stage, Stage, Locking, Opening, Unlocking, GivingBack, Step, DueRow, owes_nothing, greets, reserves, logs, command, due, heard, ClientState, with_windows}
+use Rattle.scoop_model.proofs.Names.{unless_repeated, ReservationState, at_stage, GivingBack, Step, command, due, heard, ClientState, with_windows}
 use Rattle.scoop_model.proofs.Names.{with_reservation, idle, window_of, handler_decides, nat_tests, nat_lt, Command, MayOpen, IsReached, heard_party}
 use Rattle.scoop_model.proofs.Names.{restarted_party, Placement, Newcomer, new_party, opening, World, Party, is_party, set_party, party_of}
 use Rattle.scoop_model.proofs.Events.{Changes}
@@ -11,9 +11,8 @@ use Rattle.scoop_model.proofs.Order.{all_set_party, and_first, has_without}
 use Rattle.scoop_model.proofs.Logging.{PartyLogs, found_has}
 use Rattle.scoop_model.proofs.Logging.OpeningClients.{has_filtered}
 use Rattle.scoop_model.proofs.Ready.Runs.{reached_facts, reached_keeps}
+use Rattle.scoop_model.proofs.Moves.{Sends, sends_hello, sends_lock, sends_open, sends_unlock, sends_back, sends_log, sends}
 use Rattle.scoop_model.proofs.Moves.{Notices, passes_over, is_greeted, steps_on, is_over, hears, Takes, takes_reserve, takes_give_up, takes}
-use Rattle.scoop_client.proofs.DueRows.{due_row}
-use Rattle.scoop_reserve.specs.Due as owed
 
 -- each handler of the one list is in the other
 abbrev Within : List HandlerId → List HandlerId → Type 0
@@ -76,10 +75,10 @@ takes_owing c x d t o = record { unwelcomed = o.unwelcomed; block = o.block }
 
 -- ---- whatever happens
 
-abbrev PartyOwes : Party → Type 0
+abbrev pub PartyOwes : Party → Type 0
 PartyOwes p = Owes p.client
 
-abbrev AllOwe : World → Type 0
+abbrev pub AllOwe : World → Type 0
 AllOwe w = AllByRecursion PartyOwes w.parties
 
 set_owing : (w : World) (p : Party) → AllOwe w → Owes p.client → AllByRecursion PartyOwes (set_party p w.parties)
@@ -88,7 +87,7 @@ set_owing w p i own = all_set_party PartyOwes PartyOwes p w.parties own (λ y ot
 greeting_owes : (c : ClientState) → c.unwelcomed ≡ c.handlers → c.reservation ≡ None → Owes c
 greeting_owes c left none = record { unwelcomed = λ h e. subst (λ hs. has hs h ≡ true) left e; block = λ r e. absurd (let f = sym none ∙ e in cc) }
 
-owing_kept : (w : World) → AllOwe w → Changes AllOwe w
+pub owing_kept : (w : World) → AllOwe w → Changes AllOwe w
 owing_kept w i = record {
   commands = λ c p x d at is. set_owing w (record p { client = d }) i
       (takes_owing p.client x d (takes p.client d x is) (all_found PartyOwes (is_party c) w.parties p i at));
@@ -102,33 +101,28 @@ owing_kept w i = record {
   reopens = λ n. i;
 }
 
-opens_owing : (ps : List Placement) (ns : List Newcomer) → MayOpen ps ns → AllOwe (opening ps ns)
+pub opens_owing : (ps : List Placement) (ns : List Newcomer) → MayOpen ps ns → AllOwe (opening ps ns)
 opens_owing ps ns may = all_made new_party PartyOwes (λ n. greeting_owes (new_party n).client refl refl) ns
 
 -- ---- what it shows
 
-tested : (t : Bool) (n m : Message) → (if t then Some n else None) ≡ Some m → t ≡ true
-tested true n m e = refl
-tested false n m e = absurd (cc)
+module _ (w : World) (p : Party) (h : HandlerId) (l : PartyLogs w p) (o : Owes p.client) where
+  sends_known : (m : Message) → Sends p.client h m → has p.client.handlers h ≡ true
+  sends_known m (sends_hello left) = o.unwelcomed h left
+  sends_known m (sends_lock r held at low) = (o.block r held).left h (and_first (has r.left h) _ low)
+  sends_known m (sends_open r held at is) = (o.block r held).left h is
+  sends_known m (sends_unlock r held at is) = (o.block r held).left h is
+  sends_known m (sends_back r held at is) = (o.block r held).left h is
+  sends_known m (sends_log r x held free opened window some) =
+      (o.block r held).named h (ap (λ ks. has ks h) (sym (l.block r held).handlers) ∙ found_has (λ y. y.handler) h p.client.windows x window)
 
-due_left : (r : ReservationState) (h : HandlerId) (m : Message) (stage : Stage) → owed.due_in r h stage ≡ Some m → has r.left h ≡ true
-due_left r h m Locking e = and_first (has r.left h) _ (tested (is_lowest h r.left) (Lock h r.block) m e)
-due_left r h m Opening e = tested (has r.left h) (Open h r.block) m e
-due_left r h m Unlocking e = tested (has r.left h) (Unlock h r.block) m e
-due_left r h m GivingBack e = tested (has r.left h) (Unlock h r.block) m e
-
-due_known : (w : World) (p : Party) (h : HandlerId) (o : Option Message) → PartyLogs w p → Owes p.client → DueRow p.client h o
-    → (o ≡ None) ⊎ (has p.client.handlers h ≡ true)
-due_known w p h o l k owes_nothing = inl refl
-due_known w p h o l k (greets left) = inr (k.unwelcomed h left)
-due_known w p h o l k (reserves r n greeted held owes) = inr ((k.block r held).left h (due_left r h n r.stage owes))
-due_known w p h o l k (logs r x greeted held free opened window some) =
-    inr ((k.block r held).named h (ap (λ ks. has ks h) (sym (l.block r held).handlers) ∙ found_has (λ y. y.handler) h p.client.windows x window))
+  none_owed : has p.client.handlers h ≡ false → (d : Option Message) → due p.client h ≡ d → d ≡ None
+  none_owed unknown None is = refl
+  none_owed unknown (Some m) is = absurd (true≢false (sym (sends_known m (sends p.client h m is)) ∙ unknown))
 
 -- nothing is due to a handler that the client doesn't know
 pub none_due : (w : World) → IsReached w → (c : _) (p : Party) → party_of c w ≡ Some p → (h : HandlerId) → has p.client.handlers h ≡ false
     → due p.client h ≡ None
 none_due w reached c p at h unknown =
-    ⊎_elim (λ (none : due p.client h ≡ None). none) (λ (known : has p.client.handlers h ≡ true). absurd (true≢false (sym known ∙ unknown)))
-    (due_known w p h (due p.client h) (all_found (PartyLogs w) (is_party c) w.parties p (reached_facts w reached).logging.parties at)
-    (all_found PartyOwes (is_party c) w.parties p (reached_keeps AllOwe owing_kept opens_owing w reached) at) (due_row p.client h))
+    none_owed w p h (all_found (PartyLogs w) (is_party c) w.parties p (reached_facts w reached).logging.parties at)
+    (all_found PartyOwes (is_party c) w.parties p (reached_keeps AllOwe owing_kept opens_owing w reached) at) unknown (due p.client h) refl

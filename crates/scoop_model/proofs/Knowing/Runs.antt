@@ -101,10 +101,10 @@ module _ (hs : Known) where
   })
 
   -- known, beside all that every event keeps
-  abbrev All : World → Type 0
+  abbrev pub All : World → Type 0
   All w = Kept w × Knowing hs w
 
-  still_kept : (w : World) → All w → Changes All w
+  pub still_kept : (w : World) → All w → Changes All w
   still_kept w i = let f = facts w i.0 in both_kept Kept (Knowing hs) w (all_kept w i.0) (knowing_kept w f.ordered f.sound f.greetings i.1)
 
 -- ---- what it shows
@@ -124,12 +124,15 @@ names_shown hs w parties m n = record {
 pub opens_knowing : (ps : List Placement) (ns : List Newcomer) → MayOpen ps ns → Knowing (known_by ns) (opening ps ns)
 opens_knowing ps ns may = record { messages = tt; parties = parties_open (known_by ns) (opening ps ns).sites ns (each_knows ns may.clients_apart) }
 
+pub opens_all : (ps : List Placement) (ns : List Newcomer) → MayOpen ps ns → All (known_by ns) (opening ps ns)
+opens_all ps ns may = (opens_kept ps ns may, opens_knowing ps ns may)
+
 -- the facts about incarnations in a world that is reached
 reached_knowing : (w : World) (r : IsReached w) → Knowing (known_by r.newcomers) w
 reached_knowing w r =
     let hs = known_by r.newcomers in
     (subst (All hs) (ap (λ (x : Run). x.0) r.leads) (steps_kept (All hs) (still_kept hs) (opening r.placements r.newcomers) r.events
-    (opens_kept r.placements r.newcomers r.opens, opens_knowing r.placements r.newcomers r.opens))).1
+    (opens_all r.placements r.newcomers r.opens))).1
 
 pub names_known : (w : World) → IsReached w → AllByRecursion (NamesKnown w) w.sent
 names_known w r =
