@@ -446,15 +446,15 @@ no_marks : (w : World) (ps : List Placement) → AllByRecursion (SiteMarked w) (
 no_marks w [] = tt
 no_marks w (p ∷ ps) = (tt, no_marks w ps)
 
-all_begun : (hs : List HandlerId) (ns : List Newcomer) → AllByRecursion PartyBegun (map (new_party hs) ns)
-all_begun hs [] = tt
-all_begun hs (n ∷ ns) = (record { inc = omega arith }, all_begun hs ns)
+all_begun : (ns : List Newcomer) → AllByRecursion PartyBegun (map new_party ns)
+all_begun [] = tt
+all_begun (n ∷ ns) = (record { inc = omega arith }, all_begun ns)
 
 pub opens_marked : (ps : List Placement) (ns : List Newcomer) → Marked (opening ps ns)
 opens_marked ps ns = record {
   hellos = λ h c inc m. absurd m;
   sites = no_marks (opening ps ns) ps;
-  parties = all_begun (map (λ (p : Placement). p.handler) ps) ns;
+  parties = all_begun ns;
 }
 
 -- -------- Blocks that their client has left: the handler has the lock back, and nothing of the block is unfinished. Both facts
