@@ -6,7 +6,7 @@ use Rattle.std.specs.Option.{option_map}
 use Rattle.std.specs.Cmp.Lexicographic.{bytes_decides}
 use Rattle.std.specs.declared.net.socket_addr.SocketAddr.{SocketAddr}
 use Rattle.std.proofs.lemmas.Bool.Decides.{Decides-eqb, eqb_tells, nat_tests}
-use Rattle.std.proofs.lemmas.List.{length-map, map-append}
+use Rattle.std.proofs.lemmas.List.{length-map, map-append, map-map}
 use Rattle.scoop_lines.specs.Reading.{Read, ◌>>=◌, each_of, unless}
 use Rattle.scoop_message.specs.declared.limits.TheConstants.{MAX_CLIENTS, MAX_ENTRIES, MAX_HANDLERS, MAX_NODES, MAX_WORDS}
 use Rattle.scoop_message.specs.declared.name.ClientId.{ClientId}
@@ -17,7 +17,7 @@ use Rattle.scoop_handler.proofs.Basics.{by_test}
 use Rattle.scoop_object.specs.Class.{ClassTable}
 use Rattle.scoop_classes.specs.Classes.{class_of_name, same_text, table_of}
 use Rattle.scoop_classes.specs.declared.classes.DemoClass.{DemoClass}
-use Rattle.scoop_model.specs.Opening.{IsJoining, IsPlaced}
+use Rattle.scoop_model.specs.Opening.{IsJoining, KnowsPlaced, IsPlaced}
 use Rattle.scoop_model.specs.Step.{Placement}
 use Rattle.scoop_replay.specs.declared.node.Placed.{Placed}
 use Rattle.scoop_system.specs.declared.error.Key.{Key}
@@ -38,8 +38,11 @@ use Rattle.scoop_system.specs.Value.{words_at, words_in}
 use Rattle.scoop_system.specs.Meaning.{address_fault, batch_at, batch_in, class_or_own, client_keys, client_of, clients_from, clients_of, handler_class, handler_keys}
 use Rattle.scoop_system.specs.Meaning.{handler_of, handlers_from, handlers_of, name_fault, new_client, new_handler, new_node, node_keys, node_of, nodes_from, nodes_of}
 use Rattle.scoop_system.specs.Meaning.{classes_of, file_keys, number_of, own_class, plan_of, status_fault, system_of, wrong_if}
-use Rattle.scoop_audit.specs.Parties.{MayRun, handlers_on, has_handlers, joins, nodes_in, placed_as, placed_in, placed_on, placements_in_file}
+use Rattle.scoop_audit.specs.Parties.{MayRun, handlers_on, has_handlers, joins, known_in, nodes_in, placed_as, placed_in, placed_on, placements_in_file}
 use Rattle.scoop_audit.specs.Told.{placements_on}
+use Rattle.scoop_audit.proofs.Paged.{none_lost, numbers_on}
+use Rattle.scoop_model.proofs.Basics.{all_made}
+use Rattle.scoop_reserve.specs.Handlers.{has}
 use Rattle.scoop_audit.proofs.Groups.{Apart, any_not, apart_filtered, apart_finer, apart_once, apart_snoc, grouped, groups, numbers_at}
 
 -- ---- reading in sequence
@@ -192,13 +195,13 @@ clients_sound nodes clients count (d ∷ ds) cs is are =
     let whole : (count + 1) + length ds ≡ count + length (d ∷ ds) = omega arith in
     subst (AreClients cs) whole (clients_sound nodes (clients ++ c ∷ []) (count + 1) ds cs t.rest more)
 
-clients_join : (cs : List ClientPlace) → AllByRecursion IsSoundClient cs → AllByRecursion IsJoining (map joins cs)
-clients_join [] sound = tt
-clients_join (c ∷ cs) sound = (record { some = sound.0.some; limit = sound.0.limit; next = omega arith }, clients_join cs sound.1)
+clients_join : (known : List HandlerId) (cs : List ClientPlace) → AllByRecursion IsSoundClient cs → AllByRecursion IsJoining (map (joins known) cs)
+clients_join known [] sound = tt
+clients_join known (c ∷ cs) sound = (record { some = sound.0.some; limit = sound.0.limit; next = omega arith }, clients_join known cs sound.1)
 
-clients_ids : (cs : List ClientPlace) → map (λ n. n.id) (map joins cs) ≡ map (λ c. c.client) cs
-clients_ids [] = refl
-clients_ids (c ∷ cs) = ap (λ xs. c.client ∷ xs) (clients_ids cs)
+clients_ids : (known : List HandlerId) (cs : List ClientPlace) → map (λ n. n.id) (map (joins known) cs) ≡ map (λ c. c.client) cs
+clients_ids known [] = refl
+clients_ids known (c ∷ cs) = ap (λ xs. c.client ∷ xs) (clients_ids known cs)
 
 -- ---- the class of a handler
 
@@ -589,6 +592,22 @@ plan_sound d s is =
     } in
     subst IsSoundPlan same sound
 
+-- each client knows the handlers that are placed, in their order
+abbrev numbered : ℕ → HandlerId
+numbered n = record { 0 = n }
+
+all_numbered : (s : Plan) (ks : List ℕ) → map numbered (grouped ks s.handlers) ≡ flat_map (numbers_on s) ks
+all_numbered s [] = refl
+all_numbered s (k ∷ ks) =
+    map-append numbered (numbers_at k s.handlers) (grouped ks s.handlers)
+    ∙ (ap (λ hs. hs ++ map numbered (grouped ks s.handlers)) (map-map numbered (λ (h : HandlerPlace). h.handler.0) (handlers_on k s.handlers))
+    ∙ ap (λ hs. numbers_on s k ++ hs) (all_numbered s ks))
+
+all_known : (s : Plan) → AreStanding s (nodes_in s) → known_in s ≡ map (λ (p : Placement). p.handler) (placements_in_file s)
+all_known s stand =
+    sym (none_lost s s.nodes) ∙ (sym (all_numbered s (map (λ (n : NodePlace). n.number) (nodes_in s)))
+    ∙ (ap (map numbered) (sym stand.names) ∙ map-map numbered (λ (p : Placement). p.handler.0) (placements_in_file s)))
+
 pub plan_may_run : (d : _) (s : Plan) → system_of d ≡ Ok s → 1 ≤ length s.handlers → MayRun s
 plan_may_run d s is some =
     let sound = plan_sound d s is in
@@ -602,22 +621,28 @@ plan_may_run d s is some =
     let within = g.few in
     let few = sound.few in
     let few_clients = sound.few_clients in
-    let clients = length-map s.clients joins in
+    let clients = length-map s.clients (joins (known_in s)) in
+    let knows = all_known s stand in
+    let apart : NoRepeats (map (λ (p : Placement). p.handler) (placements_in_file s)) = apart_once (map (λ (p : Placement). p.handler) (placements_in_file s))
+    (apart_finer (λ (p : Placement). p.handler) (λ (h : HandlerId). h.0) (placements_in_file s) (subst Apart (sym stand.names) g.apart)) in
     record {
       apart = apart_once ks nodes;
       opens =
           record {
             some = omega arith;
             few = omega arith;
-            apart =
-                apart_once (map (λ (p : Placement). p.handler) (placements_in_file s))
-                (apart_finer (λ (p : Placement). p.handler) (λ (h : HandlerId). h.0) (placements_in_file s) (subst Apart (sym stand.names) g.apart));
+            apart = apart;
             placed = stand.placed;
             few_clients = omega arith;
             clients_apart =
-                subst NoRepeats (sym (clients_ids s.clients))
+                subst NoRepeats (sym (clients_ids (known_in s) s.clients))
                 (apart_once (map (λ (c : ClientPlace). c.client) s.clients)
                 (apart_finer (λ (c : ClientPlace). c.client) (λ (i : ClientId). i.0) s.clients sound.clients));
-            joining = clients_join s.clients sound.joining;
+            joining = clients_join (known_in s) s.clients sound.joining;
+            knowing = all_made (joins (known_in s)) (KnowsPlaced (map (λ (p : Placement). p.handler) (placements_in_file s))) (λ c. record {
+              some = omega (arith, ap length knows, length-map (placements_in_file s) (λ (p : Placement). p.handler));
+              once = subst NoRepeats (sym knows) apart;
+              among = λ h e. ap (λ hs. has hs h) (sym knows) ∙ e;
+            }) s.clients;
           };
     }

@@ -26,7 +26,7 @@ use Rattle.scoop_audit.specs.declared.error.PartyName.TheVariants.{Node, Client}
 use Rattle.scoop_audit.specs.declared.roster.Member.{Member}
 use Rattle.scoop_audit.specs.Members.{AddsTrail, TellMembers, TellsClientOf, TellsMember, TellsNodeOf, TellsPartyOf, client_member, members_in, node_member}
 use Rattle.scoop_audit.specs.Members.{places_of, who}
-use Rattle.scoop_audit.specs.Parties.{handlers_on, has_handlers, joins, known_in, nodes_in, placed_on, placements_in_file}
+use Rattle.scoop_audit.specs.Parties.{clients_in, handlers_on, has_handlers, joins, known_in, nodes_in, placed_on, placements_in_file}
 use Rattle.scoop_audit.specs.Run.{AreOwned, Explains, journal_at}
 use Rattle.scoop_audit.specs.Told.{TellsClientLife, TellsLife, joining, placements_on}
 use Rattle.scoop_audit.specs.World.{ClientPages, IsToldClient, IsToldNode, NodePages, Weaves, placements_in, trails_of}
@@ -51,9 +51,9 @@ life_grown words n ps journal old new trail grows t =
       traffic = has_grown old new trail _ grows t.traffic;
     }
 
-client_grown : (ps : List Placement) (n : Newcomer) (journal : List ℕ) (old new : List Message) (trail : List Passage) → Grows old new
-    → TellsClientLife ps n journal old trail → TellsClientLife ps n journal new trail
-client_grown ps n journal old new trail grows t =
+client_grown : (n : Newcomer) (journal : List ℕ) (old new : List Message) (trail : List Passage) → Grows old new
+    → TellsClientLife n journal old trail → TellsClientLife n journal new trail
+client_grown n journal old new trail grows t =
     record {
       tale = t.tale;
       last = t.last;
@@ -70,8 +70,8 @@ party_grown :
 party_grown s known journal old new trail batch (Node n) grows t =
     record { all = t.all; told = λ words some. life_grown words n (placed_on s n) journal old new trail grows (t.told words some) }
 party_grown s known journal old new trail batch (Client id) grows t =
-    λ some limit ps knows.
-    elim (t some limit ps knows) [ inl told ↦ inl (client_grown ps (joining id batch) journal old new trail grows told) | inr silent ↦ inr silent ]
+    λ some limit.
+    elim (t some limit) [ inl told ↦ inl (client_grown (joining known id batch) journal old new trail grows told) | inr silent ↦ inr silent ]
 
 members_grown : (s : Plan) (known : List HandlerId) (journals : List (List ℕ)) (old new : List Message) (ms : List Member) (trails : List (List Passage))
     → Grows old new → TellMembers s known journals old ms trails → TellMembers s known journals new ms trails
@@ -110,17 +110,17 @@ same_first x y xs ys e = cc
 same_rest : {A : Type 0} (x y : A) (xs ys : List A) → x ∷ xs ≡ y ∷ ys → xs ≡ ys
 same_rest x y xs ys e = cc
 
-abbrev IsPagedClient : List HandlerId → List Message → ClientPages → Type 0
-IsPagedClient known post c = TellsClientOf known c.joined c.journal post c.trail
+abbrev IsPagedClient : List Message → ClientPages → Type 0
+IsPagedClient post c = TellsClientOf c.joined c.journal post c.trail
 
 record PagedClients
     (known : List HandlerId) (journals : List (List ℕ)) (post : List Message) (cs : List ClientPlace) (ms : List Member) (trails : List (List Passage))
     : Type 0 where
   clients : List ClientPages
-  joined : map (λ c. c.joined) clients ≡ map joins cs
+  joined : map (λ c. c.joined) clients ≡ map (joins known) cs
   journals_are : map (λ c. c.journal) clients ≡ map (journal_at journals) (places_of ms)
   trails_are : map (λ c. c.trail) clients ≡ trails
-  each : AllByRecursion (IsPagedClient known post) clients
+  each : AllByRecursion (IsPagedClient post) clients
 
 abbrev names_of : List ClientPlace → List (PartyName × ℕ)
 names_of cs = map (λ c. who (client_member c)) cs
@@ -137,10 +137,10 @@ clients_paged s known journals post (c ∷ cs) (m ∷ ms) (x ∷ trails) parties
     let rest = clients_paged s known journals post cs ms trails (same_rest (who m) (who (client_member c)) _ _ parties) t.1 in
     let is : who m ≡ who (client_member c) = same_first (who m) (who (client_member c)) _ _ parties in
     let journal : List ℕ = journal_at journals m.journal in
-    let page : ClientPages = record { joined = joins c; journal = journal; trail = x } in
+    let page : ClientPages = record { joined = joins known c; journal = journal; trail = x } in
     record {
       clients = page ∷ rest.clients;
-      joined = ap (λ ns. joins c ∷ ns) rest.joined;
+      joined = ap (λ ns. joins known c ∷ ns) rest.joined;
       journals_are = ap (λ js. journal ∷ js) rest.journals_are;
       trails_are = ap (λ xs. x ∷ xs) rest.trails_are;
       each = (subst (λ (w : PartyName × ℕ). TellsPartyOf s known journal post x w.1 w.0) is t.0, rest.each);
@@ -156,12 +156,12 @@ record Paged
   clients : List ClientPages
   numbers : map (λ n. n.number) nodes ≡ map (λ n. n.number) ns
   placed : map (λ n. n.placed) nodes ≡ map (λ n. placed_on s n.number) ns
-  joined : map (λ c. c.joined) clients ≡ map joins cs
+  joined : map (λ c. c.joined) clients ≡ map (joins known) cs
   placements : placements_in nodes ≡ flat_map (λ n. placements_on n.number (placed_on s n.number)) ns
   journals_are : map (λ n. n.journal) nodes ++ map (λ c. c.journal) clients ≡ map (journal_at journals) (places_of ms)
   trails_are : trails_of nodes clients ≡ trails
   each_node : AllByRecursion (IsPagedNode s post) nodes
-  each_client : AllByRecursion (IsPagedClient known post) clients
+  each_client : AllByRecursion (IsPagedClient post) clients
 
 abbrev parties_of : List NodePlace → List ClientPlace → List (PartyName × ℕ)
 parties_of ns cs = map (λ n. who (node_member n)) ns ++ names_of cs
@@ -242,10 +242,10 @@ all_have s (n ∷ ns) =
     (cond b (n ∷ filter (λ n. has_handlers s n.number) ns) (filter (λ n. has_handlers s n.number) ns))) in
     by_test P (has_handlers s n.number) (λ is. (is, all_have s ns)) (λ is. all_have s ns)
 
-abbrev numbers_on : Plan → ℕ → List HandlerId
+abbrev pub numbers_on : Plan → ℕ → List HandlerId
 numbers_on s k = map (λ h. h.handler) (handlers_on k s.handlers)
 
-none_lost : (s : Plan) (ns : List NodePlace)
+pub none_lost : (s : Plan) (ns : List NodePlace)
     → flat_map (numbers_on s) (map (λ n. n.number) (filter (λ n. has_handlers s n.number) ns)) ≡ flat_map (λ n. numbers_on s n.number) ns
 none_lost s [] = refl
 none_lost s (n ∷ ns) =
@@ -258,20 +258,6 @@ none_lost s (n ∷ ns) =
     (λ is. none_lost s ns ∙ ap (λ (hs : List HandlerPlace). map (λ (h : HandlerPlace). h.handler) hs ++ all) (sym (none_on n.number s.handlers is)))
 
 -- ---- what the premise of a world needs
-
-placed_names : (n : ℕ) (ps : List Placed) → map (λ p. p.handler) (placements_on n ps) ≡ map (λ p. p.handler) ps
-placed_names n [] = refl
-placed_names n (p ∷ ps) = ap (λ hs. p.handler ∷ hs) (placed_names n ps)
-
-nodes_known : (s : Plan) (post : List Message) (nodes : List NodePages) → AllByRecursion (IsPagedNode s post) nodes
-    → map (λ p. p.handler) (placements_in nodes) ≡ flat_map (numbers_on s) (map (λ n. n.number) nodes)
-nodes_known s post [] each = refl
-nodes_known s post (n ∷ nodes) each =
-    let rest = nodes_known s post nodes each.1 in
-    let one : map (λ (p : Placement). p.handler) (placements_on n.number n.placed) ≡ numbers_on s n.number =
-    placed_names n.number n.placed ∙ (ap (λ (ps : List Placed). map (λ (p : Placed). p.handler) ps) each.0.0 ∙ each.0.1.all) in
-    map-append (λ (p : Placement). p.handler) (placements_on n.number n.placed) (placements_in nodes)
-    ∙ (ap (λ hs. hs ++ map (λ (p : Placement). p.handler) (placements_in nodes)) one ∙ ap (λ hs. numbers_on s n.number ++ hs) rest)
 
 node_told : (s : Plan) (ps : List Placement) (post : List Message) (n : NodePages) → IsPagedNode s post n → has_handlers s n.number ≡ true
     → IsToldNode ps post n
@@ -287,14 +273,10 @@ nodes_told : (s : Plan) (ps : List Placement) (post : List Message) (nodes : Lis
 nodes_told s ps post [] paged has = tt
 nodes_told s ps post (n ∷ nodes) paged has = (node_told s ps post n paged.0 has.0, nodes_told s ps post nodes paged.1 has.1)
 
-clients_told : (known : List HandlerId) (ps : List Placement) (post : List Message) (clients : List ClientPages)
-    → AllByRecursion (IsPagedClient known post) clients → AllByRecursion IsJoining (map (λ c. c.joined) clients) → known ≡ map (λ p. p.handler) ps
-    → AllByRecursion (IsToldClient ps post) clients
-clients_told known ps post [] paged joining knows = tt
-clients_told known ps post (c ∷ clients) paged joining knows = (
-  paged.0 joining.0.some joining.0.limit ps knows,
-  clients_told known ps post clients paged.1 joining.1 knows,
-)
+clients_told : (post : List Message) (clients : List ClientPages) → AllByRecursion (IsPagedClient post) clients
+    → AllByRecursion IsJoining (map (λ c. c.joined) clients) → AllByRecursion (IsToldClient post) clients
+clients_told post [] paged joining = tt
+clients_told post (c ∷ clients) paged joining = (paged.0 joining.0.some joining.0.limit, clients_told post clients paged.1 joining.1)
 
 -- ---- all
 
@@ -306,15 +288,14 @@ run_explained s known journals post ms trails turns parties owned is_known told 
     let p = all_paged s known journals post (nodes_in s) s.clients ms trails (parties ∙ all_named (nodes_in s) s.clients) told in
     let ps : List Placement = placements_in p.nodes in
     let has = subst (AllByRecursion (λ k. has_handlers s k ≡ true)) (sym p.numbers) (all_have s s.nodes) in
-    let knows : known ≡ map (λ (q : Placement). q.handler) ps =
-    is_known ∙ sym (nodes_known s post p.nodes p.each_node ∙ (ap (λ ks. flat_map (numbers_on s) ks) p.numbers ∙ none_lost s s.nodes)) in
+    let joined : map (λ (c : ClientPages). c.joined) p.clients ≡ clients_in s = p.joined ∙ ap (λ hs. map (joins hs) s.clients) is_known in
     record {
       nodes = p.nodes;
       clients = p.clients;
       places = places_of ms;
       numbers = p.numbers;
       placed = p.placed;
-      joined = p.joined;
+      joined = joined;
       journals_are = p.journals_are;
       owned = owned;
       explained = λ may.
@@ -323,10 +304,9 @@ run_explained s known journals post ms trails turns parties owned is_known told 
             apart = subst NoRepeats (sym p.numbers) may.apart;
             opens =
                 subst (λ (qs : List Placement). MayOpen qs (map (λ (c : ClientPages). c.joined) p.clients)) (sym p.placements)
-                (subst (MayOpen (placements_in_file s)) (sym p.joined) may.opens);
+                (subst (MayOpen (placements_in_file s)) (sym joined) may.opens);
             each_node = nodes_told s ps post p.nodes p.each_node has;
-            each_client =
-                clients_told known ps post p.clients p.each_client (subst (AllByRecursion IsJoining) (sym p.joined) may.opens.joining) knows;
+            each_client = clients_told post p.clients p.each_client (subst (AllByRecursion IsJoining) (sym joined) may.opens.joining);
           })
           (subst (λ xs. Weaves post xs turns) (sym p.trails_are) weaves);
     }
@@ -356,7 +336,7 @@ node_idle s n ps journal post trail is all none =
     }
 
 pub client_read :
-    (known : List HandlerId) (n : Newcomer) (journal : List ℕ) (post : List Message) (res : Result (List Passage) Trouble)
-    → ((ps : List Placement) → known ≡ map (λ p. p.handler) ps → IfOk res (TellsClientLife ps n journal post)) → IfOk res (TellsClientOf known n journal post)
-client_read known n journal post (Err e) told = tt
-client_read known n journal post (Ok trail) told = λ some limit ps knows. inl (told ps knows)
+    (n : Newcomer) (journal : List ℕ) (post : List Message) (res : Result (List Passage) Trouble)
+    → IfOk res (TellsClientLife n journal post) → IfOk res (TellsClientOf n journal post)
+client_read n journal post (Err e) told = tt
+client_read n journal post (Ok trail) told = λ some limit. inl told

@@ -47,41 +47,40 @@ node_lives ps post (n ∷ nodes) told =
 
 -- ---- clients
 
-record OneClient (ps : List Placement) (post : List Message) (c : ClientPages) : Type 0 where
+record OneClient (post : List Message) (c : ClientPages) : Type 0 where
   life : ClientLife
   joined : life.joined ≡ c.joined
-  is : IsClientLife ps life
-  own : IsLifeOfClient ps c life
-  traffic : HasTraffic post c.trail (map traffic_of (moves_of_client ps life))
+  is : IsClientLife life
+  own : IsLifeOfClient c life
+  traffic : HasTraffic post c.trail (map traffic_of (moves_of_client life))
 
-one_client : (ps : List Placement) (post : List Message) (c : ClientPages) → IsToldClient ps post c → OneClient ps post c
-one_client ps post c (inl told) =
+one_client : (post : List Message) (c : ClientPages) → IsToldClient post c → OneClient post c
+one_client post c (inl told) =
     let life : ClientLife = newcomer c.joined (after_one_step last_turn told.tale) in
-    let own : IsWrittenLife ps c life =
+    let own : IsWrittenLife c life =
     record { tale = told.tale; last = told.last; lines = told.lines; journal_is = told.journal_is; tells = told.tells; life_is = refl } in
     record { life = life; joined = refl; is = told.replays; own = inl own; traffic = told.traffic }
-one_client ps post c (inr silent) =
+one_client post c (inr silent) =
     record {
-      life = silent_life ps c.joined;
+      life = silent_life c.joined;
       joined = refl;
       is = (tt, refl);
       own = inr (silent.journal_is, refl);
       traffic = subst (λ xs. HasTraffic post xs []) (sym silent.trail_is) (record { is = refl; numbered = tt });
     }
 
-record ClientLives (ps : List Placement) (post : List Message) (clients : List ClientPages) : Type 0 where
+record ClientLives (post : List Message) (clients : List ClientPages) : Type 0 where
   lives : List ClientLife
   joined : newcomers_of lives ≡ map (λ c. c.joined) clients
-  each : AllByRecursion (IsClientLife ps) lives
-  own : AllZip (IsLifeOfClient ps) clients lives
-  traffic : HaveTraffic post (map (λ c. c.trail) clients) (map (λ ms. map traffic_of ms) (map (moves_of_client ps) lives))
+  each : AllByRecursion IsClientLife lives
+  own : AllZip IsLifeOfClient clients lives
+  traffic : HaveTraffic post (map (λ c. c.trail) clients) (map (λ ms. map traffic_of ms) (map moves_of_client lives))
 
-client_lives : (ps : List Placement) (post : List Message) (clients : List ClientPages) → AllByRecursion (IsToldClient ps post) clients
-    → ClientLives ps post clients
-client_lives ps post [] told = record { lives = []; joined = refl; each = tt; own = tt; traffic = tt }
-client_lives ps post (c ∷ clients) told =
-    let one = one_client ps post c told.0 in
-    let rest = client_lives ps post clients told.1 in
+client_lives : (post : List Message) (clients : List ClientPages) → AllByRecursion (IsToldClient post) clients → ClientLives post clients
+client_lives post [] told = record { lives = []; joined = refl; each = tt; own = tt; traffic = tt }
+client_lives post (c ∷ clients) told =
+    let one = one_client post c told.0 in
+    let rest = client_lives post clients told.1 in
     record {
       lives = one.life ∷ rest.lives;
       joined = ap (λ n. n ∷ newcomers_of rest.lives) one.joined ∙ ap (λ ns. c.joined ∷ ns) rest.joined;
@@ -103,17 +102,16 @@ pub told_world : (nodes : List NodePages) (clients : List ClientPages) (post : L
 told_world nodes clients post turns told weaves =
     let ps : List Placement = placements_in nodes in
     let ns = node_lives ps post nodes told.each_node in
-    let cs = client_lives ps post clients told.each_client in
+    let cs = client_lives post clients told.each_client in
     let same : placements_of ns.lives ≡ ps = ns.placed in
     let parts : List (List Traffic) =
-    map (λ ms. map traffic_of ms) (map moves_of_node ns.lives) ++ map (λ ms. map traffic_of ms) (map (moves_of_client ps) cs.lives) in
+    map (λ ms. map traffic_of ms) (map moves_of_node ns.lives) ++ map (λ ms. map traffic_of ms) (map moves_of_client cs.lives) in
     let all : traffic_by ns.lives cs.lives ≡ parts =
-    map-append (λ ms. map traffic_of ms) (map moves_of_node ns.lives) (map (moves_of_client (placements_of ns.lives)) cs.lives)
-    ∙ ap (λ qs. map (λ ms. map traffic_of ms) (map moves_of_node ns.lives) ++ map (λ ms. map traffic_of ms) (map (moves_of_client qs) cs.lives)) same in
+    map-append (λ ms. map traffic_of ms) (map moves_of_node ns.lives) (map moves_of_client cs.lives) in
     let o : HasOrder (traffic_by ns.lives cs.lives) turns =
     subst (λ us. HasOrder us turns) (sym all)
     (weaves parts (zip_append (HasTraffic post) (map (λ n. n.trail) nodes) (map (λ c. c.trail) clients)
-    (map (λ ms. map traffic_of ms) (map moves_of_node ns.lives)) (map (λ ms. map traffic_of ms) (map (moves_of_client ps) cs.lives)) ns.traffic cs.traffic)) in
+    (map (λ ms. map traffic_of ms) (map moves_of_node ns.lives)) (map (λ ms. map traffic_of ms) (map moves_of_client cs.lives)) ns.traffic cs.traffic)) in
     record {
       lives = ns.lives;
       others = cs.lives;
@@ -129,7 +127,7 @@ told_world nodes clients post turns told weaves =
           (record {
             apart = subst NoRepeats (sym ns.numbers) told.apart;
             each_node = subst (λ qs. AllByRecursion (IsNodeLife (words_in qs)) ns.lives) (sym same) ns.each;
-            each_client = subst (λ qs. AllByRecursion (IsClientLife qs) cs.lives) (sym same) cs.each;
+            each_client = cs.each;
           })
           o.woven;
     }

@@ -91,14 +91,12 @@ abbrev pub client_pages : Newcomer → List ℕ → List Passage → ClientPages
 client_pages n journal trail = record { joined = n; journal = journal; trail = trail }
 
 -- the journal tells a life of the client, if a Log may carry so many entries
-abbrev pub TellsClientOf : List HandlerId → Newcomer → List ℕ → List Message → List Passage → Type 0
-TellsClientOf known n journal post trail =
-    1 ≤ n.batch → n.batch ≤ MAX_ENTRIES → (ps : List Placement) → known ≡ map (λ p. p.handler) ps
-    → IsToldClient ps post (client_pages n journal trail)
+abbrev pub TellsClientOf : Newcomer → List ℕ → List Message → List Passage → Type 0
+TellsClientOf n journal post trail = 1 ≤ n.batch → n.batch ≤ MAX_ENTRIES → IsToldClient post (client_pages n journal trail)
 
 abbrev pub TellsPartyOf : Plan → List HandlerId → List ℕ → List Message → List Passage → ℕ → PartyName → Type 0
 TellsPartyOf s known journal post trail batch (Node n) = TellsNodeOf s n journal post trail
-TellsPartyOf s known journal post trail batch (Client id) = TellsClientOf known (joining id batch) journal post trail
+TellsPartyOf s known journal post trail batch (Client id) = TellsClientOf (joining known id batch) journal post trail
 
 abbrev pub TellsMember : Plan → List HandlerId → List (List ℕ) → List Message → Member → List Passage → Type 0
 TellsMember s known journals post m trail = TellsPartyOf s known (journal_at journals m.journal) post trail m.batch m.party

@@ -43,18 +43,18 @@ placed_on s n = flat_map (λ h. option_to_list (placed_in s.classes h)) (handler
 abbrev pub placements_in_file : Plan → List Placement
 placements_in_file s = flat_map (λ n. placements_on n.number (placed_on s n.number)) (nodes_in s)
 
--- the numbers of all handlers, node by node: each client knows them in this order
+-- the numbers of all handlers, node by node: each client knows them all, in this order
 abbrev pub known_in : Plan → List HandlerId
 known_in s = flat_map (λ n. map (λ h. h.handler) (handlers_on n.number s.handlers)) s.nodes
 
 -- ---- clients
 
--- a client of which no incarnation was stored before
-abbrev pub joins : ClientPlace → Newcomer
-joins c = joining c.client c.batch
+-- a client that knows these handlers, and of which no incarnation was stored before
+abbrev pub joins : List HandlerId → ClientPlace → Newcomer
+joins known c = joining known c.client c.batch
 
 abbrev pub clients_in : Plan → List Newcomer
-clients_in s = map joins s.clients
+clients_in s = map (joins (known_in s)) s.clients
 
 -- ---- all
 

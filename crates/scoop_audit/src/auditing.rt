@@ -227,8 +227,7 @@ fn read_client(
     requires some { 1 ≤ joined.now.batch }
     requires limit { joined.now.batch ≤ MAX_ENTRIES }
     ensures grows { OnOk result (Grows post.old post.new) }
-    ensures told { (ps : List Placement) → known.now ≡ map (λ p. p.handler) ps
-        → IfOk result (TellsClientLife ps (joining joined.now.id joined.now.batch) bytes.now post.new) }
+    ensures told { IfOk result (TellsClientLife (joining known.now joined.now.id joined.now.batch) bytes.now post.new) }
 {
     let mut replay = match ClientReplay::new(alloc, joined.id, known, joined.batch) {
         Ok(replay) => replay,
@@ -250,7 +249,7 @@ fn tell_client(
     pages: &mut Pages<'_>,
 ) -> Result<Trail, Trouble>
     ensures grows { OnOk result (Grows post.old post.new) }
-    ensures told { IfOk result (TellsClientOf known.now (joining joined.now.id joined.now.batch) bytes.now post.new) }
+    ensures told { IfOk result (TellsClientOf (joining known.now joined.now.id joined.now.batch) bytes.now post.new) }
 {
     if bytes.is_empty() {
         return Ok(Trail::new(alloc));
