@@ -1,5 +1,5 @@
 -- A world that opens is safe.
-use Rattle.scoop_model.proofs.Names.{List, [], map, refl, NoRepeats, all_made, RightAnswers, AcceptsRight, IsSubsequence, Safe, nothing, Tape, WholeBeforeNext}
+use Rattle.scoop_model.proofs.Names.{List, [], refl, NoRepeats, all_made, RightAnswers, AcceptsRight, IsSubsequence, Safe, nothing, Tape, WholeBeforeNext}
 use Rattle.scoop_model.proofs.Names.{Placement, Newcomer, new_site, new_party, opening, World}
 
 pub no_repeats : {A : Type 0} → NoRepeats {A = A} []

@@ -1,5 +1,5 @@
 -- Whatever happens, the answers are right.
-use Rattle.scoop_model.proofs.Names.{◌≡◌, ℕ, List, map, Some, refl, arith, AllByRecursion, client_of, Message, all_found, all_made, RightAnswers, AcceptsRight}
+use Rattle.scoop_model.proofs.Names.{◌≡◌, ℕ, List, Some, refl, arith, AllByRecursion, client_of, Message, all_found, all_made, RightAnswers, AcceptsRight}
 use Rattle.scoop_model.proofs.Names.{Placement, Newcomer, new_site, new_party, opening, World, is_party, sent_at}
 use Rattle.scoop_model.proofs.Events.{Changes}
 use Rattle.scoop_model.proofs.Order.{PartyFits, Ordered, all_more_of}

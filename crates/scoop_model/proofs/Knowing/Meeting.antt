@@ -1,11 +1,11 @@
 -- A handler has marks only of clients that know it: a mark begins with a Hello, and a client greets only handlers that it knows.
-use Rattle.scoop_model.proofs.Names.{◌≡◌, List, Some, refl, sym, ap, ◌∙◌, subst, true, true≢false, IsFalse, ⊤, map, AllByRecursion, client_of, handler_of}
+use Rattle.scoop_model.proofs.Names.{◌≡◌, List, Some, sym, ap, ◌∙◌, subst, true, true≢false, IsFalse, ⊤, AllByRecursion, handler_of}
 use Rattle.scoop_model.proofs.Names.{is_for_handler, Message, Hello, Block, ClientId, HandlerId, all_found, all_made, all_mapped, All-mark_of, All-set_mark}
 use Rattle.scoop_model.proofs.Names.{All-add_mark, mark_of, mark_of-client, number-row, replies-row, row, Row, first_greeting, newer_greeting, lock_granted}
-use Rattle.scoop_model.proofs.Names.{is_opened, unlock_of_a_block_never_held, is_freed, is_taken, Hearing, hear, IsHeardAt, HasEntries, greeting_mark}
+use Rattle.scoop_model.proofs.Names.{is_opened, unlock_of_a_block_never_held, is_freed, is_taken, Hearing, hear, HasEntries, greeting_mark}
 use Rattle.scoop_model.proofs.Names.{fresh_mark, opened_mark, with_received, without_hold, set_mark, mark_after, HandlerState, Mark, AtHeld, AtShut, ran_of}
-use Rattle.scoop_model.proofs.Names.{has, due, ClientState, MayOpen, IsReached, Run, heard_site, heard_world, begun_site, finished_site, Placement, Newcomer}
-use Rattle.scoop_model.proofs.Names.{new_site, opening, World, Party, is_party, Site, number_of, is_site, site_of, set_site, sent_at}
+use Rattle.scoop_model.proofs.Names.{has, due, ClientState, IsReached, Run, heard_site, heard_world, begun_site, finished_site, Placement, Newcomer}
+use Rattle.scoop_model.proofs.Names.{new_site, opening, World, is_party, Site, number_of, is_site, site_of, set_site, sent_at}
 use Rattle.scoop_handler.specs.declared.mark.Stage.{Stage}
 use Rattle.scoop_message.specs.Entries.{last_number, ends}
 use Rattle.scoop_model.proofs.Events.{Changes, both_kept, steps_kept}

@@ -2,9 +2,9 @@
 -- What is left to do of a reservation is among the block's handlers, and so are the windows. Each move of the client keeps it.
 use Rattle.scoop_model.proofs.Names.{◌≡◌, List, [], ◌∷◌, Some, None, refl, sym, ap, ◌∙◌, subst, arith, Ok, Option, true, false, true≢false, same_Some, AllByRecursion}
 use Rattle.scoop_model.proofs.Names.{client_of, Message, HandlerId, all_found, all_made, StepRow, one_is_locked, all_are_locked, one_is_opened}
-use Rattle.scoop_model.proofs.Names.{all_are_opened, is_unlocked, is_given_back, asked, has, without, is_lowest, first_unknown, fresh, started, unless_unknown}
-use Rattle.scoop_model.proofs.Names.{unless_repeated, ReservationState, at_stage, GivingBack, Step, command, due, heard, ClientState, with_windows}
-use Rattle.scoop_model.proofs.Names.{with_reservation, idle, window_of, handler_decides, nat_tests, nat_lt, Command, MayOpen, IsReached, heard_party}
+use Rattle.scoop_model.proofs.Names.{all_are_opened, is_unlocked, is_given_back, asked, has, first_unknown, started, unless_unknown}
+use Rattle.scoop_model.proofs.Names.{unless_repeated, ReservationState, at_stage, GivingBack, Step, due, heard, ClientState}
+use Rattle.scoop_model.proofs.Names.{with_reservation, handler_decides, nat_tests, nat_lt, Command, MayOpen, IsReached, heard_party}
 use Rattle.scoop_model.proofs.Names.{restarted_party, Placement, Newcomer, new_party, opening, World, Party, is_party, set_party, party_of}
 use Rattle.scoop_model.proofs.Events.{Changes}
 use Rattle.scoop_model.proofs.Order.{all_set_party, and_first, has_without}

@@ -1,5 +1,5 @@
 -- Whatever happens, a block of the common list stands at each of its handlers.
-use Rattle.scoop_model.proofs.Names.{List, map, refl, sym, true≢false, inl, client_of, all_found, heard, newest_block, heard_party, restarted_party, Placement}
+use Rattle.scoop_model.proofs.Names.{List, refl, sym, true≢false, inl, client_of, all_found, heard, newest_block, heard_party, restarted_party, Placement}
 use Rattle.scoop_model.proofs.Names.{Newcomer, opening, logs_after, World, is_party}
 use Rattle.scoop_model.proofs.Events.{Changes}
 use Rattle.scoop_model.proofs.Order.{handlers_after, PartyFits, Ordered, goes_on, keeps_hearing}
