@@ -6,7 +6,8 @@ use Rattle.std.specs.Option.{option_map}
 use Rattle.std.specs.Cmp.Lexicographic.{bytes_decides}
 use Rattle.std.specs.declared.net.socket_addr.SocketAddr.{SocketAddr}
 use Rattle.std.proofs.lemmas.Bool.Decides.{Decides-eqb, eqb_tells, nat_tests}
-use Rattle.std.proofs.lemmas.List.{length-map, map-append, map-map}
+use Rattle.std.proofs.lemmas.List.{length-map, map-append}
+use Rattle.std.proofs.lemmas.Simd.{map-map}
 use Rattle.scoop_lines.specs.Reading.{Read, ◌>>=◌, each_of, unless}
 use Rattle.scoop_message.specs.declared.limits.TheConstants.{MAX_CLIENTS, MAX_ENTRIES, MAX_HANDLERS, MAX_NODES, MAX_WORDS}
 use Rattle.scoop_message.specs.declared.name.ClientId.{ClientId}
