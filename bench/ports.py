@@ -1,10 +1,10 @@
-"""Ports of the loopback that nobody uses."""
+"""Free ports of the loopback."""
 import socket
 
 
-def free_ports(count):
-    """Ports of this machine that nobody uses now."""
-    sockets = [socket.socket(socket.AF_INET, socket.SOCK_DGRAM) for _ in range(count)]
+def free_ports(count, kind=socket.SOCK_DGRAM):
+    """Ports of this machine that are free now, for sockets of this kind."""
+    sockets = [socket.socket(socket.AF_INET, kind) for _ in range(count)]
     for s in sockets:
         s.bind(("127.0.0.1", 0))
     ports = [s.getsockname()[1] for s in sockets]

@@ -30,7 +30,7 @@ class System:
 
     def __init__(self, program, log="debug", limit=None):
         self.program, self.folder = program, tempfile.mkdtemp(prefix="status")
-        ports, self.statuses = free_ports(len(NODES) + len(CLIENTS)), free_tcp_ports(len(NODES))
+        ports, self.statuses = free_ports(len(NODES) + len(CLIENTS)), free_ports(len(NODES), socket.SOCK_STREAM)
         self.ports = ports
         self.file = self.write("system.toml", text_of(ports, self.statuses, CLIENTS))
         self.other = self.write("other.toml", text_of(ports, self.statuses, [STRANGER, CLIENTS[1]]))
@@ -66,16 +66,6 @@ class System:
             node.kill()
             node.communicate()
         shutil.rmtree(self.folder)
-
-
-def free_tcp_ports(count):
-    sockets = [socket.socket() for _ in range(count)]
-    for s in sockets:
-        s.bind(("127.0.0.1", 0))
-    ports = [s.getsockname()[1] for s in sockets]
-    for s in sockets:
-        s.close()
-    return ports
 
 
 def asks(port, request, wait=3.0):
@@ -196,7 +186,7 @@ def flood(ports, counted):
 
 def cost(program, rounds):
     """The blocks a second with a flood of requests are at most a tenth fewer than without."""
-    # nobody reads these nodes' logs meanwhile, so they tell only trouble
+    # this script reads no log meanwhile, so the nodes log only trouble
     system = System(program, "warn")
     try:
         return falls(system, rounds)

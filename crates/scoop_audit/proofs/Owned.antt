@@ -149,7 +149,7 @@ journals_more f xs i d old new less owned given =
     subst (λ js. AreOwned js (places_of new)) (sym (ap (map f) (take_more xs i d less) ∙ map-append f (take i xs) (get_or xs i d ∷ [])))
     (given_owned (map f (take i xs)) (f (get_or xs i d)) old new owned (subst (λ k. IsGiven k (f (get_or xs i d)) old new) (sym count) given))
 
--- a list that was lent as a slice is that slice afterwards
+-- a list whose slice changed has the items of that slice
 pub lent_back : {A : Type 0} (n : ℕ) (new items : List A) → length new ≡ length items → n ≡ length items → take n (new ++ drop (length new) items) ≡ new
 lent_back n new items same count =
     let none : drop (length new) items ≡ [] = drop_all (length new) items (omega arith) in

@@ -32,7 +32,7 @@ use Rattle.scoop_audit.specs.Told.{TellsClientLife, TellsLife, joining, placemen
 use Rattle.scoop_audit.specs.World.{ClientPages, IsToldClient, IsToldNode, NodePages, Weaves, placements_in, trails_of}
 use Rattle.scoop_audit.proofs.World.{told_world, zip_append}
 
--- ---- what was told stays so as the messages grow
+-- ---- a journal tells the same after more messages
 
 has_grown : (old new : List Message) (trail : List Passage) (ts : List Traffic) → Grows old new → HasTraffic old trail ts → HasTraffic new trail ts
 has_grown old new trail ts grows has =

@@ -1,4 +1,4 @@
--- What the journal of a client tells: its lives, step by step.
+-- The lives that the journal of a client tells, step by step.
 use Rattle.std.specs.Prelude.{◌≡◌, ◌<◌, ℕ, List, [], ◌∷◌, ◌++◌, Option, Some, None}
 use Rattle.scoop_message.specs.declared.name.ClientId.{ClientId}
 use Rattle.scoop_message.specs.declared.message.Message.{Message}

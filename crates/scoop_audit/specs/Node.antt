@@ -1,4 +1,4 @@
--- What the journal of a node tells: its lives, entry by entry.
+-- The lives that the journal of a node tells, entry by entry.
 use Rattle.std.specs.Prelude.{◌≡◌, ⊤, ℕ, List, [], ◌∷◌, ◌++◌}
 use Rattle.scoop_message.specs.declared.name.HandlerId.{HandlerId}
 use Rattle.scoop_message.specs.declared.message.Message.{Message}
@@ -9,7 +9,7 @@ use Rattle.scoop_journal.specs.declared.line.Line.TheVariants.{NodeLife, ClientL
 use Rattle.scoop_replay.specs.Node.{BeganSo, GoesOn, HeardSo, IsNodeTale, IsStoredAs, NodeTale, NodeValue, OpensAgain, RanSo, after_entry, after_reopening}
 use Rattle.scoop_audit.specs.Lines.{IsJournalOf, text_of_all}
 
--- what a line says of an entry
+-- the line tells this entry
 abbrev pub IsEntryOf : Line → Entry → Type 0
 IsEntryOf (NodeLife n) e = ⊥
 IsEntryOf (ClientLife c inc batch) e = ⊥

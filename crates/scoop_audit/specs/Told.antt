@@ -1,4 +1,4 @@
--- What a journal tells, as a life of the theorem.
+-- The life of the theorem that a journal tells.
 use Rattle.std.specs.Prelude.{ℕ, List, [], ◌∷◌, ◌++◌, map}
 use Rattle.scoop_message.specs.declared.name.ClientId.{ClientId}
 use Rattle.scoop_message.specs.declared.name.HandlerId.{HandlerId}

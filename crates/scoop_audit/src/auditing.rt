@@ -75,7 +75,7 @@ impl Explained {
         &self.replayed.post
     }
 
-    /// What each party's journal tells: the nodes in the order of the system's file, then the clients.
+    /// The tales of the parties' journals: the nodes in the order of the system's file, then the clients.
     pub fn tales(&self) -> &[Tale] {
         &self.replayed.tales
     }
@@ -96,7 +96,7 @@ impl Explained {
     }
 }
 
-// Where a replay's trouble stands.
+// The audit's error for the trouble of a replay.
 fn placed(trouble: Trouble, tale: &Tale) -> AuditError {
     match trouble {
         Trouble::OutOfMemory => AuditError::OutOfMemory,
@@ -287,7 +287,7 @@ fn tell_party(
     }
 }
 
-// What the party's journal tells.
+// The tale of the party's journal, with its moves and deeds.
 fn tell(
     alloc: Global,
     system: &System,
@@ -354,7 +354,7 @@ fn silent_party(system: &System, tales: &[Tale], message: &Message) -> Option<Pa
     None
 }
 
-// The move at this place of a party's trail hears what nobody sent.
+// The error for the move at this place of a party's trail, whose message no party sent.
 fn unsent(
     system: &System,
     journals: &[Journal<'_>],

@@ -1,4 +1,4 @@
-//! What the journal of one party tells: its lives, and where they begin.
+//! The lives that the journal of one party tells, and where they begin.
 
 use crate::error::PartyName;
 use scoop_message::OutOfMemory;

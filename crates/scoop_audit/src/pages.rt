@@ -1,4 +1,4 @@
-//! What a replay notes beside its moves.
+//! The notes of a replay beside its moves.
 
 use crate::blocks::Blocks;
 use crate::lives::Tale;

@@ -16,7 +16,7 @@ fn plural(count: u64, one: &'static str, several: &'static str) -> &'static str 
     if count == 1 { one } else { several }
 }
 
-// What the party's journal tells.
+// The lives and entries that the party's journal tells.
 fn print_tale<W: Write>(tale: &Tale, writer: &mut W) -> io::Result<()> {
     let party = tale.party();
     if !tale.has_journal() {

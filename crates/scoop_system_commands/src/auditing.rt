@@ -176,7 +176,7 @@ fn read_journals(rt: &HostRuntime, paths: &[&str]) -> Result<Vec<Vec<u8>>, Statu
     Ok(contents)
 }
 
-// Audits the run that the journals of these bytes tell. What is owned is lent, so that no early return has to drop it.
+// Audits the run that these journals tell. It borrows them and the system, so that no early return has to drop these.
 fn explain_all(
     rt: &HostRuntime,
     system: &System,

@@ -222,7 +222,7 @@ fn a_party_without_its_journal_is_named(rt: HostRuntime) -> Result<(), Fail> {
     ends_alone(&rt, alloc, &client, wanted)
 }
 
-// What is owned is lent in these functions, so that no early return has to drop it.
+// These functions borrow what a test owns, so that no early return has to drop it.
 fn draws(rt: &impl Abort, alloc: Global, system: &System, run: &Explained) -> Result<(), Fail> {
     let chart = chart_of(alloc, system, run, 1, u64::MAX)?;
     assert!(rt; chart.rows() > 20);

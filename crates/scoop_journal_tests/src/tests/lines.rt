@@ -67,7 +67,7 @@ const FAULTS: [(&str, LineFault); 24] = [
     ("do query 1 2 1 2 3 4 5", LineFault::TooMany),
 ];
 
-// The texts are lent to these functions, and what is read is matched: the borrow checker covers that.
+// These functions borrow the texts, and match what they read: the borrow checker covers that.
 fn is_written_back(rt: &impl Abort, alloc: Global, text: &str) -> Result<(), Fail> {
     let mut out = Vec::new(alloc);
     write_back(text, &mut out)?;

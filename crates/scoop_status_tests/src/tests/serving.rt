@@ -118,7 +118,7 @@ const CASES: [(&[u8], &str); 9] = [
     (b"GET / HTTP/1.1\r\nHost: h\r\n", ""),
 ];
 
-// What is owned is lent in these functions, so that no early return has to drop it.
+// These functions borrow what a test owns, so that no early return has to drop it.
 fn answers_each<R: Wait + Clock + Abort + Net<Stream = TcpStream>>(
     rt: &R,
     alloc: Global,

@@ -29,7 +29,7 @@ fn told(alloc: Global, events: &EventList) -> Result<String, Fail> {
     Ok(told)
 }
 
-// Whether the watch shows this state of the handler. What is owned is lent in these functions, so that no early return has to
+// Whether the watch shows this state of the handler. These functions borrow what a test owns, so that no early return has to
 // drop it.
 fn shows<R: Wait>(rt: &R, watch: &Watch, state: &HandlerState) -> Result<bool, Fail> {
     match watch.state(rt, HANDLER)? {
