@@ -3,7 +3,8 @@
 
 Two nodes with an account each and a client over a proxy run as processes. The client ends inside a block: by a fault in
 a line, at the end of its input, as a strict client, when its turns are over, while its link fails, or by a kill. After
-each of these a second client has to get the same handlers at once. It also runs the bank of `examples/` side by side, and
+each of these a second client has to get the same handlers at once. A third client, which uses one handler, runs while the
+other node is down. It also runs the bank of `examples/` side by side, and
 counts the round trips of a block. Prints a line for each, and ends with status 1 if one isn't as it should be.
 """
 import argparse, heapq, os, re, shutil, socket, subprocess, sys, tempfile, threading, time
@@ -64,14 +65,14 @@ class Proxy(threading.Thread):
 
 
 class System:
-    """Two nodes with an account each, client 7 behind a proxy, and client 8."""
+    """Two nodes with an account each, client 7 behind a proxy, client 8, and client 9, which uses handler 1 alone."""
 
     def __init__(self, program):
         self.program, self.folder = program, tempfile.mkdtemp(prefix="leaving")
-        ports = free_ports(7)
-        nodes, clients, fronts, back = ports[:2], ports[2:4], ports[4:6], ports[6]
-        self.file = self.write("system.toml", nodes, [back, clients[1]])
-        self.seen = self.write("seen.toml", fronts, [clients[0], clients[1]])
+        ports = free_ports(8)
+        nodes, clients, fronts, back = ports[:2], ports[2:5], ports[5:7], ports[7]
+        self.file = self.write("system.toml", nodes, [back, *clients[1:]])
+        self.seen = self.write("seen.toml", fronts, clients)
         self.proxy = Proxy(fronts, nodes, clients[0], back)
         self.proxy.start()
         self.nodes = [self.node(n, "--new") for n in HANDLERS]
@@ -82,8 +83,9 @@ class System:
         for n, port in zip(HANDLERS, nodes):
             text += f'[[node]]\nnumber = {n}\naddress = "127.0.0.1:{port}"\n'
             text += f'[[handler]]\nnumber = {n}\nnode = {n}\nclass = "account"\nwords = [100]\n'
-        for c, port in zip([7, 8], clients):
+        for c, port in zip([7, 8, 9], clients):
             text += f'[[client]]\nnumber = {c}\naddress = "127.0.0.1:{port}"\nbatch = 4\n'
+        text += "handlers = [1]\n"
         path = os.path.join(self.folder, name)
         with open(path, "w") as f:
             f.write(text)
@@ -238,6 +240,21 @@ def give_up(system):
     return "given up"
 
 
+def other_node_down(system):
+    """A client of handler 1 starts and runs while the node of handler 2 is down. A script of it that names handler 2 has a fault."""
+    system.nodes[1].kill()
+    system.nodes[1].wait()
+    status, output, notes = system.runs(9, "reserve 1\nquery 1 balance\nend\n", "--turns", "500")
+    assert status == 0 and output.endswith("answer 100\nended\n"), (status, output, notes)
+    path = os.path.join(system.folder, "other.lines")
+    with open(path, "w") as f:
+        f.write("reserve 1 2\nend\n")
+    status, output, notes = system.runs(9, "", "--lines", path)
+    assert status == 1 and output == "" and "line 1" in notes, (status, output, notes)
+    system.nodes[1] = system.node(2, "--store")
+    return "ended"
+
+
 def round_trips(system):
     system.proxy.delay = 0.1
     client = system.client(7)
@@ -259,7 +276,7 @@ def round_trips(system):
 
 
 WAYS = [fault_in_a_line, end_of_the_input, strict, turns_over_locking, turns_over_opening, turns_over_logging,
-        link_that_fails, handler_that_is_silent, kill, script_with_faults, give_up, round_trips]
+        link_that_fails, handler_that_is_silent, kill, script_with_faults, give_up, other_node_down, round_trips]
 
 
 def tries(program, way):

@@ -292,7 +292,7 @@ class Storm:
         self.key = None
         if key:
             self.key = os.path.join(self.folder, "key")
-            with open(self.key, "w") as f:
+            with open(os.open(self.key, os.O_CREAT | os.O_WRONLY, 0o600), "w") as f:
                 f.write("%064x\n" % random.Random(seed).getrandbits(256))
         self.random = random.Random(seed)
         names = [("node", n) for n in NODES] + [("client", c) for c in CLIENTS]

@@ -26,7 +26,7 @@ use scoop_classes::DemoClass;
 use scoop_command_line::{Asked, asked_in, parse};
 use scoop_local_commands::{frame, play};
 use scoop_report::Status;
-use scoop_system_commands::{check, explain, run_client, run_up, serve_node, show_store};
+use scoop_system_commands::{check, explain, make_key, run_client, run_up, serve_node, show_store};
 use std::net::Net;
 use std::process::ExitCode;
 use std::sync::Wait;
@@ -66,6 +66,7 @@ fn run<T: Threads + Wait + Clock + Net + Sync>(
         Asked::Frame(words) => frame(rt, words)?,
         Asked::Demo(options) => return show_with_objects(rt, threads, &options),
         Asked::Check(path) => check(rt, path)?,
+        Asked::Key(path) => make_key(rt, path)?,
         Asked::Node(options) => serve_node(rt, threads, &options)?,
         Asked::Client(options) => run_client(rt, threads, &options)?,
         Asked::Up(options) => run_up(rt, threads, &options)?,

@@ -7,6 +7,7 @@ use Rattle.std.specs.Cmp.Lexicographic.{bytes_decides}
 use Rattle.std.specs.declared.net.socket_addr.SocketAddr.{SocketAddr}
 use Rattle.std.proofs.lemmas.Bool.Decides.{Decides-eqb, eqb_tells, nat_tests}
 use Rattle.std.proofs.lemmas.List.{length-map, map-append}
+use Rattle.std.proofs.lemmas.Simd.{map-map}
 use Rattle.scoop_lines.specs.Reading.{Read, ◌>>=◌, each_of, unless}
 use Rattle.scoop_message.specs.declared.limits.TheConstants.{MAX_CLIENTS, MAX_ENTRIES, MAX_HANDLERS, MAX_NODES, MAX_WORDS}
 use Rattle.scoop_message.specs.declared.name.ClientId.{ClientId}
@@ -31,38 +32,25 @@ use Rattle.scoop_system.specs.declared.place.HandlerPlace.{HandlerPlace}
 use Rattle.scoop_system.specs.declared.place.HandlerClass.{HandlerClass}
 use Rattle.scoop_system.specs.declared.place.HandlerClass.TheVariants.{Known, Own}
 use Rattle.scoop_system.specs.declared.place.ClientPlace.{ClientPlace}
+use Rattle.scoop_system.specs.declared.identity.Identity.{Identity}
+use Rattle.scoop_system.specs.Known.{handlers_on, known_in, numbers_on}
 use Rattle.scoop_system.specs.System.{NamedClass, Plan, class_named, class_table}
-use Rattle.scoop_system.specs.Place.{at, place_at}
+use Rattle.scoop_system.specs.Used.{used_at}
+use Rattle.scoop_system.specs.Place.{Told, at, place_at}
 use Rattle.scoop_system.specs.Value.{address_at, few as at_most, handler_name_at, in_range, key_fault, list_at, list_of, listed_words, number_at, some_word, status_at, text_at, whole_of}
 use Rattle.scoop_system.specs.Value.{words_at, words_in}
 use Rattle.scoop_system.specs.Meaning.{address_fault, batch_at, batch_in, class_or_own, client_keys, client_of, clients_from, clients_of, handler_class, handler_keys}
 use Rattle.scoop_system.specs.Meaning.{handler_of, handlers_from, handlers_of, name_fault, new_client, new_handler, new_node, node_keys, node_of, nodes_from, nodes_of}
-use Rattle.scoop_system.specs.Meaning.{classes_of, file_keys, number_of, own_class, plan_of, status_fault, system_of, wrong_if}
-use Rattle.scoop_audit.specs.Parties.{MayRun, handlers_on, has_handlers, joins, nodes_in, placed_as, placed_in, placed_on, placements_in_file}
+use Rattle.scoop_system.specs.Meaning.{classes_of, file_keys, identity_of, number_of, own_class, parts_of, plan_of, status_fault, system_of, wrong_if}
+use Rattle.scoop_audit.specs.Parties.{MayRun, has_handlers, joins_in, nodes_in, placed_as, placed_in, placed_on, placements_in_file}
 use Rattle.scoop_audit.specs.Told.{placements_on}
+use Rattle.scoop_audit.proofs.Paged.{clients_ids, none_lost}
+use Rattle.scoop_audit.proofs.Known.{ArePlaces, StandsOn, clients_know}
+use Rattle.scoop_audit.proofs.Reading.{ok_same, read_then, unless_none, unless_ok}
+use Rattle.scoop_audit.proofs.Used.{UsesSome, used_some}
 use Rattle.scoop_audit.proofs.Groups.{Apart, any_not, apart_filtered, apart_finer, apart_once, apart_snoc, grouped, groups, numbers_at}
 
--- ---- reading in sequence
-
-record Then {E A B : Type 0} (r : Read E A) (read : A → Read E B) (y : B) : Type 0 where
-  value : A
-  first : r ≡ Ok value
-  rest : read value ≡ Ok y
-
-read_then : {E A B : Type 0} (r : Read E A) (read : A → Read E B) (y : B) → (r >>= read) ≡ Ok y → Then r read y
-read_then (Ok x) read y is = record { value = x; first = refl; rest = is }
-read_then (Err w) read y is = absurd (cc)
-
-unless_ok : {E A : Type 0} (o : Option E) (r : Read E A) (x : A) → unless o r ≡ Ok x → r ≡ Ok x
-unless_ok None r x is = is
-unless_ok (Some w) r x is = absurd (cc)
-
-unless_none : {E A : Type 0} (o : Option E) (r : Read E A) (x : A) → unless o r ≡ Ok x → o ≡ None
-unless_none None r x is = refl
-unless_none (Some w) r x is = absurd (cc)
-
-ok_same : {E A : Type 0} (r : Read E A) (x y : A) → r ≡ Ok x → r ≡ Ok y → x ≡ y
-ok_same r x y one other = cc
+-- ---- reading
 
 wrong_none : (test : Bool) (w : Wrong) → wrong_if test w ≡ None → test ≡ false
 wrong_none true w is = absurd (cc)
@@ -114,9 +102,10 @@ nodes_apart nodes (d ∷ ds) ns is apart =
 
 -- ---- clients
 
-pub record IsSoundClient (c : ClientPlace) : Type 0 where
+record IsSoundClient (handlers : List HandlerPlace) (c : ClientPlace) : Type 0 where
   some : 1 ≤ c.batch
   limit : c.batch ≤ MAX_ENTRIES
+  uses : UsesSome handlers c.handlers
 
 batch_in_range : (d : Option _) (b : ℕ) → batch_in d ≡ Ok b → (1 ≤ b) × (b ≤ MAX_ENTRIES)
 batch_in_range None b is = let same : 1 ≡ b = cc (is) in (omega arith, omega arith)
@@ -132,35 +121,41 @@ batch_in_range (Some d) b is = ranged (whole_of d) is
 batch_read : (d : _) (b : ℕ) → batch_at d ≡ Ok b → (1 ≤ b) × (b ≤ MAX_ENTRIES)
 batch_read d b is = search batch_in_range
 
-record IsNewClient (clients : List ClientPlace) (c : ClientPlace) : Type 0 where
+record IsNewClient (handlers : List HandlerPlace) (clients : List ClientPlace) (c : ClientPlace) : Type 0 where
   new : list_any (λ k. k.client.0 == c.client.0) clients ≡ false
-  sound : IsSoundClient c
+  sound : IsSoundClient handlers c
 
-client_new : (nodes : List NodePlace) (clients : List ClientPlace) (d : _) (c : ClientPlace) → client_of nodes clients d ≡ Ok c → IsNewClient clients c
-client_new nodes clients d c is =
-    let last : ℕ → SocketAddr → ℕ → Read Wrong ClientPlace =
-    λ number address batch. unless (address_fault nodes clients address) (Ok (new_client number address batch)) in
+client_new : (nodes : List NodePlace) (handlers : List HandlerPlace) (clients : List ClientPlace) (d : _) (c : ClientPlace)
+    → client_of nodes handlers clients d ≡ Ok c → IsNewClient handlers clients c
+client_new nodes handlers clients d c is =
+    let last : ℕ → SocketAddr → ℕ → Option (List HandlerId) → Read Wrong ClientPlace =
+    λ number address batch used. unless (address_fault nodes clients address) (Ok (new_client number address batch used)) in
     let fresh : ℕ → Option Wrong = λ number. wrong_if (list_any (λ (k : ClientPlace). k.client.0 == number) clients) Twice in
-    let end : ℕ → SocketAddr → ℕ → Read Wrong ClientPlace = λ number address batch. unless (fresh number) (last number address batch) in
-    let a = unless_ok (key_fault client_keys d) (number_of d >>= λ number. address_at d >>= λ address. batch_at d >>= λ batch. end number address batch) c is in
-    let b = read_then (number_of d) (λ number. address_at d >>= λ address. batch_at d >>= λ batch. end number address batch) c a in
-    let e = read_then (address_at d) (λ address. batch_at d >>= λ batch. end b.value address batch) c b.rest in
-    let f = read_then (batch_at d) (λ batch. end b.value e.value batch) c e.rest in
+    let end : ℕ → SocketAddr → ℕ → Option (List HandlerId) → Read Wrong ClientPlace =
+    λ number address batch used. unless (fresh number) (last number address batch used) in
+    let a = unless_ok (key_fault client_keys d)
+    (number_of d >>= λ number. address_at d >>= λ address. batch_at d >>= λ batch. used_at handlers d >>= λ used. end number address batch used) c is in
+    let b = read_then (number_of d) (λ number. address_at d >>= λ address. batch_at d >>= λ batch. used_at handlers d >>= λ used.
+    end number address batch used) c a in
+    let e = read_then (address_at d) (λ address. batch_at d >>= λ batch. used_at handlers d >>= λ used. end b.value address batch used) c b.rest in
+    let f = read_then (batch_at d) (λ batch. used_at handlers d >>= λ used. end b.value e.value batch used) c e.rest in
+    let u = read_then (used_at handlers d) (λ used. end b.value e.value f.value used) c f.rest in
     let none = wrong_none (list_any (λ (k : ClientPlace). k.client.0 == b.value) clients) Twice
-    (unless_none (fresh b.value) (last b.value e.value f.value) c f.rest) in
-    let g = unless_ok (fresh b.value) (last b.value e.value f.value) c f.rest in
-    let h = unless_ok (address_fault nodes clients e.value) (Ok (new_client b.value e.value f.value)) c g in
-    let made = ok_same (Ok (new_client b.value e.value f.value)) (new_client b.value e.value f.value) c refl h in
+    (unless_none (fresh b.value) (last b.value e.value f.value u.value) c u.rest) in
+    let g = unless_ok (fresh b.value) (last b.value e.value f.value u.value) c u.rest in
+    let new : ClientPlace = new_client b.value e.value f.value u.value in
+    let h = unless_ok (address_fault nodes clients e.value) (Ok new) c g in
+    let made = ok_same (Ok new) new c refl h in
     let range = batch_read d f.value f.first in
-    let sound : IsSoundClient (new_client b.value e.value f.value) = record { some = range.0; limit = range.1 } in
+    let sound : IsSoundClient handlers new = record { some = range.0; limit = range.1; uses = used_some handlers d u.value u.first } in
     record {
       new = subst (λ (k : ℕ). list_any (λ (x : ClientPlace). x.client.0 == k) clients ≡ false) (ap (λ (x : ClientPlace). x.client.0) made) none;
-      sound = subst IsSoundClient made sound;
+      sound = subst (IsSoundClient handlers) made sound;
     }
 
-record AreClients (clients : List ClientPlace) (count : ℕ) : Type 0 where
+record AreClients (handlers : List HandlerPlace) (clients : List ClientPlace) (count : ℕ) : Type 0 where
   apart : Apart (map (λ c. c.client.0) clients)
-  sound : AllByRecursion IsSoundClient clients
+  sound : AllByRecursion (IsSoundClient handlers) clients
   number : length clients ≡ count
 
 all_snoc : {A : Type 0} (P : A → Type 0) (xs : List A) (x : A) → AllByRecursion P xs → P x → AllByRecursion P (xs ++ x ∷ [])
@@ -168,37 +163,34 @@ all_snoc P [] x all one = (one, tt)
 all_snoc P (y ∷ xs) x all one = (all.0, all_snoc P xs x all.1 one)
 
 clients_sound :
-    (nodes : List NodePlace) (clients : List ClientPlace) (count : ℕ) (ds : List _) (cs : List ClientPlace) → clients_from nodes clients ds ≡ Ok cs
-    → AreClients clients count → AreClients cs (count + length ds)
-clients_sound nodes clients count [] cs is are =
+    (nodes : List NodePlace) (handlers : List HandlerPlace) (clients : List ClientPlace) (count : ℕ) (ds : List _) (cs : List ClientPlace)
+    → clients_from nodes handlers clients ds ≡ Ok cs → AreClients handlers clients count → AreClients handlers cs (count + length ds)
+clients_sound nodes handlers clients count [] cs is are =
     let same : clients ≡ cs = cc (is) in
     let whole : count ≡ count + 0 = omega arith in
-    subst (AreClients cs) whole (subst (λ (xs : List ClientPlace). AreClients xs count) same are)
-clients_sound nodes clients count (d ∷ ds) cs is are =
+    subst (AreClients handlers cs) whole (subst (λ (xs : List ClientPlace). AreClients handlers xs count) same are)
+clients_sound nodes handlers clients count (d ∷ ds) cs is are =
     let place = place_at key.Client (length clients + 1) d in
-    let t = read_then (at place (client_of nodes clients d)) (λ c. clients_from nodes (clients ++ c ∷ []) ds) cs is in
+    let t = read_then (at place (client_of nodes handlers clients d)) (λ c. clients_from nodes handlers (clients ++ c ∷ []) ds) cs is in
     let c = t.value in
-    let new = client_new nodes clients d c (at_ok place (client_of nodes clients d) c t.first) in
+    let new = client_new nodes handlers clients d c (at_ok place (client_of nodes handlers clients d) c t.first) in
     let none = any_not (λ (k : ClientPlace). k.client.0) clients c.client.0 new.new in
     let long = are.number in
-    let more : AreClients (clients ++ c ∷ []) (count + 1) =
+    let more : AreClients handlers (clients ++ c ∷ []) (count + 1) =
     record {
       apart =
           subst Apart (sym (map-append (λ (k : ClientPlace). k.client.0) clients (c ∷ [])))
           (apart_snoc (map (λ (k : ClientPlace). k.client.0) clients) c.client.0 are.apart none);
-      sound = all_snoc IsSoundClient clients c are.sound new.sound;
+      sound = all_snoc (IsSoundClient handlers) clients c are.sound new.sound;
       number = length-append clients (c ∷ []) ∙ omega arith;
     } in
     let whole : (count + 1) + length ds ≡ count + length (d ∷ ds) = omega arith in
-    subst (AreClients cs) whole (clients_sound nodes (clients ++ c ∷ []) (count + 1) ds cs t.rest more)
+    subst (AreClients handlers cs) whole (clients_sound nodes handlers (clients ++ c ∷ []) (count + 1) ds cs t.rest more)
 
-clients_join : (cs : List ClientPlace) → AllByRecursion IsSoundClient cs → AllByRecursion IsJoining (map joins cs)
-clients_join [] sound = tt
-clients_join (c ∷ cs) sound = (record { some = sound.0.some; limit = sound.0.limit; next = omega arith }, clients_join cs sound.1)
-
-clients_ids : (cs : List ClientPlace) → map (λ n. n.id) (map joins cs) ≡ map (λ c. c.client) cs
-clients_ids [] = refl
-clients_ids (c ∷ cs) = ap (λ xs. c.client ∷ xs) (clients_ids cs)
+clients_join : (s : Plan) (handlers : List HandlerPlace) (cs : List ClientPlace) → AllByRecursion (IsSoundClient handlers) cs
+    → AllByRecursion IsJoining (map (joins_in s) cs)
+clients_join s handlers [] sound = tt
+clients_join s handlers (c ∷ cs) sound = (record { some = sound.0.some; limit = sound.0.limit; next = omega arith }, clients_join s handlers cs sound.1)
 
 -- ---- the class of a handler
 
@@ -549,35 +541,38 @@ record IsSoundPlan (s : Plan) : Type 0 where
   sound : AllByRecursion (IsSound s.classes s.nodes) s.handlers
   few : length s.handlers ≤ MAX_HANDLERS
   clients : Apart (map (λ c. c.client.0) s.clients)
-  joining : AllByRecursion IsSoundClient s.clients
+  joining : AllByRecursion (IsSoundClient s.handlers) s.clients
   few_clients : length s.clients ≤ MAX_CLIENTS
 
 plan_sound : (d : _) (s : Plan) → system_of d ≡ Ok s → IsSoundPlan s
 plan_sound d s is =
-    let file = read_then (at File (unless (key_fault file_keys d) (Ok d)))
-    (λ file. classes_of file >>= λ classes. nodes_of file >>= λ nodes. handlers_of classes nodes file >>= λ handlers. clients_of nodes file >>= λ clients.
-    Ok (plan_of classes nodes handlers clients)) s is in
+    let with_clients : Identity → List NamedClass → List NodePlace → List HandlerPlace → List ClientPlace → Told Plan =
+    λ identity classes nodes handlers clients. Ok (plan_of identity classes nodes handlers clients) in
+    let with_handlers : _ → Identity → List NamedClass → List NodePlace → List HandlerPlace → Told Plan =
+    λ file identity classes nodes handlers. clients_of nodes handlers file >>= with_clients identity classes nodes handlers in
+    let with_nodes : _ → Identity → List NamedClass → List NodePlace → Told Plan =
+    λ file identity classes nodes. handlers_of classes nodes file >>= with_handlers file identity classes nodes in
+    let with_classes : _ → Identity → List NamedClass → Told Plan = λ file identity classes. nodes_of file >>= with_nodes file identity classes in
+    let file = read_then (at File (unless (key_fault file_keys d) (Ok d))) (λ file. identity_of file >>= λ identity. parts_of identity file) s is in
     let f = file.value in
-    let classes = read_then (classes_of f)
-    (λ classes. nodes_of f >>= λ nodes. handlers_of classes nodes f >>= λ handlers. clients_of nodes f >>= λ clients.
-    Ok (plan_of classes nodes handlers clients)) s file.rest in
-    let nodes = read_then (nodes_of f)
-    (λ nodes. handlers_of classes.value nodes f >>= λ handlers. clients_of nodes f >>= λ clients. Ok (plan_of classes.value nodes handlers clients)) s
-    classes.rest in
-    let handlers = read_then (handlers_of classes.value nodes.value f)
-    (λ handlers. clients_of nodes.value f >>= λ clients. Ok (plan_of classes.value nodes.value handlers clients)) s nodes.rest in
-    let clients = read_then (clients_of nodes.value f) (λ clients. Ok (plan_of classes.value nodes.value handlers.value clients)) s handlers.rest in
-    let same = ok_same (Ok (plan_of classes.value nodes.value handlers.value clients.value)) (plan_of classes.value nodes.value handlers.value clients.value) s refl clients.rest in
+    let identity = read_then (identity_of f) (λ identity. parts_of identity f) s file.rest in
+    let i = identity.value in
+    let classes = read_then (classes_of f) (with_classes f i) s identity.rest in
+    let nodes = read_then (nodes_of f) (with_nodes f i classes.value) s classes.rest in
+    let handlers = read_then (handlers_of classes.value nodes.value f) (with_handlers f i classes.value nodes.value) s nodes.rest in
+    let clients = read_then (clients_of nodes.value handlers.value f) (with_clients i classes.value nodes.value handlers.value) s handlers.rest in
+    let plan : Plan = plan_of i classes.value nodes.value handlers.value clients.value in
+    let same = ok_same (Ok plan) plan s refl clients.rest in
     let n = read_then (at File (list_at key.Node MAX_NODES f)) (nodes_from []) nodes.value nodes.first in
     let h = read_then (at File (list_at key.Handler MAX_HANDLERS f)) (handlers_from classes.value nodes.value []) handlers.value handlers.first in
-    let c = read_then (at File (list_at key.Client MAX_CLIENTS f)) (clients_from nodes.value []) clients.value clients.first in
+    let c = read_then (at File (list_at key.Client MAX_CLIENTS f)) (clients_from nodes.value handlers.value []) clients.value clients.first in
     let few = list_few key.Handler MAX_HANDLERS f h.value (at_ok File (list_at key.Handler MAX_HANDLERS f) h.value h.first) in
     let few_clients = list_few key.Client MAX_CLIENTS f c.value (at_ok File (list_at key.Client MAX_CLIENTS f) c.value c.first) in
     let hs = handlers_sound classes.value nodes.value [] 0 h.value handlers.value h.rest (record { apart = tt; sound = tt; number = refl }) in
-    let cs = clients_sound nodes.value [] 0 c.value clients.value c.rest (record { apart = tt; sound = tt; number = refl }) in
+    let cs = clients_sound nodes.value handlers.value [] 0 c.value clients.value c.rest (record { apart = tt; sound = tt; number = refl }) in
     let count = hs.number in
     let count_clients = cs.number in
-    let sound : IsSoundPlan (plan_of classes.value nodes.value handlers.value clients.value) =
+    let sound : IsSoundPlan plan =
     record {
       nodes = nodes_apart [] n.value nodes.value n.rest tt;
       handlers = hs.apart;
@@ -588,6 +583,31 @@ plan_sound d s is =
       few_clients = omega arith;
     } in
     subst IsSoundPlan same sound
+
+-- the handlers that are placed, in their order
+abbrev numbered : ℕ → HandlerId
+numbered n = record { 0 = n }
+
+all_numbered : (s : Plan) (ks : List ℕ) → map numbered (grouped ks s.handlers) ≡ flat_map (λ k. numbers_on k s.handlers) ks
+all_numbered s [] = refl
+all_numbered s (k ∷ ks) =
+    map-append numbered (numbers_at k s.handlers) (grouped ks s.handlers)
+    ∙ (ap (λ hs. hs ++ map numbered (grouped ks s.handlers)) (map-map numbered (λ (h : HandlerPlace). h.handler.0) (handlers_on k s.handlers))
+    ∙ ap (λ hs. numbers_on k s.handlers ++ hs) (all_numbered s ks))
+
+all_known : (s : Plan) → AreStanding s (nodes_in s) → known_in s ≡ map (λ (p : Placement). p.handler) (placements_in_file s)
+all_known s stand =
+    sym (none_lost s s.nodes) ∙ (sym (all_numbered s (map (λ (n : NodePlace). n.number) (nodes_in s)))
+    ∙ (ap (map numbered) (sym stand.names) ∙ map-map numbered (λ (p : Placement). p.handler.0) (placements_in_file s)))
+
+all_stand : (s : Plan) (hs : List HandlerPlace) → AllByRecursion (IsSound s.classes s.nodes) hs → AllByRecursion (StandsOn s.nodes) hs
+all_stand s [] sound = tt
+all_stand s (h ∷ hs) sound = (sound.0.stands, all_stand s hs sound.1)
+
+all_use : (handlers : List HandlerPlace) (cs : List ClientPlace) → AllByRecursion (IsSoundClient handlers) cs
+    → AllByRecursion (λ c. UsesSome handlers c.handlers) cs
+all_use handlers [] sound = tt
+all_use handlers (c ∷ cs) sound = (sound.0.uses, all_use handlers cs sound.1)
 
 pub plan_may_run : (d : _) (s : Plan) → system_of d ≡ Ok s → 1 ≤ length s.handlers → MayRun s
 plan_may_run d s is some =
@@ -602,22 +622,26 @@ plan_may_run d s is some =
     let within = g.few in
     let few = sound.few in
     let few_clients = sound.few_clients in
-    let clients = length-map s.clients joins in
+    let clients = length-map s.clients (joins_in s) in
+    let handlers : List HandlerId = map (λ (p : Placement). p.handler) (placements_in_file s) in
+    let apart : Apart handlers =
+    apart_finer (λ (p : Placement). p.handler) (λ (h : HandlerId). h.0) (placements_in_file s) (subst Apart (sym stand.names) g.apart) in
+    let places : ArePlaces s handlers =
+    record { are = all_known s stand; some = omega (arith, length-map (placements_in_file s) (λ (p : Placement). p.handler)); apart = apart } in
     record {
       apart = apart_once ks nodes;
       opens =
           record {
             some = omega arith;
             few = omega arith;
-            apart =
-                apart_once (map (λ (p : Placement). p.handler) (placements_in_file s))
-                (apart_finer (λ (p : Placement). p.handler) (λ (h : HandlerId). h.0) (placements_in_file s) (subst Apart (sym stand.names) g.apart));
+            apart = apart_once handlers apart;
             placed = stand.placed;
             few_clients = omega arith;
             clients_apart =
-                subst NoRepeats (sym (clients_ids s.clients))
+                subst NoRepeats (sym (clients_ids s s.clients))
                 (apart_once (map (λ (c : ClientPlace). c.client) s.clients)
                 (apart_finer (λ (c : ClientPlace). c.client) (λ (i : ClientId). i.0) s.clients sound.clients));
-            joining = clients_join s.clients sound.joining;
+            joining = clients_join s s.handlers s.clients sound.joining;
+            knowing = clients_know s handlers places (all_stand s s.handlers sound.sound) s.clients (all_use s.handlers s.clients sound.joining);
           };
     }

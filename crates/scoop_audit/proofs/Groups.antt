@@ -5,7 +5,7 @@ use Rattle.std.specs.List.{filter, list_any}
 use Rattle.std.proofs.lemmas.Bool.Decides.{eqb_tells}
 use Rattle.scoop_message.specs.Lists.{NoRepeats}
 use Rattle.scoop_system.specs.declared.place.HandlerPlace.{HandlerPlace}
-use Rattle.scoop_audit.specs.Parties.{handlers_on}
+use Rattle.scoop_system.specs.Known.{handlers_on}
 
 -- ---- nothing comes twice
 

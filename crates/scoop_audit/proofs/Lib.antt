@@ -1,10 +1,15 @@
 mod Texts
 mod Clients
 mod Nodes
+mod Stops
 mod Told
 mod World
 mod Owned
 mod Steps
 mod Paged
+mod Unexplained
 mod Groups
+mod Reading
+mod Used
+mod Known
 mod Files

@@ -1,36 +1,48 @@
 -- The pages of all parties, from what was replayed one after another.
-use Rattle.std.proofs.Common.{◌≡◌, ◌<◌, ◌≤◌, ◌+◌, inl, inr, ℕ, take, get_or, ◌==◌, Bool, true, false, cond, List, [], ◌∷◌, ◌++◌, length, map, refl, sym, ap, ◌∙◌, subst, arith}
-use Rattle.std.specs.Prelude.{◌||◌, flat_map, IfOk, Result, Ok, Err}
+use Rattle.std.proofs.Common.{◌≡◌, ◌<◌, ◌≤◌, ◌+◌, inl, inr, ℕ, take, get_or, ◌==◌, Bool, true, false, cond, List, [], ◌∷◌, ◌++◌, length, map, suc, Some, refl, sym, ap, ◌∙◌, subst, arith}
+use Rattle.std.specs.Prelude.{◌||◌, flat_map, slice_get, IfErr, IfOk, IfSome, Result, Ok, Err}
 use Rattle.std.specs.List.{AllByRecursion, filter, list_any}
-use Rattle.std.proofs.lemmas.List.{length-map, map-append, take_more}
+use Rattle.std.proofs.lemmas.Bool.Decides.{Decides-eqb}
+use Rattle.std.proofs.lemmas.List.{length-map, take_more}
+use Rattle.std.proofs.lemmas.Option.{IfSome_then}
+use Rattle.scoop_message.specs.declared.name.ClientId.{ClientId}
 use Rattle.scoop_message.specs.declared.name.HandlerId.{HandlerId}
 use Rattle.scoop_message.specs.declared.message.Message.{Message}
 use Rattle.scoop_message.specs.Lists.{NoRepeats}
+use Rattle.scoop_message.proofs.Same.{client_decides}
+use Rattle.scoop_message.specs.contracts.name.ClientIdPartialEq.TheImpl as on_client
 use Rattle.scoop_handler.proofs.Basics.{by_test}
 use Rattle.scoop_model.specs.Opening.{IsJoining, MayOpen}
 use Rattle.scoop_model.specs.Step.{Placement, Newcomer}
 use Rattle.scoop_weave.specs.Lives.{words_in}
+use Rattle.scoop_weave.proofs.JoinedLives.{number_test}
+use Rattle.scoop_weave.proofs.Lists.{none_later, rest_once}
 use Rattle.scoop_weaver.specs.declared.traffic.Traffic.{Traffic}
 use Rattle.scoop_weaver.specs.declared.trail.Passage.{Passage}
 use Rattle.scoop_weaver.specs.Post.{Grows}
-use Rattle.scoop_weaver.specs.Trails.{HasTraffic}
+use Rattle.scoop_weaver.specs.Trails.{HasTraffic, HaveTraffic}
 use Rattle.scoop_weaver.proofs.Along.{traffic_grows}
 use Rattle.scoop_replay.specs.declared.node.Placed.{Placed}
 use Rattle.scoop_system.specs.declared.place.NodePlace.{NodePlace}
 use Rattle.scoop_system.specs.declared.place.HandlerPlace.{HandlerPlace}
 use Rattle.scoop_system.specs.declared.place.ClientPlace.{ClientPlace}
+use Rattle.scoop_system.specs.Known.{handlers_on, numbers_on}
 use Rattle.scoop_system.specs.System.{Plan}
+use Rattle.scoop_audit.specs.declared.error.AuditError.{AuditError}
+use Rattle.scoop_audit.specs.declared.error.AuditError.TheVariants.{OutOfMemory, Fault, Unexplained}
 use Rattle.scoop_audit.specs.declared.error.Trouble.{Trouble}
+use Rattle.scoop_audit.specs.declared.error.Wrong.{Wrong}
 use Rattle.scoop_audit.specs.declared.error.PartyName.{PartyName}
 use Rattle.scoop_audit.specs.declared.error.PartyName.TheVariants.{Node, Client}
 use Rattle.scoop_audit.specs.declared.roster.Member.{Member}
 use Rattle.scoop_audit.specs.Members.{AddsTrail, TellMembers, TellsClientOf, TellsMember, TellsNodeOf, TellsPartyOf, client_member, members_in, node_member}
 use Rattle.scoop_audit.specs.Members.{places_of, who}
-use Rattle.scoop_audit.specs.Parties.{handlers_on, has_handlers, joins, known_in, nodes_in, placed_on, placements_in_file}
-use Rattle.scoop_audit.specs.Run.{AreOwned, Explains, journal_at}
-use Rattle.scoop_audit.specs.Told.{TellsClientLife, TellsLife, joining, placements_on}
-use Rattle.scoop_audit.specs.World.{ClientPages, IsToldClient, IsToldNode, NodePages, Weaves, placements_in, trails_of}
-use Rattle.scoop_audit.proofs.World.{told_world, zip_append}
+use Rattle.scoop_audit.specs.Parties.{MayRun, client_named, has_handlers, joins_in, nodes_in, placed_on, placements_in_file}
+use Rattle.scoop_audit.specs.Run.{AreOwned, AreParties, Explains, journal_at}
+use Rattle.scoop_audit.specs.Told.{TellsClientLife, TellsLife, placements_on}
+use Rattle.scoop_audit.specs.World.{AreTold, ClientPages, IsToldClient, IsToldNode, NodePages, Weaves, placements_in, trails_of}
+use Rattle.scoop_audit.specs.Unexplained.{IsAuditError, IsOrderError, IsUnsent, LacksOrder}
+use Rattle.scoop_audit.proofs.World.{told_lacking, told_world, zip_append}
 
 -- ---- a journal tells the same after more messages
 
@@ -51,9 +63,9 @@ life_grown words n ps journal old new trail grows t =
       traffic = has_grown old new trail _ grows t.traffic;
     }
 
-client_grown : (ps : List Placement) (n : Newcomer) (journal : List ℕ) (old new : List Message) (trail : List Passage) → Grows old new
-    → TellsClientLife ps n journal old trail → TellsClientLife ps n journal new trail
-client_grown ps n journal old new trail grows t =
+client_grown : (n : Newcomer) (journal : List ℕ) (old new : List Message) (trail : List Passage) → Grows old new
+    → TellsClientLife n journal old trail → TellsClientLife n journal new trail
+client_grown n journal old new trail grows t =
     record {
       tale = t.tale;
       last = t.last;
@@ -64,43 +76,43 @@ client_grown ps n journal old new trail grows t =
       traffic = has_grown old new trail _ grows t.traffic;
     }
 
-party_grown :
-    (s : Plan) (known : List HandlerId) (journal : List ℕ) (old new : List Message) (trail : List Passage) (batch : ℕ) (party : PartyName) → Grows old new
-    → TellsPartyOf s known journal old trail batch party → TellsPartyOf s known journal new trail batch party
-party_grown s known journal old new trail batch (Node n) grows t =
+party_grown : (s : Plan) (journal : List ℕ) (old new : List Message) (trail : List Passage) (party : PartyName) → Grows old new
+    → TellsPartyOf s journal old trail party → TellsPartyOf s journal new trail party
+party_grown s journal old new trail (Node n) grows t =
     record { all = t.all; told = λ words some. life_grown words n (placed_on s n) journal old new trail grows (t.told words some) }
-party_grown s known journal old new trail batch (Client id) grows t =
-    λ some limit ps knows.
-    elim (t some limit ps knows) [ inl told ↦ inl (client_grown ps (joining id batch) journal old new trail grows told) | inr silent ↦ inr silent ]
+party_grown s journal old new trail (Client id) grows t =
+    IfSome_then (client_named s.clients id) t
+    (λ c told some limit.
+    elim (told some limit) [ inl tells ↦ inl (client_grown (joins_in s c) journal old new trail grows tells) | inr silent ↦ inr silent ])
 
-members_grown : (s : Plan) (known : List HandlerId) (journals : List (List ℕ)) (old new : List Message) (ms : List Member) (trails : List (List Passage))
-    → Grows old new → TellMembers s known journals old ms trails → TellMembers s known journals new ms trails
-members_grown s known journals old new [] [] grows t = tt
-members_grown s known journals old new [] (x ∷ trails) grows t = absurd t
-members_grown s known journals old new (m ∷ ms) [] grows t = absurd t
-members_grown s known journals old new (m ∷ ms) (x ∷ trails) grows t = (
-  party_grown s known (journal_at journals m.journal) old new x m.batch m.party grows t.0,
-  members_grown s known journals old new ms trails grows t.1,
+members_grown : (s : Plan) (journals : List (List ℕ)) (old new : List Message) (ms : List Member) (trails : List (List Passage)) → Grows old new
+    → TellMembers s journals old ms trails → TellMembers s journals new ms trails
+members_grown s journals old new [] [] grows t = tt
+members_grown s journals old new [] (x ∷ trails) grows t = absurd t
+members_grown s journals old new (m ∷ ms) [] grows t = absurd t
+members_grown s journals old new (m ∷ ms) (x ∷ trails) grows t = (
+  party_grown s (journal_at journals m.journal) old new x m.party grows t.0,
+  members_grown s journals old new ms trails grows t.1,
 )
 
 -- one more party
 pub members_more :
-    (s : Plan) (known : List HandlerId) (journals : List (List ℕ)) (old new : List Message) (ms : List Member) (m : Member) (xs ys : List (List Passage))
-    → Grows old new → TellMembers s known journals old ms xs → AddsTrail s known (journal_at journals m.journal) new m xs ys
-    → TellMembers s known journals new (ms ++ m ∷ []) ys
-members_more s known journals old new ms m xs ys grows told adds =
-    subst (TellMembers s known journals new (ms ++ m ∷ [])) (sym adds.more)
-    (zip_append (TellsMember s known journals new) ms (m ∷ []) xs (adds.trail ∷ []) (members_grown s known journals old new ms xs grows told) (adds.tells, tt))
+    (s : Plan) (journals : List (List ℕ)) (old new : List Message) (ms : List Member) (m : Member) (xs ys : List (List Passage))
+    → Grows old new → TellMembers s journals old ms xs → AddsTrail s (journal_at journals m.journal) new m xs ys
+    → TellMembers s journals new (ms ++ m ∷ []) ys
+members_more s journals old new ms m xs ys grows told adds =
+    subst (TellMembers s journals new (ms ++ m ∷ [])) (sym adds.more)
+    (zip_append (TellsMember s journals new) ms (m ∷ []) xs (adds.trail ∷ []) (members_grown s journals old new ms xs grows told) (adds.tells, tt))
 
 pub members_next :
-    (s : Plan) (known : List HandlerId) (journals : List (List ℕ)) (old new : List Message) (ms : List Member) (i : ℕ) (d : Member) (journal : List ℕ)
-    (xs ys : List (List Passage)) → i < length ms → Grows old new → TellMembers s known journals old (take i ms) xs
-    → journal ≡ journal_at journals (get_or ms i d).journal → AddsTrail s known journal new (get_or ms i d) xs ys
-    → TellMembers s known journals new (take (i + 1) ms) ys
-members_next s known journals old new ms i d journal xs ys less grows told is adds =
+    (s : Plan) (journals : List (List ℕ)) (old new : List Message) (ms : List Member) (i : ℕ) (d : Member) (journal : List ℕ)
+    (xs ys : List (List Passage)) → i < length ms → Grows old new → TellMembers s journals old (take i ms) xs
+    → journal ≡ journal_at journals (get_or ms i d).journal → AddsTrail s journal new (get_or ms i d) xs ys
+    → TellMembers s journals new (take (i + 1) ms) ys
+members_next s journals old new ms i d journal xs ys less grows told is adds =
     let m : Member = get_or ms i d in
-    subst (λ ls. TellMembers s known journals new ls ys) (sym (take_more ms i d less))
-    (members_more s known journals old new (take i ms) m xs ys grows told (subst (λ j. AddsTrail s known j new m xs ys) is adds))
+    subst (λ ls. TellMembers s journals new ls ys) (sym (take_more ms i d less))
+    (members_more s journals old new (take i ms) m xs ys grows told (subst (λ j. AddsTrail s j new m xs ys) is adds))
 
 -- ---- pages
 
@@ -110,68 +122,67 @@ same_first x y xs ys e = cc
 same_rest : {A : Type 0} (x y : A) (xs ys : List A) → x ∷ xs ≡ y ∷ ys → xs ≡ ys
 same_rest x y xs ys e = cc
 
-abbrev IsPagedClient : List HandlerId → List Message → ClientPages → Type 0
-IsPagedClient known post c = TellsClientOf known c.joined c.journal post c.trail
+-- the journal of each client of this number tells a life of it
+abbrev IsPagedClient : Plan → List Message → ClientPages → Type 0
+IsPagedClient s post page = TellsPartyOf s page.journal post page.trail (Client page.joined.id)
 
 record PagedClients
-    (known : List HandlerId) (journals : List (List ℕ)) (post : List Message) (cs : List ClientPlace) (ms : List Member) (trails : List (List Passage))
-    : Type 0 where
+    (s : Plan) (journals : List (List ℕ)) (post : List Message) (cs : List ClientPlace) (ms : List Member) (trails : List (List Passage)) : Type 0 where
   clients : List ClientPages
-  joined : map (λ c. c.joined) clients ≡ map joins cs
+  joined : map (λ c. c.joined) clients ≡ map (joins_in s) cs
   journals_are : map (λ c. c.journal) clients ≡ map (journal_at journals) (places_of ms)
   trails_are : map (λ c. c.trail) clients ≡ trails
-  each : AllByRecursion (IsPagedClient known post) clients
+  each : AllByRecursion (IsPagedClient s post) clients
 
-abbrev names_of : List ClientPlace → List (PartyName × ℕ)
+abbrev names_of : List ClientPlace → List PartyName
 names_of cs = map (λ c. who (client_member c)) cs
 
-clients_paged :
-    (s : Plan) (known : List HandlerId) (journals : List (List ℕ)) (post : List Message) (cs : List ClientPlace) (ms : List Member)
-    (trails : List (List Passage)) → map who ms ≡ names_of cs → TellMembers s known journals post ms trails → PagedClients known journals post cs ms trails
-clients_paged s known journals post [] [] [] parties t = record { clients = []; joined = refl; journals_are = refl; trails_are = refl; each = tt }
-clients_paged s known journals post [] [] (x ∷ trails) parties t = absurd t
-clients_paged s known journals post [] (m ∷ ms) trails parties t = absurd (cc)
-clients_paged s known journals post (c ∷ cs) [] trails parties t = absurd (cc)
-clients_paged s known journals post (c ∷ cs) (m ∷ ms) [] parties t = absurd t
-clients_paged s known journals post (c ∷ cs) (m ∷ ms) (x ∷ trails) parties t =
-    let rest = clients_paged s known journals post cs ms trails (same_rest (who m) (who (client_member c)) _ _ parties) t.1 in
+clients_paged : (s : Plan) (journals : List (List ℕ)) (post : List Message) (cs : List ClientPlace) (ms : List Member) (trails : List (List Passage))
+    → map who ms ≡ names_of cs → TellMembers s journals post ms trails → PagedClients s journals post cs ms trails
+clients_paged s journals post [] [] [] parties t = record { clients = []; joined = refl; journals_are = refl; trails_are = refl; each = tt }
+clients_paged s journals post [] [] (x ∷ trails) parties t = absurd t
+clients_paged s journals post [] (m ∷ ms) trails parties t = absurd (cc)
+clients_paged s journals post (c ∷ cs) [] trails parties t = absurd (cc)
+clients_paged s journals post (c ∷ cs) (m ∷ ms) [] parties t = absurd t
+clients_paged s journals post (c ∷ cs) (m ∷ ms) (x ∷ trails) parties t =
+    let rest = clients_paged s journals post cs ms trails (same_rest (who m) (who (client_member c)) _ _ parties) t.1 in
     let is : who m ≡ who (client_member c) = same_first (who m) (who (client_member c)) _ _ parties in
     let journal : List ℕ = journal_at journals m.journal in
-    let page : ClientPages = record { joined = joins c; journal = journal; trail = x } in
+    let page : ClientPages = record { joined = joins_in s c; journal = journal; trail = x } in
     record {
       clients = page ∷ rest.clients;
-      joined = ap (λ ns. joins c ∷ ns) rest.joined;
+      joined = ap (λ ns. joins_in s c ∷ ns) rest.joined;
       journals_are = ap (λ js. journal ∷ js) rest.journals_are;
       trails_are = ap (λ xs. x ∷ xs) rest.trails_are;
-      each = (subst (λ (w : PartyName × ℕ). TellsPartyOf s known journal post x w.1 w.0) is t.0, rest.each);
+      each = (subst (TellsPartyOf s journal post x) is t.0, rest.each);
     }
 
 abbrev IsPagedNode : Plan → List Message → NodePages → Type 0
 IsPagedNode s post n = (n.placed ≡ placed_on s n.number) × TellsNodeOf s n.number n.journal post n.trail
 
 record Paged
-    (s : Plan) (known : List HandlerId) (journals : List (List ℕ)) (post : List Message) (ns : List NodePlace) (cs : List ClientPlace) (ms : List Member)
+    (s : Plan) (journals : List (List ℕ)) (post : List Message) (ns : List NodePlace) (cs : List ClientPlace) (ms : List Member)
     (trails : List (List Passage)) : Type 0 where
   nodes : List NodePages
   clients : List ClientPages
   numbers : map (λ n. n.number) nodes ≡ map (λ n. n.number) ns
   placed : map (λ n. n.placed) nodes ≡ map (λ n. placed_on s n.number) ns
-  joined : map (λ c. c.joined) clients ≡ map joins cs
+  joined : map (λ c. c.joined) clients ≡ map (joins_in s) cs
   placements : placements_in nodes ≡ flat_map (λ n. placements_on n.number (placed_on s n.number)) ns
   journals_are : map (λ n. n.journal) nodes ++ map (λ c. c.journal) clients ≡ map (journal_at journals) (places_of ms)
   trails_are : trails_of nodes clients ≡ trails
   each_node : AllByRecursion (IsPagedNode s post) nodes
-  each_client : AllByRecursion (IsPagedClient known post) clients
+  each_client : AllByRecursion (IsPagedClient s post) clients
 
-abbrev parties_of : List NodePlace → List ClientPlace → List (PartyName × ℕ)
+abbrev parties_of : List NodePlace → List ClientPlace → List PartyName
 parties_of ns cs = map (λ n. who (node_member n)) ns ++ names_of cs
 
 all_paged :
-    (s : Plan) (known : List HandlerId) (journals : List (List ℕ)) (post : List Message) (ns : List NodePlace) (cs : List ClientPlace) (ms : List Member)
-    (trails : List (List Passage)) → map who ms ≡ parties_of ns cs → TellMembers s known journals post ms trails
-    → Paged s known journals post ns cs ms trails
-all_paged s known journals post [] cs ms trails parties t =
-    let p = clients_paged s known journals post cs ms trails parties t in
+    (s : Plan) (journals : List (List ℕ)) (post : List Message) (ns : List NodePlace) (cs : List ClientPlace) (ms : List Member)
+    (trails : List (List Passage)) → map who ms ≡ parties_of ns cs → TellMembers s journals post ms trails
+    → Paged s journals post ns cs ms trails
+all_paged s journals post [] cs ms trails parties t =
+    let p = clients_paged s journals post cs ms trails parties t in
     record {
       nodes = [];
       clients = p.clients;
@@ -184,10 +195,10 @@ all_paged s known journals post [] cs ms trails parties t =
       each_node = tt;
       each_client = p.each;
     }
-all_paged s known journals post (n ∷ ns) cs [] trails parties t = absurd (cc)
-all_paged s known journals post (n ∷ ns) cs (m ∷ ms) [] parties t = absurd t
-all_paged s known journals post (n ∷ ns) cs (m ∷ ms) (x ∷ trails) parties t =
-    let rest = all_paged s known journals post ns cs ms trails (same_rest (who m) (who (node_member n)) _ _ parties) t.1 in
+all_paged s journals post (n ∷ ns) cs [] trails parties t = absurd (cc)
+all_paged s journals post (n ∷ ns) cs (m ∷ ms) [] parties t = absurd t
+all_paged s journals post (n ∷ ns) cs (m ∷ ms) (x ∷ trails) parties t =
+    let rest = all_paged s journals post ns cs ms trails (same_rest (who m) (who (node_member n)) _ _ parties) t.1 in
     let is : who m ≡ who (node_member n) = same_first (who m) (who (node_member n)) _ _ parties in
     let journal : List ℕ = journal_at journals m.journal in
     let placed : List Placed = placed_on s n.number in
@@ -201,7 +212,7 @@ all_paged s known journals post (n ∷ ns) cs (m ∷ ms) (x ∷ trails) parties 
       placements = ap (λ ps. placements_on n.number placed ++ ps) rest.placements;
       journals_are = ap (λ js. journal ∷ js) rest.journals_are;
       trails_are = ap (λ xs. x ∷ xs) rest.trails_are;
-      each_node = ((refl, subst (λ (w : PartyName × ℕ). TellsPartyOf s known journal post x w.1 w.0) is t.0), rest.each_node);
+      each_node = ((refl, subst (TellsPartyOf s journal post x) is t.0), rest.each_node);
       each_client = rest.each_client;
     }
 
@@ -242,41 +253,53 @@ all_have s (n ∷ ns) =
     (cond b (n ∷ filter (λ n. has_handlers s n.number) ns) (filter (λ n. has_handlers s n.number) ns))) in
     by_test P (has_handlers s n.number) (λ is. (is, all_have s ns)) (λ is. all_have s ns)
 
-abbrev numbers_on : Plan → ℕ → List HandlerId
-numbers_on s k = map (λ h. h.handler) (handlers_on k s.handlers)
-
-none_lost : (s : Plan) (ns : List NodePlace)
-    → flat_map (numbers_on s) (map (λ n. n.number) (filter (λ n. has_handlers s n.number) ns)) ≡ flat_map (λ n. numbers_on s n.number) ns
+pub none_lost : (s : Plan) (ns : List NodePlace)
+    → flat_map (λ k. numbers_on k s.handlers) (map (λ n. n.number) (filter (λ n. has_handlers s n.number) ns))
+    ≡ flat_map (λ n. numbers_on n.number s.handlers) ns
 none_lost s [] = refl
 none_lost s (n ∷ ns) =
-    let all : List HandlerId = flat_map (λ (n : NodePlace). numbers_on s n.number) ns in
+    let all : List HandlerId = flat_map (λ (n : NodePlace). numbers_on n.number s.handlers) ns in
     let P : Bool → Type 0 =
-    λ b. flat_map (numbers_on s) (map (λ (n : NodePlace). n.number)
+    λ b. flat_map (λ k. numbers_on k s.handlers) (map (λ (n : NodePlace). n.number)
     (cond b (n ∷ filter (λ n. has_handlers s n.number) ns) (filter (λ n. has_handlers s n.number) ns)))
-    ≡ numbers_on s n.number ++ all in
-    by_test P (has_handlers s n.number) (λ is. ap (λ hs. numbers_on s n.number ++ hs) (none_lost s ns))
+    ≡ numbers_on n.number s.handlers ++ all in
+    by_test P (has_handlers s n.number) (λ is. ap (λ hs. numbers_on n.number s.handlers ++ hs) (none_lost s ns))
     (λ is. none_lost s ns ∙ ap (λ (hs : List HandlerPlace). map (λ (h : HandlerPlace). h.handler) hs ++ all) (sym (none_on n.number s.handlers is)))
 
+-- ---- clients by their numbers
+
+pub clients_ids : (s : Plan) (cs : List ClientPlace) → map (λ n. n.id) (map (joins_in s) cs) ≡ map (λ c. c.client) cs
+clients_ids s [] = refl
+clients_ids s (c ∷ cs) = ap (λ ids. c.client ∷ ids) (clients_ids s cs)
+
+-- each of these clients is found among them
+abbrev AreFound : List ClientPlace → List ClientPlace → Type 0
+AreFound all cs = AllByRecursion (λ c. client_named all c.client ≡ Some c) cs
+
+found_later : (c : ClientPlace) (all cs : List ClientPlace) → ((i : ℕ) → slice_get (map (λ d. d.client) cs) i ≡ Some c.client → ⊥) → AreFound all cs
+    → AreFound (c ∷ all) cs
+found_later c all [] none found = tt
+found_later c all (d ∷ cs) none found =
+    let make : ℕ → ClientId = λ n. record { 0 = n } in
+    let other : (c.client.0 == d.client.0) ≡ false = number_test c.client.0 d.client.0 (λ e. none 0 (ap (λ n. Some (make n)) (sym e))) in
+    (ap (λ t. cond t (Some c) (client_named all d.client)) other ∙ found.0, found_later c all cs (λ i e. none (suc i) e) found.1)
+
+-- so they are if no two have one number
+all_found : (cs : List ClientPlace) → NoRepeats (map (λ c. c.client) cs) → AreFound cs cs
+all_found [] once = tt
+all_found (c ∷ cs) once =
+    let id = λ (d : ClientPlace). d.client in
+    let itself : (c.client.0 == c.client.0) ≡ true = (Decides-eqb c.client.0 c.client.0).1 refl in (
+      ap (λ t. cond t (Some c) (client_named cs c.client)) itself,
+      found_later c cs cs (none_later id on_client.eq-value.it client_decides c cs once) (all_found cs (rest_once id on_client.eq-value.it client_decides c cs once)),
+    )
+
 -- ---- what the premise of a world needs
-
-placed_names : (n : ℕ) (ps : List Placed) → map (λ p. p.handler) (placements_on n ps) ≡ map (λ p. p.handler) ps
-placed_names n [] = refl
-placed_names n (p ∷ ps) = ap (λ hs. p.handler ∷ hs) (placed_names n ps)
-
-nodes_known : (s : Plan) (post : List Message) (nodes : List NodePages) → AllByRecursion (IsPagedNode s post) nodes
-    → map (λ p. p.handler) (placements_in nodes) ≡ flat_map (numbers_on s) (map (λ n. n.number) nodes)
-nodes_known s post [] each = refl
-nodes_known s post (n ∷ nodes) each =
-    let rest = nodes_known s post nodes each.1 in
-    let one : map (λ (p : Placement). p.handler) (placements_on n.number n.placed) ≡ numbers_on s n.number =
-    placed_names n.number n.placed ∙ (ap (λ (ps : List Placed). map (λ (p : Placed). p.handler) ps) each.0.0 ∙ each.0.1.all) in
-    map-append (λ (p : Placement). p.handler) (placements_on n.number n.placed) (placements_in nodes)
-    ∙ (ap (λ hs. hs ++ map (λ (p : Placement). p.handler) (placements_in nodes)) one ∙ ap (λ hs. numbers_on s n.number ++ hs) rest)
 
 node_told : (s : Plan) (ps : List Placement) (post : List Message) (n : NodePages) → IsPagedNode s post n → has_handlers s n.number ≡ true
     → IsToldNode ps post n
 node_told s ps post n paged has =
-    let count : length (map (λ (p : Placed). p.handler) (placed_on s n.number)) ≡ length (numbers_on s n.number) = ap length paged.1.all in
+    let count : length (map (λ (p : Placed). p.handler) (placed_on s n.number)) ≡ length (numbers_on n.number s.handlers) = ap length paged.1.all in
     let left = length-map (placed_on s n.number) (λ (p : Placed). p.handler) in
     let right = length-map (handlers_on n.number s.handlers) (λ (h : HandlerPlace). h.handler) in
     let some = some_on n.number s.handlers has in
@@ -287,51 +310,101 @@ nodes_told : (s : Plan) (ps : List Placement) (post : List Message) (nodes : Lis
 nodes_told s ps post [] paged has = tt
 nodes_told s ps post (n ∷ nodes) paged has = (node_told s ps post n paged.0 has.0, nodes_told s ps post nodes paged.1 has.1)
 
-clients_told : (known : List HandlerId) (ps : List Placement) (post : List Message) (clients : List ClientPages)
-    → AllByRecursion (IsPagedClient known post) clients → AllByRecursion IsJoining (map (λ c. c.joined) clients) → known ≡ map (λ p. p.handler) ps
-    → AllByRecursion (IsToldClient ps post) clients
-clients_told known ps post [] paged joining knows = tt
-clients_told known ps post (c ∷ clients) paged joining knows = (
-  paged.0 joining.0.some joining.0.limit ps knows,
-  clients_told known ps post clients paged.1 joining.1 knows,
-)
+clients_told : (s : Plan) (post : List Message) (cs : List ClientPlace) (pages : List ClientPages) → map (λ p. p.joined) pages ≡ map (joins_in s) cs
+    → AreFound s.clients cs → AllByRecursion (IsPagedClient s post) pages → AllByRecursion IsJoining (map (λ p. p.joined) pages)
+    → AllByRecursion (IsToldClient post) pages
+clients_told s post [] [] joined found paged joining = tt
+clients_told s post [] (p ∷ pages) joined found paged joining = absurd (cc)
+clients_told s post (c ∷ cs) [] joined found paged joining = tt
+clients_told s post (c ∷ cs) (p ∷ pages) joined found paged joining =
+    let is : p.joined ≡ joins_in s c = same_first p.joined (joins_in s c) _ _ joined in
+    let named : TellsPartyOf s p.journal post p.trail (Client c.client) =
+    subst (λ (n : Newcomer). TellsPartyOf s p.journal post p.trail (Client n.id)) is paged.0 in
+    let told : TellsClientOf (joins_in s c) p.journal post p.trail =
+    subst (λ o. IfSome o (λ d. TellsClientOf (joins_in s d) p.journal post p.trail)) found.0 named in (
+      subst (λ n. TellsClientOf n p.journal post p.trail) (sym is) told joining.0.some joining.0.limit,
+      clients_told s post cs pages (same_rest p.joined (joins_in s c) _ _ joined) found.1 paged.1 joining.1,
+    )
 
 -- ---- all
 
-pub run_explained :
-    (s : Plan) (known : List HandlerId) (journals : List (List ℕ)) (post : List Message) (ms : List Member) (trails : List (List Passage))
-    (turns : List ℕ) → map who ms ≡ map who (members_in s) → AreOwned journals (places_of ms) → known ≡ known_in s
-    → TellMembers s known journals post ms trails → Weaves post trails turns → Explains s journals turns
-run_explained s known journals post ms trails turns parties owned is_known told weaves =
-    let p = all_paged s known journals post (nodes_in s) s.clients ms trails (parties ∙ all_named (nodes_in s) s.clients) told in
-    let ps : List Placement = placements_in p.nodes in
+record PagedRun (s : Plan) (journals : List (List ℕ)) (post : List Message) (trails : List (List Passage)) : Type 0 where
+  nodes : List NodePages
+  clients : List ClientPages
+  parties : AreParties s journals nodes clients
+  told : MayRun s → AreTold nodes clients post
+  trails_are : trails_of nodes clients ≡ trails
+
+run_paged :
+    (s : Plan) (journals : List (List ℕ)) (post : List Message) (ms : List Member) (trails : List (List Passage)) → map who ms ≡ map who (members_in s)
+    → AreOwned journals (places_of ms) → TellMembers s journals post ms trails → PagedRun s journals post trails
+run_paged s journals post ms trails parties owned told =
+    let p = all_paged s journals post (nodes_in s) s.clients ms trails (parties ∙ all_named (nodes_in s) s.clients) told in
     let has = subst (AllByRecursion (λ k. has_handlers s k ≡ true)) (sym p.numbers) (all_have s s.nodes) in
-    let knows : known ≡ map (λ (q : Placement). q.handler) ps =
-    is_known ∙ sym (nodes_known s post p.nodes p.each_node ∙ (ap (λ ks. flat_map (numbers_on s) ks) p.numbers ∙ none_lost s s.nodes)) in
     record {
       nodes = p.nodes;
       clients = p.clients;
-      places = places_of ms;
-      numbers = p.numbers;
-      placed = p.placed;
-      joined = p.joined;
-      journals_are = p.journals_are;
-      owned = owned;
-      explained = λ may.
-          told_world p.nodes p.clients post turns
-          (record {
+      parties =
+          record { places = places_of ms; numbers = p.numbers; placed = p.placed; joined = p.joined; journals_are = p.journals_are; owned = owned };
+      told = λ may.
+          let found = all_found s.clients (subst NoRepeats (clients_ids s s.clients) may.opens.clients_apart) in
+          record {
             apart = subst NoRepeats (sym p.numbers) may.apart;
             opens =
                 subst (λ (qs : List Placement). MayOpen qs (map (λ (c : ClientPages). c.joined) p.clients)) (sym p.placements)
                 (subst (MayOpen (placements_in_file s)) (sym p.joined) may.opens);
-            each_node = nodes_told s ps post p.nodes p.each_node has;
-            each_client =
-                clients_told known ps post p.clients p.each_client (subst (AllByRecursion IsJoining) (sym p.joined) may.opens.joining) knows;
-          })
-          (subst (λ xs. Weaves post xs turns) (sym p.trails_are) weaves);
+            each_node = nodes_told s (placements_in p.nodes) post p.nodes p.each_node has;
+            each_client = clients_told s post s.clients p.clients p.joined found p.each_client (subst (AllByRecursion IsJoining) (sym p.joined) may.opens.joining);
+          };
+      trails_are = p.trails_are;
     }
 
+pub run_explained :
+    (s : Plan) (journals : List (List ℕ)) (post : List Message) (ms : List Member) (trails : List (List Passage)) (turns : List ℕ)
+    → map who ms ≡ map who (members_in s) → AreOwned journals (places_of ms) → TellMembers s journals post ms trails → Weaves post trails turns
+    → Explains s journals turns
+run_explained s journals post ms trails turns parties owned told weaves =
+    let p = run_paged s journals post ms trails parties owned told in
+    record {
+      nodes = p.nodes;
+      clients = p.clients;
+      parties = p.parties;
+      explained = λ may. told_world p.nodes p.clients post turns (p.told may) (subst (λ xs. Weaves post xs turns) (sym p.trails_are) weaves);
+    }
+
+lacks_order :
+    (s : Plan) (journals : List (List ℕ)) (post : List Message) (ms : List Member) (trails : List (List Passage)) (w : Wrong)
+    → map who ms ≡ map who (members_in s) → AreOwned journals (places_of ms) → TellMembers s journals post ms trails
+    → ((parties : List (List Traffic)) → HaveTraffic post trails parties → IsUnsent parties w) → LacksOrder s journals w
+lacks_order s journals post ms trails w parties owned told unsent =
+    let p = run_paged s journals post ms trails parties owned told in
+    record {
+      nodes = p.nodes;
+      clients = p.clients;
+      parties = p.parties;
+      lacking = λ may.
+          told_lacking p.nodes p.clients post w (p.told may)
+          (subst (λ xs. (qs : List (List Traffic)) → HaveTraffic post xs qs → IsUnsent qs w) (sym p.trails_are) unsent);
+    }
+
+run_unexplained :
+    (s : Plan) (journals : List (List ℕ)) (post : List Message) (ms : List Member) (trails : List (List Passage)) (e : AuditError)
+    → map who ms ≡ map who (members_in s) → AreOwned journals (places_of ms) → TellMembers s journals post ms trails
+    → ((parties : List (List Traffic)) → HaveTraffic post trails parties → IsOrderError parties e) → IsAuditError s journals e
+run_unexplained s journals post ms trails OutOfMemory parties owned told error = tt
+run_unexplained s journals post ms trails (Fault place line fault) parties owned told error = tt
+run_unexplained s journals post ms trails (Unexplained found w) parties owned told error =
+    inr (lacks_order s journals post ms trails w parties owned told error)
+
 -- ---- by the outcomes of a call
+
+pub order_failed :
+    {T P : Type 0} (res : Result T AuditError) (s : Plan) (journals : List (List ℕ)) (post : List Message) (ms : List Member)
+    (trails : List (List Passage)) → map who ms ≡ map who (members_in s) → AreOwned journals (places_of ms) → (P → TellMembers s journals post ms trails)
+    → ((parties : List (List Traffic)) → HaveTraffic post trails parties → IfErr res (IsOrderError parties)) → IfErr res (λ e. P → IsAuditError s journals e)
+order_failed (Ok x) s journals post ms trails parties owned told error = tt
+order_failed (Err e) s journals post ms trails parties owned told error =
+    λ p. run_unexplained s journals post ms trails e parties owned (told p) error
 
 pub node_read :
     (s : Plan) (n : ℕ) (ps : List Placed) (journal : List ℕ) (post : List Message) (res : Result (List Passage) Trouble) → ps ≡ placed_on s n
@@ -356,7 +429,7 @@ node_idle s n ps journal post trail is all none =
     }
 
 pub client_read :
-    (known : List HandlerId) (n : Newcomer) (journal : List ℕ) (post : List Message) (res : Result (List Passage) Trouble)
-    → ((ps : List Placement) → known ≡ map (λ p. p.handler) ps → IfOk res (TellsClientLife ps n journal post)) → IfOk res (TellsClientOf known n journal post)
-client_read known n journal post (Err e) told = tt
-client_read known n journal post (Ok trail) told = λ some limit ps knows. inl (told ps knows)
+    (n : Newcomer) (journal : List ℕ) (post : List Message) (res : Result (List Passage) Trouble)
+    → IfOk res (TellsClientLife n journal post) → IfOk res (TellsClientOf n journal post)
+client_read n journal post (Err e) told = tt
+client_read n journal post (Ok trail) told = λ some limit. inl told

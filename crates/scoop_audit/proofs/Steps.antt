@@ -10,10 +10,11 @@ use Rattle.scoop_message.specs.declared.name.HandlerId.{HandlerId}
 use Rattle.scoop_replay.specs.declared.node.Placed.{Placed}
 use Rattle.scoop_system.specs.declared.place.NodePlace.{NodePlace}
 use Rattle.scoop_system.specs.declared.place.HandlerPlace.{HandlerPlace}
+use Rattle.scoop_system.specs.Known.{handlers_on}
 use Rattle.scoop_system.specs.System.{NamedClass, Plan}
 use Rattle.scoop_audit.specs.declared.roster.Member.{Member}
 use Rattle.scoop_audit.specs.Members.{node_member}
-use Rattle.scoop_audit.specs.Parties.{handlers_on, has_handlers, placed_in}
+use Rattle.scoop_audit.specs.Parties.{has_handlers, placed_in}
 
 pub item_more : {A : Type 0} (xs : List A) (i : ℕ) (x : A) → i < length xs → x ≡ get_or xs i x → take (i + 1) xs ≡ take i xs ++ x ∷ []
 item_more xs i x less is = take_more xs i x less ∙ ap (λ y. take i xs ++ y ∷ []) (sym is)

@@ -4,6 +4,7 @@ use Rattle.std.proofs.lemmas.List.{length-append}
 use Rattle.std.proofs.lemmas.Grind.{flat_map-append}
 use Rattle.scoop_journal.specs.declared.line.Line.{Line}
 use Rattle.scoop_journal.specs.Journal.{ended}
+use Rattle.scoop_journal.specs.Line.{text_of}
 use Rattle.scoop_audit.specs.Lines.{text_of_all}
 
 -- the text of further lines
@@ -16,6 +17,10 @@ one_text l = append-nil (ended l)
 
 pub text_more : (bytes rest : List ℕ) (xs : List Line) (l : Line) → bytes ≡ text_of_all xs ++ (ended l ++ rest) → bytes ≡ text_of_all (xs ++ l ∷ []) ++ rest
 text_more bytes rest xs l is = texts_more bytes rest xs (l ∷ []) (is ∙ ap (λ ts. text_of_all xs ++ (ts ++ rest)) (sym (one_text l)))
+
+-- the next line, by its text
+pub next_line : (bytes text rest : List ℕ) (l : Line) → bytes ≡ text ++ 10 ∷ rest → text ≡ text_of l → bytes ≡ ended l ++ rest
+next_line bytes text rest l is at = is ∙ (ap (λ t. t ++ 10 ∷ rest) at ∙ sym (append_assoc (text_of l) (10 ∷ []) rest))
 
 -- a line leaves fewer bytes
 pub text_left : (bytes text rest : List ℕ) (byte : ℕ) → bytes ≡ text ++ byte ∷ rest → length rest < length bytes

@@ -7,7 +7,7 @@ use Rattle.scoop_handler.specs.Local.{LocalHandler}
 use Rattle.scoop_client.specs.Beginning.{greeting}
 use Rattle.scoop_book.specs.Moves.{Entry}
 use Rattle.scoop_driver.specs.declared.step.Step.{Step}
-use Rattle.scoop_model.specs.Step.{Placement, Newcomer}
+use Rattle.scoop_model.specs.Step.{Newcomer}
 use Rattle.scoop_weave.specs.System.{LocalClient, new_client}
 use Rattle.scoop_weave.specs.NodeHistories as node
 use Rattle.scoop_weave.specs.ClientSteps as client
@@ -82,14 +82,14 @@ client_passed c [] newest = refl
 client_passed c (ss ∷ done) newest = refl
 
 pub client_told :
-    (ps : List Placement) (n : Newcomer) (journal : List ℕ) (new : ClientValue) (post more : List Message) → n.stored ≡ 0
-    → ClientRead n.id n.batch journal (client_value (greeting n.id 1 (map (λ (p : Placement). p.handler) ps) 0 n.batch) []) new post more
-    → TellsClientLife ps n journal more new.trail
-client_told ps n journal new post more none read =
-    let joined : LocalClient = new_client (map (λ (p : Placement). p.handler) ps) n in
+    (n : Newcomer) (journal : List ℕ) (new : ClientValue) (post more : List Message) → n.stored ≡ 0
+    → ClientRead n.id n.batch journal (client_value (greeting n.id 1 n.handlers 0 n.batch) []) new post more
+    → TellsClientLife n journal more new.trail
+client_told n journal new post more none read =
+    let joined : LocalClient = new_client n in
     let begins : IsClientTale joined (new_client_tale joined) post [] =
     record { told = (tt, refl); passed = record { is = refl; numbered = tt } } in
-    let r = read.reads joined (new_client_tale joined) (ap (begun_at n (map (λ (p : Placement). p.handler) ps)) none) begins in
+    let r = read.reads joined (new_client_tale joined) (ap (begun_at n) none) begins in
     let s = read.turned joined r.tale r.now_is r.is_tale in
     let t : ClientTale = after_one_step last_turn r.tale in
     record {
@@ -102,5 +102,5 @@ client_told ps n journal new post more none read =
       traffic = subst (HasTraffic more new.trail) (client_passed joined t.done t.newest) s.0.passed;
     }
   where
-    begun_at : Newcomer → List HandlerId → ℕ → LocalClient
-    begun_at n hs stored = record { client = greeting n.id (stored + 1) hs 0 n.batch; stored = stored + 1 }
+    begun_at : Newcomer → ℕ → LocalClient
+    begun_at n stored = record { client = greeting n.id (stored + 1) n.handlers 0 n.batch; stored = stored + 1 }

@@ -9,7 +9,7 @@ use Rattle.scoop_model.specs.Step.{Placement}
 use Rattle.scoop_weave.specs.Lives.{ClientLife, IsClientLife, IsNodeLife, NodeLife, moves_of_client, moves_of_node, newcomers_of, placements_of}
 use Rattle.scoop_weave.specs.Lives.{words_in}
 use Rattle.scoop_weaver.specs.declared.traffic.Traffic.{Traffic}
-use Rattle.scoop_weaver.specs.Passing.{traffic_by, traffic_of}
+use Rattle.scoop_weaver.specs.Passing.{AreLives, traffic_by, traffic_of}
 use Rattle.scoop_weaver.specs.Trails.{HasOrder, HasTraffic, HaveTraffic}
 use Rattle.scoop_weaver.proofs.Lifting.{woven_world}
 use Rattle.scoop_audit.specs.Told.{newcomer, node_life, placements_on}
@@ -17,6 +17,8 @@ use Rattle.scoop_replay.specs.Client.{after_one_step}
 use Rattle.scoop_audit.specs.Client.{last_turn}
 use Rattle.scoop_audit.specs.World.{AreTold, ClientPages, IsExplained, IsToldClient, IsToldNode, NodePages, Weaves, placements_in, trails_of}
 use Rattle.scoop_audit.specs.World.{IsLifeOfClient, IsLifeOfNode, IsWrittenLife, silent_life}
+use Rattle.scoop_audit.specs.declared.error.Wrong.{Wrong}
+use Rattle.scoop_audit.specs.Unexplained.{HasNoOrder, IsUnsent}
 
 -- ---- nodes
 
@@ -47,41 +49,40 @@ node_lives ps post (n ∷ nodes) told =
 
 -- ---- clients
 
-record OneClient (ps : List Placement) (post : List Message) (c : ClientPages) : Type 0 where
+record OneClient (post : List Message) (c : ClientPages) : Type 0 where
   life : ClientLife
   joined : life.joined ≡ c.joined
-  is : IsClientLife ps life
-  own : IsLifeOfClient ps c life
-  traffic : HasTraffic post c.trail (map traffic_of (moves_of_client ps life))
+  is : IsClientLife life
+  own : IsLifeOfClient c life
+  traffic : HasTraffic post c.trail (map traffic_of (moves_of_client life))
 
-one_client : (ps : List Placement) (post : List Message) (c : ClientPages) → IsToldClient ps post c → OneClient ps post c
-one_client ps post c (inl told) =
+one_client : (post : List Message) (c : ClientPages) → IsToldClient post c → OneClient post c
+one_client post c (inl told) =
     let life : ClientLife = newcomer c.joined (after_one_step last_turn told.tale) in
-    let own : IsWrittenLife ps c life =
+    let own : IsWrittenLife c life =
     record { tale = told.tale; last = told.last; lines = told.lines; journal_is = told.journal_is; tells = told.tells; life_is = refl } in
     record { life = life; joined = refl; is = told.replays; own = inl own; traffic = told.traffic }
-one_client ps post c (inr silent) =
+one_client post c (inr silent) =
     record {
-      life = silent_life ps c.joined;
+      life = silent_life c.joined;
       joined = refl;
       is = (tt, refl);
       own = inr (silent.journal_is, refl);
       traffic = subst (λ xs. HasTraffic post xs []) (sym silent.trail_is) (record { is = refl; numbered = tt });
     }
 
-record ClientLives (ps : List Placement) (post : List Message) (clients : List ClientPages) : Type 0 where
+record ClientLives (post : List Message) (clients : List ClientPages) : Type 0 where
   lives : List ClientLife
   joined : newcomers_of lives ≡ map (λ c. c.joined) clients
-  each : AllByRecursion (IsClientLife ps) lives
-  own : AllZip (IsLifeOfClient ps) clients lives
-  traffic : HaveTraffic post (map (λ c. c.trail) clients) (map (λ ms. map traffic_of ms) (map (moves_of_client ps) lives))
+  each : AllByRecursion IsClientLife lives
+  own : AllZip IsLifeOfClient clients lives
+  traffic : HaveTraffic post (map (λ c. c.trail) clients) (map (λ ms. map traffic_of ms) (map moves_of_client lives))
 
-client_lives : (ps : List Placement) (post : List Message) (clients : List ClientPages) → AllByRecursion (IsToldClient ps post) clients
-    → ClientLives ps post clients
-client_lives ps post [] told = record { lives = []; joined = refl; each = tt; own = tt; traffic = tt }
-client_lives ps post (c ∷ clients) told =
-    let one = one_client ps post c told.0 in
-    let rest = client_lives ps post clients told.1 in
+client_lives : (post : List Message) (clients : List ClientPages) → AllByRecursion (IsToldClient post) clients → ClientLives post clients
+client_lives post [] told = record { lives = []; joined = refl; each = tt; own = tt; traffic = tt }
+client_lives post (c ∷ clients) told =
+    let one = one_client post c told.0 in
+    let rest = client_lives post clients told.1 in
     record {
       lives = one.life ∷ rest.lives;
       joined = ap (λ n. n ∷ newcomers_of rest.lives) one.joined ∙ ap (λ ns. c.joined ∷ ns) rest.joined;
@@ -98,22 +99,28 @@ zip_append R [] us (y ∷ ys) vs a b = absurd a
 zip_append R (x ∷ xs) us [] vs a b = absurd a
 zip_append R (x ∷ xs) us (y ∷ ys) vs a b = (a.0, zip_append R xs us ys vs a.1 b)
 
-pub told_world : (nodes : List NodePages) (clients : List ClientPages) (post : List Message) (turns : List ℕ) → AreTold nodes clients post
-    → Weaves post (trails_of nodes clients) turns → IsExplained nodes clients turns
-told_world nodes clients post turns told weaves =
+pub record ToldLives (nodes : List NodePages) (clients : List ClientPages) (post : List Message) : Type 0 where
+  pub lives : List NodeLife
+  pub others : List ClientLife
+  pub placed : placements_of lives ≡ placements_in nodes
+  pub joined : newcomers_of others ≡ map (λ c. c.joined) clients
+  pub each_node : AllZip (IsLifeOfNode (placements_in nodes)) nodes lives
+  pub each_client : AllZip IsLifeOfClient clients others
+  pub traffic : HaveTraffic post (trails_of nodes clients) (traffic_by lives others)
+  pub may_open : MayOpen (placements_of lives) (newcomers_of others)
+  pub are : AreLives lives others
+
+-- the lives that the journals tell
+pub told_lives : (nodes : List NodePages) (clients : List ClientPages) (post : List Message) → AreTold nodes clients post → ToldLives nodes clients post
+told_lives nodes clients post told =
     let ps : List Placement = placements_in nodes in
     let ns = node_lives ps post nodes told.each_node in
-    let cs = client_lives ps post clients told.each_client in
+    let cs = client_lives post clients told.each_client in
     let same : placements_of ns.lives ≡ ps = ns.placed in
     let parts : List (List Traffic) =
-    map (λ ms. map traffic_of ms) (map moves_of_node ns.lives) ++ map (λ ms. map traffic_of ms) (map (moves_of_client ps) cs.lives) in
+    map (λ ms. map traffic_of ms) (map moves_of_node ns.lives) ++ map (λ ms. map traffic_of ms) (map moves_of_client cs.lives) in
     let all : traffic_by ns.lives cs.lives ≡ parts =
-    map-append (λ ms. map traffic_of ms) (map moves_of_node ns.lives) (map (moves_of_client (placements_of ns.lives)) cs.lives)
-    ∙ ap (λ qs. map (λ ms. map traffic_of ms) (map moves_of_node ns.lives) ++ map (λ ms. map traffic_of ms) (map (moves_of_client qs) cs.lives)) same in
-    let o : HasOrder (traffic_by ns.lives cs.lives) turns =
-    subst (λ us. HasOrder us turns) (sym all)
-    (weaves parts (zip_append (HasTraffic post) (map (λ n. n.trail) nodes) (map (λ c. c.trail) clients)
-    (map (λ ms. map traffic_of ms) (map moves_of_node ns.lives)) (map (λ ms. map traffic_of ms) (map (moves_of_client ps) cs.lives)) ns.traffic cs.traffic)) in
+    map-append (λ ms. map traffic_of ms) (map moves_of_node ns.lives) (map moves_of_client cs.lives) in
     record {
       lives = ns.lives;
       others = cs.lives;
@@ -121,15 +128,45 @@ told_world nodes clients post turns told weaves =
       joined = cs.joined;
       each_node = ns.own;
       each_client = cs.own;
-      order = o.order;
-      turns_are = o.turns_are;
-      world =
-          woven_world ns.lives cs.lives o.order
-          (subst (λ qs. MayOpen qs (newcomers_of cs.lives)) (sym same) (subst (MayOpen ps) (sym cs.joined) told.opens))
-          (record {
+      traffic =
+          subst (HaveTraffic post (trails_of nodes clients)) (sym all)
+          (zip_append (HasTraffic post) (map (λ n. n.trail) nodes) (map (λ c. c.trail) clients)
+          (map (λ ms. map traffic_of ms) (map moves_of_node ns.lives)) (map (λ ms. map traffic_of ms) (map moves_of_client cs.lives)) ns.traffic cs.traffic);
+      may_open = subst (λ qs. MayOpen qs (newcomers_of cs.lives)) (sym same) (subst (MayOpen ps) (sym cs.joined) told.opens);
+      are =
+          record {
             apart = subst NoRepeats (sym ns.numbers) told.apart;
             each_node = subst (λ qs. AllByRecursion (IsNodeLife (words_in qs)) ns.lives) (sym same) ns.each;
-            each_client = subst (λ qs. AllByRecursion (IsClientLife qs) cs.lives) (sym same) cs.each;
-          })
-          o.woven;
+            each_client = cs.each;
+          };
+    }
+
+pub told_world : (nodes : List NodePages) (clients : List ClientPages) (post : List Message) (turns : List ℕ) → AreTold nodes clients post
+    → Weaves post (trails_of nodes clients) turns → IsExplained nodes clients turns
+told_world nodes clients post turns told weaves =
+    let t = told_lives nodes clients post told in
+    let o : HasOrder (traffic_by t.lives t.others) turns = weaves (traffic_by t.lives t.others) t.traffic in
+    record {
+      lives = t.lives;
+      others = t.others;
+      placed = t.placed;
+      joined = t.joined;
+      each_node = t.each_node;
+      each_client = t.each_client;
+      order = o.order;
+      turns_are = o.turns_are;
+      world = woven_world t.lives t.others o.order t.may_open t.are o.woven;
+    }
+
+-- if no order of such traffic is found, there is none of the lives
+pub told_lacking : (nodes : List NodePages) (clients : List ClientPages) (post : List Message) (w : Wrong) → AreTold nodes clients post
+    → ((parties : List (List Traffic)) → HaveTraffic post (trails_of nodes clients) parties → IsUnsent parties w) → HasNoOrder nodes clients w
+told_lacking nodes clients post w told unsent =
+    let t = told_lives nodes clients post told in
+    record {
+      lives = t.lives;
+      others = t.others;
+      each_node = t.each_node;
+      each_client = t.each_client;
+      unsent = unsent (traffic_by t.lives t.others) t.traffic;
     }

@@ -1,8 +1,10 @@
 pub mod Lines
 pub mod Node
 pub mod Client
+pub mod Wrong
 pub mod Told
 pub mod World
 pub mod Parties
 pub mod Run
 pub mod Members
+pub mod Unexplained

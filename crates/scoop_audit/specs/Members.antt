@@ -1,12 +1,13 @@
 -- The parties one after another, as the audit replays them.
-use Rattle.std.specs.Prelude.{◌≡◌, ◌≤◌, ◌⊎◌, ℕ, List, [], ◌∷◌, ◌++◌, length, map, slice_get, slice_set, Option, Some, None}
+use Rattle.std.specs.Prelude.{◌≡◌, ◌≤◌, ◌⊎◌, ℕ, IfSome, List, [], ◌∷◌, ◌++◌, length, map, slice_get, slice_set, Option, Some, None}
 use Rattle.std.specs.List.{AllZip}
 use Rattle.scoop_message.specs.declared.limits.TheConstants.{MAX_ENTRIES}
 use Rattle.scoop_message.specs.declared.message.Message.{Message}
 use Rattle.scoop_message.specs.declared.name.HandlerId.{HandlerId}
-use Rattle.scoop_model.specs.Step.{Placement, Newcomer}
+use Rattle.scoop_model.specs.Step.{Newcomer}
 use Rattle.scoop_system.specs.declared.place.NodePlace.{NodePlace}
 use Rattle.scoop_system.specs.declared.place.ClientPlace.{ClientPlace}
+use Rattle.scoop_system.specs.Known.{handlers_on}
 use Rattle.scoop_system.specs.System.{Plan}
 use Rattle.scoop_weaver.specs.declared.trail.Passage.{Passage}
 use Rattle.scoop_journal.specs.declared.line.Line.{Line}
@@ -16,26 +17,26 @@ use Rattle.scoop_audit.specs.declared.error.PartyName.{PartyName}
 use Rattle.scoop_audit.specs.declared.error.PartyName.TheVariants.{Node, Client}
 use Rattle.scoop_audit.specs.declared.roster.Member.{Member}
 use Rattle.scoop_audit.specs.Lines.{HasNoNewline}
-use Rattle.scoop_audit.specs.Parties.{handlers_on, nodes_in, placed_on}
+use Rattle.scoop_audit.specs.Parties.{client_named, joins_in, nodes_in, placed_on}
 use Rattle.scoop_audit.specs.Run.{journal_at}
-use Rattle.scoop_audit.specs.Told.{TellsLife, joining}
+use Rattle.scoop_audit.specs.Told.{TellsLife}
 use Rattle.scoop_audit.specs.World.{ClientPages, IsToldClient}
 
 -- ---- the roster
 
 abbrev pub node_member : NodePlace → Member
-node_member n = record { party = Node n.number; batch = 0; journal = None }
+node_member n = record { party = Node n.number; journal = None }
 
 abbrev pub client_member : ClientPlace → Member
-client_member c = record { party = Client c.client; batch = c.batch; journal = None }
+client_member c = record { party = Client c.client; journal = None }
 
 -- the parties of the file, before any has its journal
 abbrev pub members_in : Plan → List Member
 members_in s = map node_member (nodes_in s) ++ map client_member s.clients
 
 -- the party apart from its journal
-abbrev pub who : Member → PartyName × ℕ
-who m = (m.party, m.batch)
+abbrev pub who : Member → PartyName
+who m = m.party
 
 abbrev pub places_of : List Member → List (Option ℕ)
 places_of ms = map (λ m. m.journal) ms
@@ -91,25 +92,22 @@ abbrev pub client_pages : Newcomer → List ℕ → List Passage → ClientPages
 client_pages n journal trail = record { joined = n; journal = journal; trail = trail }
 
 -- the journal tells a life of the client, if a Log may carry so many entries
-abbrev pub TellsClientOf : List HandlerId → Newcomer → List ℕ → List Message → List Passage → Type 0
-TellsClientOf known n journal post trail =
-    1 ≤ n.batch → n.batch ≤ MAX_ENTRIES → (ps : List Placement) → known ≡ map (λ p. p.handler) ps
-    → IsToldClient ps post (client_pages n journal trail)
+abbrev pub TellsClientOf : Newcomer → List ℕ → List Message → List Passage → Type 0
+TellsClientOf n journal post trail = 1 ≤ n.batch → n.batch ≤ MAX_ENTRIES → IsToldClient post (client_pages n journal trail)
 
-abbrev pub TellsPartyOf : Plan → List HandlerId → List ℕ → List Message → List Passage → ℕ → PartyName → Type 0
-TellsPartyOf s known journal post trail batch (Node n) = TellsNodeOf s n journal post trail
-TellsPartyOf s known journal post trail batch (Client id) = TellsClientOf known (joining id batch) journal post trail
+abbrev pub TellsPartyOf : Plan → List ℕ → List Message → List Passage → PartyName → Type 0
+TellsPartyOf s journal post trail (Node n) = TellsNodeOf s n journal post trail
+TellsPartyOf s journal post trail (Client id) = IfSome (client_named s.clients id) (λ c. TellsClientOf (joins_in s c) journal post trail)
 
-abbrev pub TellsMember : Plan → List HandlerId → List (List ℕ) → List Message → Member → List Passage → Type 0
-TellsMember s known journals post m trail = TellsPartyOf s known (journal_at journals m.journal) post trail m.batch m.party
+abbrev pub TellsMember : Plan → List (List ℕ) → List Message → Member → List Passage → Type 0
+TellsMember s journals post m trail = TellsPartyOf s (journal_at journals m.journal) post trail m.party
 
 -- each party's journal tells what its trail has
-abbrev pub TellMembers : Plan → List HandlerId → List (List ℕ) → List Message → List Member → List (List Passage) → Type 0
-TellMembers s known journals post ms trails = AllZip (TellsMember s known journals post) ms trails
+abbrev pub TellMembers : Plan → List (List ℕ) → List Message → List Member → List (List Passage) → Type 0
+TellMembers s journals post ms trails = AllZip (TellsMember s journals post) ms trails
 
 -- one more trail, of what the party's journal tells
-pub record AddsTrail (s : Plan) (known : List HandlerId) (journal : List ℕ) (post : List Message) (m : Member) (old new : List (List Passage))
-    : Type 0 where
+pub record AddsTrail (s : Plan) (journal : List ℕ) (post : List Message) (m : Member) (old new : List (List Passage)) : Type 0 where
   pub trail : List Passage
   pub more : new ≡ old ++ trail ∷ []
-  pub tells : TellsPartyOf s known journal post trail m.batch m.party
+  pub tells : TellsPartyOf s journal post trail m.party

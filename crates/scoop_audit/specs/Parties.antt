@@ -1,8 +1,8 @@
 -- The parties that a system's file describes, as a world knows them.
-use Rattle.std.specs.Prelude.{ℕ, ◌==◌, Bool, List, flat_map, map, Option, option_to_list}
+use Rattle.std.specs.Prelude.{ℕ, ◌==◌, Bool, List, find, flat_map, map, Option, option_to_list}
 use Rattle.std.specs.List.{filter, list_any}
 use Rattle.std.specs.Option.{option_map}
-use Rattle.scoop_message.specs.declared.name.HandlerId.{HandlerId}
+use Rattle.scoop_message.specs.declared.name.ClientId.{ClientId}
 use Rattle.scoop_message.specs.Lists.{NoRepeats}
 use Rattle.scoop_object.specs.Class.{ClassTable}
 use Rattle.scoop_model.specs.Opening.{MayOpen}
@@ -11,6 +11,7 @@ use Rattle.scoop_replay.specs.declared.node.Placed.{Placed}
 use Rattle.scoop_system.specs.declared.place.NodePlace.{NodePlace}
 use Rattle.scoop_system.specs.declared.place.HandlerPlace.{HandlerPlace}
 use Rattle.scoop_system.specs.declared.place.ClientPlace.{ClientPlace}
+use Rattle.scoop_system.specs.Known.{handlers_on, known_to}
 use Rattle.scoop_system.specs.System.{NamedClass, Plan, class_table}
 use Rattle.scoop_audit.specs.Told.{joining, placements_on}
 
@@ -23,10 +24,6 @@ has_handlers s n = list_any (λ h. h.node == n) s.handlers
 -- the nodes that have handlers
 abbrev pub nodes_in : Plan → List NodePlace
 nodes_in s = filter (λ n. has_handlers s n.number) s.nodes
-
--- the handlers on the node of this number
-abbrev pub handlers_on : ℕ → List HandlerPlace → List HandlerPlace
-handlers_on n hs = filter (λ h. h.node == n) hs
 
 abbrev pub placed_as : HandlerPlace → ClassTable → Placed
 placed_as h class = record { handler = h.handler; class = class; words = h.words }
@@ -43,18 +40,18 @@ placed_on s n = flat_map (λ h. option_to_list (placed_in s.classes h)) (handler
 abbrev pub placements_in_file : Plan → List Placement
 placements_in_file s = flat_map (λ n. placements_on n.number (placed_on s n.number)) (nodes_in s)
 
--- the numbers of all handlers, node by node: each client knows them in this order
-abbrev pub known_in : Plan → List HandlerId
-known_in s = flat_map (λ n. map (λ h. h.handler) (handlers_on n.number s.handlers)) s.nodes
-
 -- ---- clients
 
--- a client of which no incarnation was stored before
-abbrev pub joins : ClientPlace → Newcomer
-joins c = joining c.client c.batch
+-- the client of this number
+abbrev pub client_named : List ClientPlace → ClientId → Option ClientPlace
+client_named clients id = find (λ c. c.client.0 == id.0) clients
+
+-- a client that knows the handlers that it uses, and of which no incarnation was stored before
+abbrev pub joins_in : Plan → ClientPlace → Newcomer
+joins_in s c = joining (known_to s c) c.client c.batch
 
 abbrev pub clients_in : Plan → List Newcomer
-clients_in s = map joins s.clients
+clients_in s = map (joins_in s) s.clients
 
 -- ---- all
 

@@ -18,15 +18,18 @@ pub record AreOwned (journals : List (List ℕ)) (places : List (Option ℕ)) : 
       → HasNoNewline bytes ⊎ ((i : ℕ) × (slice_get places i ≡ Some (Some place)))
 
 -- The parties are the file's nodes that have handlers, with these, and its clients. Each has its own one of the journals.
--- The turns are those of an order of the lives that the journals tell. This order is that of a world, if a world may open with
--- the file's parties.
-pub record Explains (s : Plan) (journals : List (List ℕ)) (turns : List ℕ) : Type 0 where
-  pub nodes : List NodePages
-  pub clients : List ClientPages
+pub record AreParties (s : Plan) (journals : List (List ℕ)) (nodes : List NodePages) (clients : List ClientPages) : Type 0 where
   pub places : List (Option ℕ)
   pub numbers : map (λ n. n.number) nodes ≡ map (λ n. n.number) (nodes_in s)
   pub placed : map (λ n. n.placed) nodes ≡ map (λ n. placed_on s n.number) (nodes_in s)
   pub joined : map (λ c. c.joined) clients ≡ clients_in s
   pub journals_are : map (λ n. n.journal) nodes ++ map (λ c. c.journal) clients ≡ map (journal_at journals) places
   pub owned : AreOwned journals places
+
+-- The turns are those of an order of the lives that the parties' journals tell. This order is that of a world, if a world may
+-- open with the file's parties.
+pub record Explains (s : Plan) (journals : List (List ℕ)) (turns : List ℕ) : Type 0 where
+  pub nodes : List NodePages
+  pub clients : List ClientPages
+  pub parties : AreParties s journals nodes clients
   pub explained : MayRun s → IsExplained nodes clients turns

@@ -56,19 +56,19 @@ pub record TellsLife (words : HandlerId → List ℕ) (n : ℕ) (ps : List Place
 
 -- ---- a client
 
--- a client of which no incarnation was stored before
-abbrev pub joining : ClientId → ℕ → Newcomer
-joining id batch = record { id = id; batch = batch; stored = 0 }
+-- a client that knows these handlers, and of which no incarnation was stored before
+abbrev pub joining : List HandlerId → ClientId → ℕ → Newcomer
+joining known id batch = record { id = id; batch = batch; stored = 0; handlers = known }
 
 abbrev pub newcomer : Newcomer → ClientTale → ClientLife
 newcomer n t = record { joined = n; first = first_of t.done t.newest; more = later_of t.done t.newest; now = t.now }
 
 -- the client's journal tells a life, with the last turn supposed, whose traffic the trail has
-pub record TellsClientLife (ps : List Placement) (n : Newcomer) (journal : List ℕ) (post : List Message) (trail : List Passage) : Type 0 where
+pub record TellsClientLife (n : Newcomer) (journal : List ℕ) (post : List Message) (trail : List Passage) : Type 0 where
   pub tale : ClientTale
   pub last : ℕ
   pub lines : List Line
   pub journal_is : IsJournalOf journal lines
-  pub tells : TellsClient n.id n.batch (new_client_tale (new_client (map (λ p. p.handler) ps) n)) last lines tale
-  pub replays : IsClientLife ps (newcomer n (after_one_step last_turn tale))
-  pub traffic : HasTraffic post trail (map traffic_of (moves_of_client ps (newcomer n (after_one_step last_turn tale))))
+  pub tells : TellsClient n.id n.batch (new_client_tale (new_client n)) last lines tale
+  pub replays : IsClientLife (newcomer n (after_one_step last_turn tale))
+  pub traffic : HasTraffic post trail (map traffic_of (moves_of_client (newcomer n (after_one_step last_turn tale))))

@@ -47,15 +47,15 @@ pub record IsSilent (c : ClientPages) : Type 0 where
 abbrev pub IsToldNode : List Placement → List Message → NodePages → Type 0
 IsToldNode ps post n = TellsLife (words_in ps) n.number n.placed n.journal post n.trail
 
-abbrev pub IsToldClient : List Placement → List Message → ClientPages → Type 0
-IsToldClient ps post c = TellsClientLife ps c.joined c.journal post c.trail ⊎ IsSilent c
+abbrev pub IsToldClient : List Message → ClientPages → Type 0
+IsToldClient post c = TellsClientLife c.joined c.journal post c.trail ⊎ IsSilent c
 
 -- each journal tells a life, which the trail has
 pub record AreTold (nodes : List NodePages) (clients : List ClientPages) (post : List Message) : Type 0 where
   pub apart : NoRepeats (map (λ n. n.number) nodes)
   pub opens : MayOpen (placements_in nodes) (map (λ c. c.joined) clients)
   pub each_node : AllByRecursion (IsToldNode (placements_in nodes) post) nodes
-  pub each_client : AllByRecursion (IsToldClient (placements_in nodes) post) clients
+  pub each_client : AllByRecursion (IsToldClient post) clients
 
 -- the node's journal tells this life
 pub record IsLifeOfNode (ps : List Placement) (n : NodePages) (life : NodeLife) : Type 0 where
@@ -66,20 +66,20 @@ pub record IsLifeOfNode (ps : List Placement) (n : NodePages) (life : NodeLife) 
   pub life_is : life ≡ node_life n.number n.placed tale
 
 -- the client's journal tells this life, with the last turn supposed
-pub record IsWrittenLife (ps : List Placement) (c : ClientPages) (life : ClientLife) : Type 0 where
+pub record IsWrittenLife (c : ClientPages) (life : ClientLife) : Type 0 where
   pub tale : ClientTale
   pub last : ℕ
   pub lines : List Line
   pub journal_is : IsJournalOf c.journal lines
-  pub tells : TellsClient c.joined.id c.joined.batch (new_client_tale (new_client (map (λ p. p.handler) ps) c.joined)) last lines tale
+  pub tells : TellsClient c.joined.id c.joined.batch (new_client_tale (new_client c.joined)) last lines tale
   pub life_is : life ≡ newcomer c.joined (after_one_step last_turn tale)
 
 -- the life of a client that did nothing
-abbrev pub silent_life : List Placement → Newcomer → ClientLife
-silent_life ps n = record { joined = n; first = []; more = []; now = new_client (map (λ (p : Placement). p.handler) ps) n }
+abbrev pub silent_life : Newcomer → ClientLife
+silent_life n = record { joined = n; first = []; more = []; now = new_client n }
 
-abbrev pub IsLifeOfClient : List Placement → ClientPages → ClientLife → Type 0
-IsLifeOfClient ps c life = IsWrittenLife ps c life ⊎ ((c.journal ≡ []) × (life ≡ silent_life ps c.joined))
+abbrev pub IsLifeOfClient : ClientPages → ClientLife → Type 0
+IsLifeOfClient c life = IsWrittenLife c life ⊎ ((c.journal ≡ []) × (life ≡ silent_life c.joined))
 
 -- these turns are those of an order of the moves of the lives that the journals tell, and this order is that of a world
 pub record IsExplained (nodes : List NodePages) (clients : List ClientPages) (turns : List ℕ) : Type 0 where
@@ -88,7 +88,7 @@ pub record IsExplained (nodes : List NodePages) (clients : List ClientPages) (tu
   pub placed : placements_of lives ≡ placements_in nodes
   pub joined : newcomers_of others ≡ map (λ c. c.joined) clients
   pub each_node : AllZip (IsLifeOfNode (placements_in nodes)) nodes lives
-  pub each_client : AllZip (IsLifeOfClient (placements_in nodes)) clients others
+  pub each_client : AllZip IsLifeOfClient clients others
   pub order : List (ℕ × Traffic)
   pub turns_are : map (λ x. x.0) order ≡ turns
   pub world : IsOfWorld lives others order

@@ -1,15 +1,22 @@
 //! The audit of all parties.
 
-ghost use Rattle.std.specs.Prelude.{◌≡◌, ◌≤◌, ◌++◌, ◌∷◌, [], ℕ, List, length, map, IfOk, IfSome, OnOk};
+ghost use Rattle.std.specs.Prelude.{◌≡◌, ◌≤◌, ◌++◌, ◌∷◌, [], ℕ, List, length, map, IfErr, IfOk, IfSome, OnOk};
 ghost use Rattle.scoop_message.specs.declared.limits.TheConstants.{MAX_ENTRIES};
 ghost use Rattle.scoop_message.specs.declared.name.HandlerId.{HandlerId as Name};
+ghost use Rattle.scoop_system.specs.Known.{handlers_on};
 ghost use Rattle.scoop_model.specs.Step.{Placement};
+ghost use Rattle.scoop_system.specs.System.{Plan};
+ghost use Rattle.scoop_weaver.specs.declared.traffic.Traffic.{Traffic};
 ghost use Rattle.scoop_weaver.specs.Post.{Grows};
+ghost use Rattle.scoop_weaver.specs.Trails.{HaveTraffic};
+ghost use Rattle.scoop_weaver.specs.Weaving.{IsUnexplained};
 ghost use Rattle.scoop_audit.specs.Members.{AddsTrail, TellMembers, TellsClientOf, TellsNodeOf, TellsPartyOf};
-ghost use Rattle.scoop_audit.specs.Parties.{handlers_on, known_in, placed_in, placed_on};
+ghost use Rattle.scoop_audit.specs.Parties.{client_named, joins_in, placed_in, placed_on};
 ghost use Rattle.scoop_audit.specs.Run.{Explains, journal_at};
 ghost use Rattle.scoop_audit.specs.Told.{TellsClientLife, TellsLife, joining};
+ghost use Rattle.scoop_audit.specs.Unexplained.{IsAuditError, IsOrderError, IsStop, IsStopAmong, PartyStops};
 ghost use Rattle.scoop_audit.specs.World.{Weaves};
+ghost use Rattle.scoop_audit.specs.Wrong.{IfWrong, StopsClient, StopsNode};
 
 use crate::blocks::Blocks;
 use crate::client::{Joined, replay_client};
@@ -20,7 +27,7 @@ use crate::pages::Pages;
 use crate::places::move_at;
 use crate::remarks::Remarks;
 use crate::roster::{Member, roster};
-use scoop_message::{HandlerId, Message, OutOfMemory, limits};
+use scoop_message::{ClientId, HandlerId, Message, OutOfMemory, limits};
 use scoop_replay::{ClientReplay, NodeReplay, Placed};
 use scoop_system::{HandlerPlace, System};
 use scoop_weaver::{NoWeave, Post, Trail, weave_trails};
@@ -96,8 +103,10 @@ impl Explained {
     }
 }
 
-// The audit's error for the trouble of a replay.
-fn placed(trouble: Trouble, tale: &Tale) -> AuditError {
+// The audit's error for the trouble of this party's replay.
+fn placed(trouble: Trouble, party: PartyName, tale: &Tale) -> AuditError
+    ensures { (s : Plan) (journal : List ℕ) → IfWrong (PartyStops s journal party) trouble → IsStop s journal party result }
+{
     match trouble {
         Trouble::OutOfMemory => AuditError::OutOfMemory,
         Trouble::Fault(line, fault) => AuditError::Fault(tale.journal.unwrap_or(0), line, fault),
@@ -107,7 +116,7 @@ fn placed(trouble: Trouble, tale: &Tale) -> AuditError {
                 None => 0,
             };
             let found = Move {
-                party: tale.party(),
+                party,
                 life: tale.lives() as u64,
                 entry,
             };
@@ -183,6 +192,7 @@ fn read_node(
     requires { 1 ≤ length placed.now }
     ensures grows { OnOk result (Grows post.old post.new) }
     ensures told { (words : Name → List ℕ) → IfOk result (TellsLife words number placed.now bytes.now post.new) }
+    ensures stops { (words : Name → List ℕ) → IfErr result (IfWrong (StopsNode words number placed.now bytes.now)) }
 {
     let mut node = match NodeReplay::new(alloc, number, placed) {
         Ok(Some(node)) => node,
@@ -205,6 +215,7 @@ fn tell_node(
 ) -> Result<Trail, Trouble>
     ensures grows { OnOk result (Grows post.old post.new) }
     ensures told { IfOk result (TellsNodeOf system.now number bytes.now post.new) }
+    ensures stops { IfErr result (IfWrong (PartyStops system.now bytes.now (PartyName.Node number))) }
 {
     let Some(placed) = placed_on(alloc, system, number)? else {
         return Err(Trouble::OutOfMemory);
@@ -227,8 +238,8 @@ fn read_client(
     requires some { 1 ≤ joined.now.batch }
     requires limit { joined.now.batch ≤ MAX_ENTRIES }
     ensures grows { OnOk result (Grows post.old post.new) }
-    ensures told { (ps : List Placement) → known.now ≡ map (λ p. p.handler) ps
-        → IfOk result (TellsClientLife ps (joining joined.now.id joined.now.batch) bytes.now post.new) }
+    ensures told { IfOk result (TellsClientLife (joining known.now joined.now.id joined.now.batch) bytes.now post.new) }
+    ensures stops { IfErr result (IfWrong (StopsClient (joining known.now joined.now.id joined.now.batch) bytes.now)) }
 {
     let mut replay = match ClientReplay::new(alloc, joined.id, known, joined.batch) {
         Ok(replay) => replay,
@@ -250,7 +261,8 @@ fn tell_client(
     pages: &mut Pages<'_>,
 ) -> Result<Trail, Trouble>
     ensures grows { OnOk result (Grows post.old post.new) }
-    ensures told { IfOk result (TellsClientOf known.now (joining joined.now.id joined.now.batch) bytes.now post.new) }
+    ensures told { IfOk result (TellsClientOf (joining known.now joined.now.id joined.now.batch) bytes.now post.new) }
+    ensures stops { IfErr result (IfWrong (StopsClient (joining known.now joined.now.id joined.now.batch) bytes.now)) }
 {
     if bytes.is_empty() {
         return Ok(Trail::new(alloc));
@@ -262,28 +274,47 @@ fn tell_client(
     read_client(alloc, joined, known, bytes, post, pages)
 }
 
+// Replays the client of this number with the handlers that it uses. One that isn't in the system's file has no journal.
+fn tell_named(
+    alloc: Global,
+    system: &System,
+    id: ClientId,
+    bytes: &[u8],
+    post: &mut Post,
+    pages: &mut Pages<'_>,
+) -> Result<Trail, Trouble>
+    ensures grows { OnOk result (Grows post.old post.new) }
+    ensures told { IfOk result (λ trail. IfSome (client_named system.now.clients id)
+        (λ c. TellsClientOf (joins_in system.now c) bytes.now post.new trail)) }
+    ensures stops { IfErr result (IfWrong (PartyStops system.now bytes.now (PartyName.Client id))) }
+{
+    let Some(place) = system.client(id) else {
+        return Ok(Trail::new(alloc));
+    };
+    let known = system.known_to(alloc, place)?;
+    let joined = Joined {
+        id: place.client,
+        batch: place.batch,
+    };
+    tell_client(alloc, &joined, &known, bytes, post, pages)
+}
+
 // Replays a party.
 fn tell_party(
     alloc: Global,
     system: &System,
-    known: &[HandlerId],
     member: &Member,
     bytes: &[u8],
     post: &mut Post,
     pages: &mut Pages<'_>,
 ) -> Result<Trail, Trouble>
     ensures grows { OnOk result (Grows post.old post.new) }
-    ensures told { IfOk result (λ trail. TellsPartyOf system.now known.now bytes.now post.new trail member.now.batch member.now.party) }
+    ensures told { IfOk result (λ trail. TellsPartyOf system.now bytes.now post.new trail member.now.party) }
+    ensures stops { IfErr result (IfWrong (PartyStops system.now bytes.now member.now.party)) }
 {
     match member.party {
         PartyName::Node(number) => tell_node(alloc, system, number, bytes, post, pages),
-        PartyName::Client(id) => {
-            let joined = Joined {
-                id,
-                batch: member.batch,
-            };
-            tell_client(alloc, &joined, known, bytes, post, pages)
-        }
+        PartyName::Client(id) => tell_named(alloc, system, id, bytes, post, pages),
     }
 }
 
@@ -291,7 +322,6 @@ fn tell_party(
 fn tell(
     alloc: Global,
     system: &System,
-    known: &[HandlerId],
     member: &Member,
     bytes: &[u8],
     post: &mut Post,
@@ -299,7 +329,8 @@ fn tell(
     has_chart: bool,
 ) -> Result<(Tale, Trail, Remarks), AuditError>
     ensures grows { OnOk result (Grows post.old post.new) }
-    ensures told { IfOk result (λ told. TellsPartyOf system.now known.now bytes.now post.new told.1 member.now.batch member.now.party) }
+    ensures told { IfOk result (λ told. TellsPartyOf system.now bytes.now post.new told.1 member.now.party) }
+    ensures stops { IfErr result (IsStop system.now bytes.now member.now.party) }
 {
     let mut remarks = Remarks::new(alloc, has_chart);
     let mut tale = Tale::new(alloc, member.party, member.journal);
@@ -308,35 +339,10 @@ fn tell(
         blocks,
         remarks: &mut remarks,
     };
-    match tell_party(alloc, system, known, member, bytes, post, &mut pages) {
+    match tell_party(alloc, system, member, bytes, post, &mut pages) {
         Ok(trail) => Ok((tale, trail, remarks)),
-        Err(trouble) => Err(placed(trouble, &tale)),
+        Err(trouble) => Err(placed(trouble, member.party, &tale)),
     }
-}
-
-// Adds the handlers on the node of this number.
-fn add_known(system: &System, number: u32, known: &mut Vec<HandlerId>) -> Result<(), OutOfMemory>
-    ensures { OnOk result (known.new.items ≡ known.old.items ++ map (λ h. h.handler) (handlers_on number system.now.handlers)) }
-{
-    let handlers = system.handlers();
-    for place in handlers {
-        if place.node == number {
-            known.push(place.handler)?;
-        }
-    }
-    Ok(())
-}
-
-// The handlers of the system, node by node: every client knows them in this order.
-fn known_handlers(alloc: Global, system: &System) -> Result<Vec<HandlerId>, OutOfMemory>
-    ensures { IfOk result (λ known. known.items ≡ known_in system.now) }
-{
-    let mut known = Vec::new(alloc);
-    let nodes = system.nodes();
-    for node in nodes {
-        add_known(system, node.number, &mut known)?;
-    }
-    Ok(known)
 }
 
 // The party that would have sent the message, if it has no journal.
@@ -354,17 +360,32 @@ fn silent_party(system: &System, tales: &[Tale], message: &Message) -> Option<Pa
     None
 }
 
+// How many handlers the party knows, if it is a client.
+fn count_known(alloc: Global, system: &System, party: PartyName) -> Result<usize, OutOfMemory> {
+    let PartyName::Client(id) = party else {
+        return Ok(0);
+    };
+    let Some(place) = system.client(id) else {
+        return Ok(0);
+    };
+    let known = system.known_to(alloc, place)?;
+    Ok(known.len())
+}
+
 // The error for the move at this place of a party's trail, whose message no party sent.
 fn unsent(
+    alloc: Global,
     system: &System,
     journals: &[Journal<'_>],
-    known: &[HandlerId],
     tales: &[Tale],
     trails: &[Trail],
     post: &Post,
     party: usize,
     place: usize,
-) -> AuditError {
+) -> AuditError
+    ensures { (parties : List (List Traffic)) → HaveTraffic post.now trails.now parties → IsUnexplained parties party place
+        → IsOrderError parties result }
+{
     let Some(tale) = tales.get(party) else {
         return AuditError::OutOfMemory;
     };
@@ -377,7 +398,10 @@ fn unsent(
     let Some(message) = post.message(next.heard) else {
         return AuditError::OutOfMemory;
     };
-    let found = move_at(tale, bytes_of(journals, tale.journal), known.len(), place);
+    let Ok(handlers) = count_known(alloc, system, tale.party()) else {
+        return AuditError::OutOfMemory;
+    };
+    let found = move_at(tale, bytes_of(journals, tale.journal), handlers, place);
     let silent = silent_party(system, tales, &message);
     AuditError::Unexplained(found, Wrong::Unsent(message, silent))
 }
@@ -387,18 +411,18 @@ fn order_of(
     alloc: Global,
     system: &System,
     journals: &[Journal<'_>],
-    known: &[HandlerId],
     tales: &[Tale],
     trails: &[Trail],
     post: &Post,
 ) -> Result<Vec<u32>, AuditError>
-    ensures { IfOk result (λ order. Weaves post.now trails.now order.items) }
+    ensures order { IfOk result (λ order. Weaves post.now trails.now order.items) }
+    ensures lacks { (parties : List (List Traffic)) → HaveTraffic post.now trails.now parties → IfErr result (IsOrderError parties) }
 {
     match weave_trails(alloc, post, trails) {
         Ok(order) => Ok(order),
         Err(NoWeave::OutOfMemory) => Err(AuditError::OutOfMemory),
         Err(NoWeave::Unsent(party, place)) => {
-            Err(unsent(system, journals, known, tales, trails, post, party, place))
+            Err(unsent(alloc, system, journals, tales, trails, post, party, place))
         }
     }
 }
@@ -423,20 +447,18 @@ fn add(
 fn replay(
     alloc: Global,
     system: &System,
-    known: &[HandlerId],
     member: &Member,
     bytes: &[u8],
     has_chart: bool,
     replayed: &mut Replayed,
 ) -> Result<(), AuditError>
     ensures grows { OnOk result (Grows replayed.old.post replayed.new.post) }
-    ensures adds { OnOk result (AddsTrail system.now known.now bytes.now replayed.new.post member.now replayed.old.trails.items
-        replayed.new.trails.items) }
+    ensures adds { OnOk result (AddsTrail system.now bytes.now replayed.new.post member.now replayed.old.trails.items replayed.new.trails.items) }
+    ensures stops { IfErr result (IsStop system.now bytes.now member.now.party) }
 {
     let told = tell(
         alloc,
         system,
-        known,
         member,
         bytes,
         &mut replayed.post,
@@ -457,17 +479,17 @@ fn replay_all(
     alloc: Global,
     system: &System,
     journals: &[Journal<'_>],
-    known: &[HandlerId],
     members: &[Member],
     has_chart: bool,
     replayed: &mut Replayed,
 ) -> Result<(), AuditError>
-    ensures { OnOk result (replayed.old.trails.items ≡ [] → TellMembers system.now known.now (map (λ j. j.bytes.now) journals.now)
+    ensures told { OnOk result (replayed.old.trails.items ≡ [] → TellMembers system.now (map (λ j. j.bytes.now) journals.now)
         replayed.new.post members.now replayed.new.trails.items) }
+    ensures stops { IfErr result (IsStopAmong system.now (map (λ j. j.bytes.now) journals.now) members.now) }
 {
     for member in members {
         let bytes = bytes_of(journals, member.journal);
-        match replay(alloc, system, known, member, bytes, has_chart, replayed) {
+        match replay(alloc, system, member, bytes, has_chart, replayed) {
             Ok(()) => {}
             Err(error) => return Err(error),
         }
@@ -483,14 +505,12 @@ fn explain(
     has_chart: bool,
     replayed: &mut Replayed,
 ) -> Result<Vec<u32>, AuditError>
-    ensures { IfOk result (λ order. replayed.old.trails.items ≡ []
+    ensures explains { IfOk result (λ order. replayed.old.trails.items ≡ []
         → Explains system.now (map (λ j. j.bytes.now) journals.now) order.items) }
+    ensures error { IfErr result (λ e. replayed.old.trails.items ≡ [] → IsAuditError system.now (map (λ j. j.bytes.now) journals.now) e) }
 {
     let members = roster(alloc, system, journals)?;
-    let known = known_handlers(alloc, system)?;
-    match replay_all(
-        alloc, system, journals, &known, &members, has_chart, replayed,
-    ) {
+    match replay_all(alloc, system, journals, &members, has_chart, replayed) {
         Ok(()) => {}
         Err(error) => return Err(error),
     }
@@ -498,7 +518,6 @@ fn explain(
         alloc,
         system,
         journals,
-        &known,
         &replayed.tales,
         &replayed.trails,
         &replayed.post,
@@ -525,13 +544,17 @@ fn nothing_replayed(alloc: Global) -> Replayed
 /// a party. If a world may open with the system's parties (`MayRun`), the order is that of a world, in which each party lives
 /// the life that its journal tells. [`systems_may_run`](crate::systems_may_run) proves `MayRun` of each system that was read
 /// and has a handler.
+///
+/// `Unexplained` if the first lines of the named party's journal can be replayed, and the next one tells what can't have
+/// happened then; or if a message was heard that no order of any first moves of the lives sends before (`IsAuditError`).
 pub fn audit(
     alloc: Global,
     system: &System,
     journals: &[Journal<'_>],
     has_chart: bool,
 ) -> Result<Explained, AuditError>
-    ensures { IfOk result (Explains system.now (map (λ j. j.bytes.now) journals.now)) }
+    ensures explains { IfOk result (Explains system.now (map (λ j. j.bytes.now) journals.now)) }
+    ensures error { IfErr result (IsAuditError system.now (map (λ j. j.bytes.now) journals.now)) }
 {
     let mut replayed = nothing_replayed(alloc);
     match explain(alloc, system, journals, has_chart, &mut replayed) {

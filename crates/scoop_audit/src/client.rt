@@ -1,12 +1,17 @@
 //! The replay of a client's journal.
 
-ghost use Rattle.std.specs.Prelude.{◌≡◌, ◌++◌, ◌<◌, ℕ, IfNone, IfOk, List, OnOk};
+ghost use Rattle.std.specs.Prelude.{◌≡◌, ◌++◌, ◌<◌, ℕ, IfErr, IfNone, IfOk, List, OnOk, Some};
+ghost use Rattle.scoop_client.specs.State.{ClientState};
+ghost use Rattle.scoop_driver.specs.declared.step.Step.{Step};
 ghost use Rattle.scoop_driver.specs.declared.step.Step.TheVariants.{Gave, Turned};
 ghost use Rattle.scoop_journal.specs.Journal.{ended};
+ghost use Rattle.scoop_journal.specs.declared.line.Line.{Line as Written};
 ghost use Rattle.scoop_message.specs.declared.message.Message.{Message as Told};
 ghost use Rattle.scoop_replay.specs.Client.{ClientValue, StepsOn};
+ghost use Rattle.scoop_replay.specs.Refusals.{IsClientRefusal};
 ghost use Rattle.scoop_weaver.specs.Post.{Grows};
-ghost use Rattle.scoop_audit.specs.Client.{ClientRead, ClientUpTo, StepsBy, last_turn as supposed, received_as};
+ghost use Rattle.scoop_audit.specs.Client.{ClientRead, ClientUpTo, StepsBy, last_turn as supposed, received_as, step_of};
+ghost use Rattle.scoop_audit.specs.Wrong.{ClientStops, IfWrong, IsNotWrong, IsWrongOf};
 
 use crate::cursor::{Cursor, read_line};
 use crate::error::{Fault, PartyName, Trouble, Wrong};
@@ -30,7 +35,9 @@ pub(crate) struct Joined {
 }
 
 // Why the step of this line isn't made.
-fn unmade(number: u64, error: ReplayError) -> Trouble {
+fn unmade(number: u64, error: ReplayError) -> Trouble
+    ensures { (c : ClientState) (l : Written) (s : Step) → step_of l ≡ Some s → IsClientRefusal c s error → IfWrong (IsWrongOf c l) result }
+{
     match error {
         ReplayError::Refused(refusal) => Trouble::Wrong(Wrong::Refused(refusal)),
         ReplayError::NothingDue(place) => Trouble::Wrong(Wrong::NothingDue(place)),
@@ -48,6 +55,7 @@ fn last_turn(
 ) -> Result<(), Trouble>
     ensures grows { OnOk result (Grows post.old post.new) }
     ensures turned { OnOk result (StepsOn supposed replay.old replay.new post.old post.new) }
+    ensures memory { IfErr result IsNotWrong }
 {
     pages.tale.turns = pages.tale.turns.saturating_add(1);
     match replay.wait(alloc, post) {
@@ -68,6 +76,7 @@ fn go_on(
     ensures grows { OnOk result (Grows post.old post.new) }
     ensures told { (last : ℕ) (bytes rest : List ℕ) (first : ClientValue) (sent : List Told)
         → OnOk result (ClientUpTo id batch last bytes rest first replay.old sent post.old → ClientUpTo id batch last bytes rest first replay.new sent post.new) }
+    ensures memory { IfErr result IsNotWrong }
 {
     last_turn(alloc, replay, post, pages)?;
     pages.blocks.cut(&replay.block())?;
@@ -113,6 +122,7 @@ fn begin_life(
         → OnOk result (ClientUpTo joined.now.id joined.now.batch last bytes rest first replay.old sent post.old
         → ClientUpTo joined.now.id joined.now.batch last bytes rest first replay.new sent post.new) }
     ensures inc { OnOk result (replay.new.client.inc ≡ inc) }
+    ensures memory { IfErr result IsNotWrong }
 {
     for _ in replay.inc()..inc {
         match go_on(alloc, joined.id, joined.batch, replay, post, pages) {
@@ -137,6 +147,7 @@ fn give(
 ) -> Result<(), ReplayError>
     ensures grows { OnOk result (Grows post.old post.new) }
     ensures steps { OnOk result (StepsOn (Gave command.now) replay.old replay.new post.old post.new) }
+    ensures refused { IfErr result (IsClientRefusal replay.old.client (Gave command.now)) }
 {
     let place = replay.moves();
     match replay.give(alloc, post, command) {
@@ -158,6 +169,7 @@ fn turn(
 ) -> Result<(), ReplayError>
     ensures grows { OnOk result (Grows post.old post.new) }
     ensures steps { OnOk result (StepsOn (Turned (received_as arrival.now)) replay.old replay.new post.old post.new) }
+    ensures refused { IfErr result (IsClientRefusal replay.old.client (Turned (received_as arrival.now))) }
 {
     match arrival {
         Arrival::Frame(version, message) => replay.hear(alloc, post, *version, message),
@@ -179,6 +191,7 @@ fn take(
 ) -> Result<(), Trouble>
     ensures grows { OnOk result (Grows post.old post.new) }
     ensures steps { OnOk result (StepsBy line.now replay.old replay.new post.old post.new) }
+    ensures wrong { IfErr result (IfWrong (IsWrongOf replay.old.client line.now)) }
 {
     pages.tale.count();
     match line {
@@ -219,6 +232,9 @@ fn take_line(
     ensures told { (bytes rest : List ℕ) (first : ClientValue) (sent : List Told)
         → IfOk result (λ next. ClientUpTo joined.now.id joined.now.batch last bytes (ended line.now ++ rest) first replay.old sent post.old
         → ClientUpTo joined.now.id joined.now.batch next bytes rest first replay.new sent post.new) }
+    ensures stops { (bytes rest : List ℕ) (first : ClientValue) (sent : List Told)
+        → IfErr result (λ t. ClientUpTo joined.now.id joined.now.batch last bytes (ended line.now ++ rest) first replay.old sent post.old
+        → IfWrong (ClientStops joined.now.id joined.now.batch bytes first sent) t) }
 {
     if let Line::ClientLife(client, inc, batch) = *line {
         match refuse_life(joined, client, last, inc, batch) {
@@ -232,8 +248,10 @@ fn take_line(
     if replay.inc() != last {
         return Err(Trouble::Fault(number, Fault::NoJournal));
     }
-    take(alloc, number, line, replay, post, pages)?;
-    Ok(last)
+    match take(alloc, number, line, replay, post, pages) {
+        Ok(()) => Ok(last),
+        Err(trouble) => Err(trouble),
+    }
 }
 
 /// Replays the journal of a client that has begun with its first incarnation.
@@ -247,6 +265,7 @@ pub(crate) fn replay_client(
 ) -> Result<(), Trouble>
     ensures grows { OnOk result (Grows post.old post.new) }
     ensures told { OnOk result (ClientRead joined.now.id joined.now.batch bytes.now replay.old replay.new post.old post.new) }
+    ensures stops { IfErr result (IfWrong (ClientStops joined.now.id joined.now.batch bytes.now replay.old post.old)) }
 {
     let mut cursor = Cursor::new(bytes);
     let mut last = 0;

@@ -1,9 +1,10 @@
 //! The lines of a journal, one after another.
 
-ghost use Rattle.std.specs.Prelude.{◌≡◌, ◌++◌, ◌∷◌, IfOk, MatchOption};
+ghost use Rattle.std.specs.Prelude.{◌≡◌, ◌++◌, ◌∷◌, IfErr, IfOk, MatchOption};
 ghost use Rattle.scoop_journal.specs.Journal.{ended};
 ghost use Rattle.scoop_journal.specs.Line.{text_of};
 ghost use Rattle.scoop_audit.specs.Lines.{HasNoNewline};
+ghost use Rattle.scoop_audit.specs.Wrong.{IsNotWrong};
 
 use crate::error::{Fault, Trouble};
 use memchr::memchr;
@@ -41,7 +42,8 @@ impl<'a> Cursor<'a> {
 
     /// The next line, if there is one. The fault of a text that is no line has its number.
     pub(crate) fn next(&mut self) -> Result<Option<Line<'a>>, Trouble>
-        ensures { IfOk result (λ o. MatchOption o (HasNoNewline self.old.rest.now) (λ l. self.old.rest.now ≡ ended l ++ self.new.rest.now)) }
+        ensures fault { IfErr result IsNotWrong }
+        ensures next { IfOk result (λ o. MatchOption o (HasNoNewline self.old.rest.now) (λ l. self.old.rest.now ≡ ended l ++ self.new.rest.now)) }
     {
         let Some(text) = self.next_text() else {
             return Ok(None);
@@ -55,7 +57,8 @@ impl<'a> Cursor<'a> {
 
 /// The line of this number with this text.
 pub(crate) fn read_line(number: u64, text: &[u8]) -> Result<Line<'_>, Trouble>
-    ensures { IfOk result (λ l. text.now ≡ text_of l) }
+    ensures fault { IfErr result IsNotWrong }
+    ensures line { IfOk result (λ l. text.now ≡ text_of l) }
 {
     match read(text) {
         Ok(line) => Ok(line),

@@ -1,5 +1,7 @@
 //! Why journals have no explanation.
 
+ghost use Rattle.std.specs.Prelude.{◌≡◌};
+
 use scoop_client::ClientError;
 use scoop_journal::LineFault;
 use scoop_message::{ClientId, HandlerId, Message, OutOfMemory};
@@ -84,12 +86,20 @@ pub enum AuditError {
 }
 
 impl From<OutOfMemory> for Trouble {
+    ghost use Rattle.scoop_audit.specs.declared.error.Trouble.TheVariants as variants;
+
+    ghost from_gives = { λ _ e. e ≡ variants.OutOfMemory };
+
     fn from(_: OutOfMemory) -> Trouble {
         Trouble::OutOfMemory
     }
 }
 
 impl From<OutOfMemory> for AuditError {
+    ghost use Rattle.scoop_audit.specs.declared.error.AuditError.TheVariants as variants;
+
+    ghost from_gives = { λ _ e. e ≡ variants.OutOfMemory };
+
     fn from(_: OutOfMemory) -> AuditError {
         AuditError::OutOfMemory
     }

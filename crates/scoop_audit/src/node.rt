@@ -1,12 +1,16 @@
 //! The replay of a node's journal.
 
-ghost use Rattle.std.specs.Prelude.{◌≡◌, ◌≤◌, ◌++◌, ℕ, IfSome, IsTrue, List, OnOk, length, slice_get};
-ghost use Rattle.scoop_handler.specs.Local.{number_in};
+ghost use Rattle.std.specs.Prelude.{◌≡◌, ◌≢◌, ◌≤◌, ◌++◌, ℕ, IfErr, IfSome, IsTrue, List, None, OnOk, length, slice_get};
+ghost use Rattle.scoop_book.specs.declared.event.Event.{Event};
+ghost use Rattle.scoop_book.specs.declared.event.Event.TheVariants as event;
+ghost use Rattle.scoop_handler.specs.Local.{LocalHandler, number_in};
 ghost use Rattle.scoop_journal.specs.Journal.{ended};
 ghost use Rattle.scoop_message.specs.declared.message.Message.{Message as Told};
 ghost use Rattle.scoop_replay.specs.Node.{BeganSo, GoesOn, HeardSo, NodeValue, OpensAgain, RanSo};
+ghost use Rattle.scoop_replay.specs.Refusals.{IsNodeRefusal};
 ghost use Rattle.scoop_weaver.specs.Post.{Grows};
 ghost use Rattle.scoop_audit.specs.Node.{BeginsLife, EntersBy, NodeRead, NodeUpTo, OpensAs, OpensFrom, TellsEntry};
+ghost use Rattle.scoop_audit.specs.Wrong.{IfWrong, IsNotWrong, IsWrongAt, LifeStops, NodeStops, OpeningStops, line_of};
 
 use crate::cursor::{Cursor, read_line};
 use crate::error::{Fault, PartyName, Trouble, Wrong};
@@ -20,7 +24,9 @@ use scoop_weaver::Post;
 use std::alloc::Global;
 
 // Why the entry of this line isn't made, whose reply is this one.
-fn unmade(node: u32, number: u64, error: ReplayError, reply: &Option<Message>) -> Trouble {
+fn unmade(node: u32, number: u64, error: ReplayError, reply: &Option<Message>) -> Trouble
+    ensures { (hs : List LocalHandler) (e : Event) → IsNodeRefusal hs e reply.now error → IfWrong (IsWrongAt hs (line_of e reply.now)) result }
+{
     match error {
         ReplayError::NoHandler(handler) => Trouble::Fault(number, Fault::NoHandler(node, handler)),
         ReplayError::Reply(told) => Trouble::Wrong(Wrong::Reply(told, *reply)),
@@ -61,6 +67,7 @@ fn hear(
     ensures grows { OnOk result (Grows post.old post.new) }
     ensures number { OnOk result (node.new.number ≡ node.old.number) }
     ensures goes { OnOk result (GoesOn (HeardSo message.now reply.now) node.old node.new post.old post.new) }
+    ensures refused { IfErr result (IsNodeRefusal node.old.handlers (event.Hear message.now) reply.now) }
 {
     let place = node.moves();
     match node.hear(post, message, reply) {
@@ -82,6 +89,7 @@ fn begin(
     ensures grows { OnOk result (Grows post.old post.new) }
     ensures number { OnOk result (node.new.number ≡ node.old.number) }
     ensures goes { OnOk result (GoesOn (BeganSo handler) node.old node.new post.old post.new) }
+    ensures refused { IfErr result (IsNodeRefusal node.old.handlers (event.Begin handler) None) }
 {
     let place = node.moves();
     match node.begin(post, handler) {
@@ -103,6 +111,7 @@ fn finish(
     ensures grows { OnOk result (Grows post.old post.new) }
     ensures number { OnOk result (node.new.number ≡ node.old.number) }
     ensures goes { OnOk result (GoesOn (RanSo handler) node.old node.new post.old post.new) }
+    ensures refused { IfErr result (IsNodeRefusal node.old.handlers (event.Finish handler) None) }
 {
     let place = node.moves();
     match node.finish(post, handler) {
@@ -125,6 +134,7 @@ fn enter(
     ensures grows { OnOk result (Grows post.old post.new) }
     ensures number { OnOk result (node.new.number ≡ node.old.number) }
     ensures enters { OnOk result (EntersBy line.now node.old node.new post.old post.new) }
+    ensures wrong { IfErr result (IfWrong (IsWrongAt node.old.handlers line.now)) }
 {
     let of_node = node.number();
     match line {
@@ -201,7 +211,8 @@ fn is_unstored(
 
 // Whether the handler of this number is the one at this place.
 fn is_at(node: &NodeReplay, place: usize, handler: HandlerId) -> bool
-    ensures { IsTrue result → IfSome (slice_get node.now.handlers place) (λ l. handler ≡ number_in l) }
+    ensures number { IsTrue result → IfSome (slice_get node.now.handlers place) (λ l. handler ≡ number_in l) }
+    ensures there { IsTrue result → slice_get node.now.handlers place ≢ None }
 {
     match node.handler(place) {
         Some(own) => own == handler,
@@ -217,7 +228,8 @@ fn open_one(
     number: u64,
     line: &Line<'_>,
 ) -> Result<(), Trouble>
-    ensures { OnOk result (IfSome (slice_get node.now.handlers place) (OpensAs line.now)) }
+    ensures opens { OnOk result (IfSome (slice_get node.now.handlers place) (OpensAs line.now)) }
+    ensures wrong { IfErr result (IfWrong (IsWrongAt node.now.handlers line.now)) }
 {
     let Line::Open(handler, image, pending) = *line else {
         return Err(Trouble::Fault(number, Fault::Misplaced));
@@ -239,6 +251,7 @@ fn open_one(
 // them all has fewer, and nothing else.
 fn open(alloc: Global, node: &NodeReplay, cursor: &mut Cursor<'_>) -> Result<(), Trouble>
     ensures opens { OnOk result (OpensFrom cursor.old.rest.now cursor.new.rest.now node.now.handlers) }
+    ensures stops { IfErr result (IfWrong (OpeningStops cursor.old.rest.now node.now.handlers)) }
     ensures shorter { OnOk result (length cursor.new.rest.now ≤ length cursor.old.rest.now) }
 {
     for place in 0..node.count() {
@@ -273,6 +286,7 @@ fn reopen(
     ensures grows { OnOk result (Grows post.old post.new) }
     ensures number { OnOk result (node.new.number ≡ node.old.number) }
     ensures opens { OnOk result (OpensAgain node.old node.new post.old post.new) }
+    ensures memory { IfErr result IsNotWrong }
 {
     pages.remarks.add(node.moves(), Deed::Opened)?;
     match node.reopen(alloc, post) {
@@ -292,6 +306,7 @@ fn begin_life(
 ) -> Result<(), Trouble>
     ensures grows { OnOk result (Grows post.old post.new) }
     ensures begins { OnOk result (BeginsLife number cursor.old.rest.now cursor.new.rest.now node.old node.new post.old post.new) }
+    ensures stops { IfErr result (IfWrong (LifeStops number cursor.old.rest.now node.old post.old)) }
     ensures shorter { OnOk result (length cursor.new.rest.now ≤ length cursor.old.rest.now) }
 {
     if number != node.number() {
@@ -300,8 +315,10 @@ fn begin_life(
     }
     reopen(alloc, node, post, pages)?;
     pages.tale.begin(node.moves(), cursor.number)?;
-    open(alloc, node, cursor)?;
-    Ok(())
+    match open(alloc, node, cursor) {
+        Ok(()) => Ok(()),
+        Err(trouble) => Err(trouble),
+    }
 }
 
 // The entry of this line was not stored, so it is left out, and the next life begins.
@@ -318,14 +335,13 @@ fn leave_out(
     ensures told { (bytes : List ℕ) (first : NodeValue) (sent : List Told)
         → OnOk result (NodeUpTo bytes (ended line.now ++ cursor.old.rest.now) first node.old sent post.old
         → NodeUpTo bytes cursor.new.rest.now first node.new sent post.new) }
+    ensures stops { (bytes : List ℕ) (first : NodeValue) (sent : List Told)
+        → IfErr result (λ t. NodeUpTo bytes (ended line.now ++ cursor.old.rest.now) first node.old sent post.old → IfWrong (NodeStops bytes first sent) t) }
     ensures shorter { OnOk result (length cursor.new.rest.now ≤ length cursor.old.rest.now) }
 {
     pages.tale.shorten();
     match cursor.next() {
-        Ok(Some(Line::NodeLife(number))) => {
-            begin_life(alloc, number, cursor, node, post, pages)?;
-            Ok(())
-        }
+        Ok(Some(Line::NodeLife(number))) => { begin_life(alloc, number, cursor, node, post, pages) }
         Ok(_) => Err(Trouble::Fault(cursor.number, Fault::Misplaced)),
         Err(trouble) => Err(trouble),
     }
@@ -345,6 +361,8 @@ fn take_entry(
     ensures told { (bytes : List ℕ) (first : NodeValue) (sent : List Told)
         → OnOk result (NodeUpTo bytes (ended line.now ++ cursor.old.rest.now) first node.old sent post.old
         → NodeUpTo bytes cursor.new.rest.now first node.new sent post.new) }
+    ensures stops { (bytes : List ℕ) (first : NodeValue) (sent : List Told)
+        → IfErr result (λ t. NodeUpTo bytes (ended line.now ++ cursor.old.rest.now) first node.old sent post.old → IfWrong (NodeStops bytes first sent) t) }
     ensures shorter { OnOk result (length cursor.new.rest.now ≤ length cursor.old.rest.now) }
 {
     let _parts: Option<(Message, Wrong)> = None;
@@ -369,13 +387,12 @@ fn take(
     ensures told { (bytes : List ℕ) (first : NodeValue) (sent : List Told)
         → OnOk result (NodeUpTo bytes (ended line.now ++ cursor.old.rest.now) first node.old sent post.old
         → NodeUpTo bytes cursor.new.rest.now first node.new sent post.new) }
+    ensures stops { (bytes : List ℕ) (first : NodeValue) (sent : List Told)
+        → IfErr result (λ t. NodeUpTo bytes (ended line.now ++ cursor.old.rest.now) first node.old sent post.old → IfWrong (NodeStops bytes first sent) t) }
     ensures shorter { OnOk result (length cursor.new.rest.now ≤ length cursor.old.rest.now) }
 {
     match line {
-        Line::NodeLife(number) => {
-            begin_life(alloc, *number, cursor, node, post, pages)?;
-            Ok(())
-        }
+        Line::NodeLife(number) => begin_life(alloc, *number, cursor, node, post, pages),
         Line::Hear(..) | Line::Begin(_) | Line::Finish(_) => {
             take_entry(alloc, line, cursor, node, post, pages)?;
             Ok(())
@@ -400,6 +417,7 @@ pub(crate) fn replay_node(
 ) -> Result<(), Trouble>
     ensures grows { OnOk result (Grows post.old post.new) }
     ensures told { OnOk result (NodeRead bytes.now node.old node.new post.old post.new) }
+    ensures stops { IfErr result (IfWrong (NodeStops bytes.now node.old post.old)) }
 {
     let mut cursor = Cursor::new(bytes);
     while let Some(text) = cursor.next_text() {

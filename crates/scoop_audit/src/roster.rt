@@ -1,11 +1,12 @@
 //! The parties of a system, each with its journal.
 
-ghost use Rattle.std.specs.Prelude.{◌≡◌, ◌++◌, ◌<◌, [], IfOk, IfSome, MatchOption, OnOk, length, map, slice_get};
+ghost use Rattle.std.specs.Prelude.{◌≡◌, ◌++◌, ◌<◌, [], IfErr, IfOk, IfSome, MatchOption, OnOk, length, map, slice_get};
 ghost use Rattle.std.specs.List.{AllByRecursion};
 ghost use Rattle.scoop_audit.specs.Lines.{HasNoNewline};
 ghost use Rattle.scoop_audit.specs.Members.{HasItsOwn, IsAssigned, IsGiven, Owns, client_member, members_in, node_member, places_of, who};
 ghost use Rattle.scoop_audit.specs.Parties.{has_handlers, nodes_in};
 ghost use Rattle.scoop_audit.specs.Run.{AreOwned};
+ghost use Rattle.scoop_audit.specs.Unexplained.{IsNoReplay};
 
 use crate::auditing::Journal;
 use crate::cursor::Cursor;
@@ -19,8 +20,6 @@ use std::alloc::Global;
 #[derive(Clone, Copy, Debug)]
 pub(crate) struct Member {
     pub(crate) party: PartyName,
-    /// How many entries a client puts into one Log; 0 for a node.
-    pub(crate) batch: u8,
     pub(crate) journal: Option<usize>,
 }
 
@@ -55,7 +54,6 @@ fn add_nodes(system: &System, members: &mut Vec<Member>) -> Result<(), OutOfMemo
         if has_handlers(system, node.number) {
             members.push(Member {
                 party: PartyName::Node(node.number),
-                batch: 0,
                 journal: None,
             })?;
         }
@@ -71,7 +69,6 @@ fn add_clients(system: &System, members: &mut Vec<Member>) -> Result<(), OutOfMe
     for client in clients {
         members.push(Member {
             party: PartyName::Client(client.client),
-            batch: client.batch,
             journal: None,
         })?;
     }
@@ -118,7 +115,8 @@ fn assign(members: &mut [Member], party: PartyName, place: usize) -> Result<(), 
 
 // Gives the journal at this place to its party, if anything is written in it.
 fn give(members: &mut [Member], place: usize, bytes: &[u8]) -> Result<(), AuditError>
-    ensures { OnOk result (IsGiven place bytes.now members.old members.new) }
+    ensures given { OnOk result (IsGiven place bytes.now members.old members.new) }
+    ensures error { IfErr result IsNoReplay }
 {
     let party = match owner(bytes) {
         Ok(Some(party)) => party,
@@ -140,6 +138,7 @@ fn give_all(members: &mut [Member], journals: &[Journal<'_>]) -> Result<(), Audi
     ensures own { OnOk result (AllByRecursion (HasItsOwn (map (λ j. j.bytes.now) journals.now)) members.old
         → AllByRecursion (HasItsOwn (map (λ j. j.bytes.now) journals.now)) members.new) }
     ensures owned { OnOk result (AreOwned [] (places_of members.old) → AreOwned (map (λ j. j.bytes.now) journals.now) (places_of members.new)) }
+    ensures error { IfErr result IsNoReplay }
 {
     for (place, journal) in journals.iter().enumerate() {
         match give(members, place, journal.bytes) {
@@ -159,6 +158,7 @@ pub(crate) fn roster(
     ensures parties { IfOk result (λ members. map who members.items ≡ map who (members_in system.now)) }
     ensures own { IfOk result (λ members. AllByRecursion (HasItsOwn (map (λ j. j.bytes.now) journals.now)) members.items) }
     ensures owned { IfOk result (λ members. AreOwned (map (λ j. j.bytes.now) journals.now) (places_of members.items)) }
+    ensures error { IfErr result IsNoReplay }
 {
     let mut members = members(alloc, system)?;
     match give_all(&mut members, journals) {

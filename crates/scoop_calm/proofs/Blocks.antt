@@ -9,7 +9,7 @@ use Rattle.scoop_calm.proofs.Names.{same_handler_itself, ◌++◌, or_right, Blo
 use Rattle.scoop_calm.proofs.Names.{nothing, left_out, AreApart, same_block_is, same_block_itself, left_has, Slot, slot_queue, queue_at, queues_of, blocks_of}
 use Rattle.scoop_calm.proofs.Names.{◌≤◌, same_Some, is_some, list_any, option_map_or, MAX_QUEUES, ClientId, ends, Ended, Cut, takes_more, is_cut, is_queue_of}
 use Rattle.scoop_calm.proofs.Names.{queue_of, has_queue, IsQueue, Mark, MarkStage, AtOpen, is_open, block_of, mark_of, All-mark_of, is_empty, is_given_up_in}
-use Rattle.scoop_calm.proofs.Names.{number_of, inc_of, id_found, sites_placed, IsHeldIn, SiteFits, IsMarkUpto, MarksUpto, NoOpen, IsMarkOpened, SiteOpened}
+use Rattle.scoop_calm.proofs.Names.{number_of, inc_of, id_found, known_by, mark_known, IsHeldIn, SiteFits, IsMarkUpto, MarksUpto, NoOpen, IsMarkOpened, SiteOpened}
 use Rattle.scoop_calm.proofs.Names.{PartyKnown}
 use Rattle.scoop_calm.specs.declared.next.Next.TheVariants as next
 use Rattle.scoop_calm.proofs.Moves.{IsWelcome, GaveBack, HasGivenBack, IsSettled, party_found, Useful, useful, site_found}
@@ -312,11 +312,6 @@ party_there w c le = at (party_of c w) refl le
     at None e le = absurd (omega (arith, le))
     at (Some p) e le = (p, e)
 
-number_has : (s : Site) (ss : List Site) → Member s ss → has (map number_of ss) (number_of s) ≡ true
-number_has s [] m = absurd m
-number_has s (x ∷ xs) (inl same) = let own = (handler_decides (number_of x) (number_of s)).1 (ap number_of same) in grind (arith, own)
-number_has s (x ∷ xs) (inr n) = let rest = number_has s xs n in grind (arith, nat_tests, rest)
-
 -- an open queue
 pub must_be_open : (q : PrivateQueue) → IsQueue q → q.entries ≡ [] → takes_more q.state ≡ true
 must_be_open q is empty = at q.state refl
@@ -347,11 +342,11 @@ module _ (w : World) (r : IsReached w) (e : AllFacts w r) (settled : AllByRecurs
   pub welcome_all : (p : Party) → Member p w.parties → p.client.unwelcomed ≡ []
   welcome_all p m = (all_member IsSettled w.parties p settled m).welcome.left
 
-  -- a client with a mark at a site, in its own incarnation or past it
-  pub mark_there : (s : Site) → Member s w.sites → (p : Party) → Member p w.parties → MarkAt w p (number_of s)
-  mark_there s m p mp =
-      let known = all_member (PartyKnown (map (λ (q : Placement). q.handler) r.placements) w.sites) w.parties p e.knowing.parties mp in
-      mark_at w r e p (party_found w r p mp) (number_of s) (ap (λ ks. has ks (number_of s)) (known.handlers ∙ sym (sites_placed w r)) ∙ number_has s w.sites m)
+  -- a client with a mark at a site that it knows, in its own incarnation or past it
+  pub mark_there : (s : Site) (p : Party) → Member p w.parties → has (known_by r.newcomers (id_of p)) (number_of s) ≡ true → MarkAt w p (number_of s)
+  mark_there s p mp named =
+      let known = all_member (PartyKnown (known_by r.newcomers) w.sites) w.parties p e.knowing.parties mp in
+      mark_at w r e p (party_found w r p mp) (number_of s) (ap (λ ks. has ks (number_of s)) known.handlers ∙ named)
       (ap (λ ks. has ks (number_of s)) (welcome_all p mp))
 
   -- the client of a mark, and that mark
@@ -373,7 +368,8 @@ module _ (w : World) (r : IsReached w) (e : AllFacts w r) (settled : AllByRecurs
       let p = there.0 in
       let mp : Member p w.parties = found_in _ w.parties p there.1 in
       let id : id_of p ≡ k.client = id_found k.client w p there.1 in
-      let a = mark_there s m p mp in
+      let named = mark_known w r (number_of s) s (site_found w r s m) k.client k found in
+      let a = mark_there s p mp (ap (λ c. has (known_by r.newcomers c) (number_of s)) id ∙ named) in
       let site : a.site ≡ s = same_Some a.site s (sym a.found ∙ site_found w r s m) in
       record {
         party = p;

@@ -564,6 +564,6 @@ fit_kept w i = record {
 pub opens_fit : (ps : List Placement) (ns : List Newcomer) → AllFit (opening ps ns)
 opens_fit ps ns = all ns
   where
-    all : (ns : List Newcomer) → AllByRecursion PartyFitsWell (map (new_party (map (λ (p : Placement). p.handler) ps)) ns)
+    all : (ns : List Newcomer) → AllByRecursion PartyFitsWell (map new_party ns)
     all [] = tt
-    all (n ∷ ns) = (greeting_fits (new_party (map (λ (p : Placement). p.handler) ps) n).client refl refl refl, all ns)
+    all (n ∷ ns) = (greeting_fits (new_party n).client refl refl refl, all ns)

@@ -15,7 +15,7 @@ use Rattle.scoop_calm.proofs.Names.{Newcomer, opening, newest_block, commanded_w
 use Rattle.scoop_calm.proofs.Names.{finished_site, restarted_party, HasRun, numbered, untold, inc_of, Changes, by_party, site_put, id_found, Sound}
 use Rattle.scoop_calm.proofs.Names.{sent_all, PartyFits, all_pushed, sent_tells, keeps_row, went_on as goes_on, WindowsFit, PartyLogs, Logging, window_handler}
 use Rattle.scoop_calm.proofs.Names.{found_has, own_site, StageOpened, unlocking_is, none_reserved, TellsAnswer, Answering, Slot, SlotWhole, Member, Run}
-use Rattle.scoop_calm.proofs.Names.{IsReached, steps_kept, both_kept, AreApart, ToldMore, Knowing, knowing_kept}
+use Rattle.scoop_calm.proofs.Names.{IsReached, steps_kept, both_kept, AreApart, ToldMore, KnownHandlers, Knowing, knowing_kept, known_by}
 use Rattle.scoop_model.proofs.Order.Holding.{reached_more}
 use Rattle.scoop_model.proofs.Standing.Facts.{Standing}
 use Rattle.scoop_calm.proofs.Lists.{some_if_ends, none_long, item_there, sent_member, lowest_has}
@@ -418,7 +418,7 @@ attending_kept w g i = record {
 }
 
 pub opens_attending : (ps : List Placement) (ns : List Newcomer) → Attending (opening ps ns)
-opens_attending ps ns = record { messages = tt; parties = λ c p at r held. absurd (none_reserved c (map (λ (y : Placement). y.handler) ps) ns p at r held) }
+opens_attending ps ns = record { messages = tt; parties = λ c p at r held. absurd (none_reserved c ns p at r held) }
 
 -- -------- All facts of a reached world.
 
@@ -446,18 +446,18 @@ background w i =
       fit = i.1.1;
     }
 
--- with the handlers, in the order in which they were placed
-abbrev All : List HandlerId → World → Type 0
+-- with the handlers that each client knows
+abbrev All : KnownHandlers → World → Type 0
 All hs w = (Kept w × Attending w) × Knowing hs w
 
-all_kept : (hs : List HandlerId) (w : World) → All hs w → Changes (All hs) w
+all_kept : (hs : KnownHandlers) (w : World) → All hs w → Changes (All hs) w
 all_kept hs w i =
     let f = model.facts w i.0.0.0 in
     both_kept (λ v. Kept v × Attending v) (Knowing hs) w
     (both_kept Kept Attending w (kept_kept w i.0.0) (attending_kept w (background w i.0.0) i.0.1))
     (knowing_kept hs w f.ordered f.sound f.greetings i.1)
 
-pub record Everything (hs : List HandlerId) (w : World) : Type 0 where
+pub record Everything (hs : KnownHandlers) (w : World) : Type 0 where
   pub background : Background w
   pub told : ToldMore w
   pub attending : Attending w
@@ -465,15 +465,15 @@ pub record Everything (hs : List HandlerId) (w : World) : Type 0 where
   pub knowing : Knowing hs w
 
 abbrev pub AllFacts : (w : World) → IsReached w → Type 0
-AllFacts w r = Everything (map (λ (p : Placement). p.handler) r.placements) w
+AllFacts w r = Everything (known_by r.newcomers) w
 
 pub everything : (w : World) (r : IsReached w) → AllFacts w r
 everything w r =
-    let hs = map (λ (p : Placement). p.handler) r.placements in
+    let hs = known_by r.newcomers in
     let ps = r.placements in
     let ns = r.newcomers in
     let i : All hs w =
     subst (All hs) (ap (λ (x : Run). x.0) r.leads)
     (steps_kept (All hs) (all_kept hs) (opening ps ns) r.events
-    (((model.opens_kept ps ns r.opens, (opens_marked ps ns, opens_fit ps ns)), opens_attending ps ns), opens_knowing ps ns)) in
+    (((model.opens_kept ps ns r.opens, (opens_marked ps ns, opens_fit ps ns)), opens_attending ps ns), opens_knowing ps ns r.opens)) in
     record { background = background w i.0.0; told = i.0.0.0.0.0; attending = i.0.1; apart = i.0.0.0.1.1; knowing = i.1 }

@@ -314,7 +314,7 @@ same_hello : (c d : ClientId) (g h : HandlerId) (i j : ℕ) → Hello g c i ≡ 
 same_hello c d g h i j e = cc
 
 due_hello : (c : ClientState) (k : HandlerId) (m : Message) → Sends c k m → 1 ≤ c.inc → (h : HandlerId) (d : ClientId) (inc : ℕ) → m ≡ Hello h d inc → 1 ≤ inc
-due_hello c k m sends_hello one h d inc e = omega (arith, one, same_hello c.id d k h c.inc inc e)
+due_hello c k m (sends_hello left) one h d inc e = omega (arith, one, same_hello c.id d k h c.inc inc e)
 due_hello c k m s one h d inc e = absurd (cc)
 
 -- ---- sites
@@ -446,15 +446,15 @@ no_marks : (w : World) (ps : List Placement) → AllByRecursion (SiteMarked w) (
 no_marks w [] = tt
 no_marks w (p ∷ ps) = (tt, no_marks w ps)
 
-all_begun : (hs : List HandlerId) (ns : List Newcomer) → AllByRecursion PartyBegun (map (new_party hs) ns)
-all_begun hs [] = tt
-all_begun hs (n ∷ ns) = (record { inc = omega arith }, all_begun hs ns)
+all_begun : (ns : List Newcomer) → AllByRecursion PartyBegun (map new_party ns)
+all_begun [] = tt
+all_begun (n ∷ ns) = (record { inc = omega arith }, all_begun ns)
 
 pub opens_marked : (ps : List Placement) (ns : List Newcomer) → Marked (opening ps ns)
 opens_marked ps ns = record {
   hellos = λ h c inc m. absurd m;
   sites = no_marks (opening ps ns) ps;
-  parties = all_begun (map (λ (p : Placement). p.handler) ps) ns;
+  parties = all_begun ns;
 }
 
 -- -------- Blocks that their client has left: the handler has the lock back, and nothing of the block is unfinished. Both facts

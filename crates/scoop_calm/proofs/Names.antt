@@ -118,8 +118,10 @@ pub use Rattle.scoop_model.proofs.Basics.{by_test, ok_is}
 pub use Rattle.scoop_model.proofs.Events.{both_kept, Changes, Gives, Happens, Kept, event_happens, event_kept, steps_kept}
 pub use Rattle.scoop_model.proofs.Keys.{by_party, by_site, id_found, number_found, own_site, site_put}
 pub use Rattle.scoop_model.proofs.Knowing.Clients.{none_left as idle_left}
-pub use Rattle.scoop_model.proofs.Knowing.Facts.{Knowing, PartyKnown}
-pub use Rattle.scoop_model.proofs.Knowing.Runs.{knowing_kept, opens_knowing}
+pub use Rattle.scoop_model.proofs.Knowing.Facts.{Known as KnownHandlers, Knowing, PartyKnown}
+pub use Rattle.scoop_model.proofs.Knowing.Joining.{known_by}
+pub use Rattle.scoop_model.proofs.Knowing.Meeting.{mark_known}
+pub use Rattle.scoop_model.proofs.Knowing.Runs.{known_there, knowing_kept, opens_knowing}
 pub use Rattle.scoop_model.proofs.Logging.Commands.{commanded_grown, running_is}
 pub use Rattle.scoop_model.proofs.Logging.Facts.{Carries, Grown, Logging, PartyLogs, WindowFits, WindowsFit, grown_same}
 pub use Rattle.scoop_model.proofs.Logging.Greetings.{IsMarkUpto, MarksUpto, inc_there}

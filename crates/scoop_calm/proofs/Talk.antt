@@ -9,7 +9,7 @@ use Rattle.scoop_calm.proofs.Names.{handler_decides, IsAscending, has, without, 
 use Rattle.scoop_calm.proofs.Names.{tail-ascending, Changes, steps_kept, is_gone_one, IsMarkUpto, ◌&&◌, eq-eqb, Hello, Welcome, same_client, client_decides}
 use Rattle.scoop_calm.proofs.Names.{Greeted, Known, IsCore, TooManyClients, hear_hello, greeted_first, with_mark, with_incarnation, greeting_mark}
 use Rattle.scoop_calm.proofs.Names.{All-mark_of, mark_of-client, Welcomed, with_unwelcomed, due_in_block, hear_welcome, ignored, is_site, number_found}
-use Rattle.scoop_calm.proofs.Names.{sites_placed, all_found, MarksUpto, inc_there, own_site, PartyKnown, ◌⊎◌, not, Bool, IsFalse, ⊎_elim, same_Some, Lock}
+use Rattle.scoop_calm.proofs.Names.{known_by, known_there, all_found, MarksUpto, inc_there, own_site, PartyKnown, ◌⊎◌, not, Bool, IsFalse, ⊎_elim, same_Some, Lock}
 use Rattle.scoop_calm.proofs.Names.{MarkStage, AtShut, is_open, is_shut, block_of, IsState, HolderIsUnderWay, is_holder, is_unfinished, holder_from_test}
 use Rattle.scoop_calm.proofs.Names.{PartyFits, IsNamed, Member, Unlock, Unlocked, Freed, fresh_mark, without_hold, is_new, hear_unlock, moved, Stage, Unlocking}
 use Rattle.scoop_calm.proofs.Names.{GivingUp, Step, UnlockedStep, at_stage, UnlockedNote, due_after, hear_step, after_step, newest_block, same_block_itself}
@@ -152,7 +152,7 @@ parties_few w r =
     let same : length w.parties ≡ length r.newcomers =
     subst (λ (u : World). length u.parties ≡ length r.newcomers) (ap (λ (x : Run). x.0) r.leads)
     (steps_kept (λ u. length u.parties ≡ length r.newcomers) (many_kept (length r.newcomers)) v r.events
-    (length-map r.newcomers (new_party (map (λ (p : Placement). p.handler) r.placements)))) in
+    (length-map r.newcomers new_party)) in
     omega (arith, same, r.opens.few_clients)
 
 -- a handler that has no mark of a client of the world has room for one
@@ -207,9 +207,8 @@ greet_useful w r e p at h left =
     let g = e.background in
     let c = p.client in
     let fits = all_found PartyFitsWell (is_party (id_of p)) w.parties p g.fit at in
-    let hs = map (λ (q : Placement). q.handler) r.placements in
-    let known = all_found (PartyKnown hs w.sites) (is_party (id_of p)) w.parties p e.knowing.parties at in
-    let named : has (map number_of w.sites) h ≡ true = ap (λ ks. has ks h) (sites_placed w r ∙ sym known.handlers) ∙ fits.within h left in
+    let known = all_found (PartyKnown (known_by r.newcomers) w.sites) (is_party (id_of p)) w.parties p e.knowing.parties at in
+    let named : has (map number_of w.sites) h ≡ true = known_there w r (id_of p) h (ap (λ ks. has ks h) (sym known.handlers) ∙ fits.within h left) in
     let there = item_there number_of h w.sites named in
     let s : Site = there.0 in
     let number : number_of s ≡ h = number_found h w s there.1 in
@@ -266,8 +265,7 @@ module _ (w : World) (r : IsReached w) (e : AllFacts w r) (p : Party) (at : part
   pub mark_at : (h : HandlerId) → has p.client.handlers h ≡ true → has p.client.unwelcomed h ≡ false → MarkAt w p h
   mark_at h named welcome =
       let g = e.background in
-      let hs = map (λ (q : Placement). q.handler) r.placements in
-      let known = all_found (PartyKnown hs w.sites) (is_party (id_of p)) w.parties p e.knowing.parties at in
+      let known = all_found (PartyKnown (known_by r.newcomers) w.sites) (is_party (id_of p)) w.parties p e.knowing.parties at in
       let greeted = known.greeted h (ap (λ ks. has ks h) (sym known.handlers) ∙ named) welcome in
       let s = greeted.site in
       let k = greeted.reached.mark in

@@ -19,6 +19,7 @@
 
 mod arguments;
 mod audit_command;
+mod key_command;
 mod local_commands;
 mod options;
 mod rows;
@@ -28,6 +29,7 @@ mod up_command;
 use arguments::argument;
 use audit_command::AUDIT;
 use clap::{ArgMatches, Command, Error};
+use key_command::KEY_MAKER;
 use local_commands::{ANSWER, DEMO, FRAME, WORLD};
 pub use options::{
     AnswerOptions, Asked, AuditOptions, ClientOptions, DemoOptions, JournalChoice, LogChoice,
@@ -38,8 +40,8 @@ use std::alloc::{AllocError, Global};
 use system_commands::{CHECK, CLIENT, NODE, STORE};
 use up_command::UP;
 
-const COMMANDS: [CommandRow; 10] = [
-    ANSWER, WORLD, FRAME, DEMO, CHECK, NODE, CLIENT, UP, AUDIT, STORE,
+const COMMANDS: [CommandRow; 11] = [
+    ANSWER, WORLD, FRAME, DEMO, CHECK, KEY_MAKER, NODE, CLIENT, UP, AUDIT, STORE,
 ];
 
 /// The matches of a command line's words, the program's name first. A class is one of the names.

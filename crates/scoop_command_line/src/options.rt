@@ -13,6 +13,8 @@ pub enum Asked<'a> {
     Demo(DemoOptions),
     /// The system's file.
     Check(&'a str),
+    /// The key's file.
+    Key(&'a str),
     Node(NodeOptions<'a>),
     Client(ClientOptions<'a>),
     Up(UpOptions<'a>),
@@ -163,6 +165,7 @@ pub fn asked_in<'a>(matches: &'a ArgMatches<'_>) -> Asked<'a> {
         Some(("frame", given)) => Asked::Frame(given.get_strs("words")),
         Some(("demo", given)) => Asked::Demo(demo_options(given)),
         Some(("check", given)) => Asked::Check(text_of(given, "file")),
+        Some(("key", given)) => Asked::Key(text_of(given, "file")),
         Some(("node", given)) => Asked::Node(node_options(given)),
         Some(("client", given)) => Asked::Client(client_options(given)),
         Some(("up", given)) => Asked::Up(up_options(given)),

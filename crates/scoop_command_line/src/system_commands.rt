@@ -310,6 +310,6 @@ const KEY: ArgumentRow = ArgumentRow {
     value: Value::Text,
     value_name: "FILE",
     default: None,
-    help: "Seals datagrams with the key in this file, of 64 hex digits (openssl rand -hex 32 writes one); all programs of a \
+    help: "Seals datagrams with the key in this file, of 64 hex digits (`scoop key FILE` makes one); all programs of a \
         system need the same key. Without it nothing is sealed",
 };

@@ -132,10 +132,17 @@ unopened_first ps cs stored IncarnationsSpent u =
     (all_clients cs (λ ds. IsUnopened own_class (FirstHandlers ps) ds stored IncarnationsSpent) u.0.few_clients u)
 unopened_first ps cs stored OutOfMemory u = may_place_first ps cs u
 
-joining_first : (cs : List (ClientId × ℕ)) (stored : ℕ → Option ℕ) → length (FirstClients cs) ≤ MAX_CLIENTS
-    → AllByRecursion IsJoining (newcomers_of stored (FirstClients cs))
-    → AllByRecursion IsJoining (newcomers_of stored cs)
-joining_first cs stored few all = all_clients cs (λ ds. AllByRecursion IsJoining (newcomers_of stored ds)) few all
+joining_first : (hs : List HandlerId) (cs : List (ClientId × ℕ)) (stored : ℕ → Option ℕ) → length (FirstClients cs) ≤ MAX_CLIENTS
+    → AllByRecursion IsJoining (newcomers_of hs stored (FirstClients cs))
+    → AllByRecursion IsJoining (newcomers_of hs stored cs)
+joining_first hs cs stored few all = all_clients cs (λ ds. AllByRecursion IsJoining (newcomers_of hs stored ds)) few all
+
+-- whichever handlers they know
+joining_knowing : (hs ks : List HandlerId) (cs : List (ClientId × ℕ)) (stored : ℕ → Option ℕ) → AllByRecursion IsJoining (newcomers_of hs stored cs)
+    → AllByRecursion IsJoining (newcomers_of ks stored cs)
+joining_knowing hs ks [] stored all = tt
+joining_knowing hs ks (c ∷ cs) stored all =
+    (record { some = all.0.some; limit = all.0.limit; next = all.0.next }, joining_knowing hs ks cs stored all.1)
 
 -- ---- the world of those that are kept
 
@@ -163,18 +170,19 @@ module _ {B : Type 0} (class : B → ClassTable) (ps : List (Placement B)) (cs :
   stops_unopened number OutOfMemory u = of_memory
 
   -- the parties with which it opens
-  pub opens_with : MayPlace class ps cs → AllByRecursion IsJoining (newcomers_of own cs) → Opens parties stored
+  pub opens_with : MayPlace class ps cs → AllByRecursion IsJoining (newcomers_of (handlers_of ps) own cs) → Opens parties stored
   opens_with m j =
       let seen : MayPlace own_class (FirstHandlers (map placement_of parties.placed)) cs =
       subst (λ qs. MayPlace own_class qs cs) w.placed (may_place_seen class ps cs m) in
       let named : MayPlace own_class (FirstHandlers (map placement_of parties.placed)) (FirstClients parties.clients) =
       subst (λ ds. MayPlace own_class (FirstHandlers (map placement_of parties.placed)) ds) w.joined seen in
-      let joins : AllByRecursion IsJoining (newcomers_of own (FirstClients parties.clients)) =
-      subst (λ ds. AllByRecursion IsJoining (newcomers_of own ds)) w.joined j in
+      let hs = handlers_of (map placement_of parties.placed) in
+      let joins : AllByRecursion IsJoining (newcomers_of hs own (FirstClients parties.clients)) =
+      subst (λ ds. AllByRecursion IsJoining (newcomers_of hs own ds)) w.joined (joining_knowing (handlers_of ps) hs cs own j) in
       record {
         placed = may_place_first (map placement_of parties.placed) parties.clients named;
-        joining = joining_first parties.clients stored named.few_clients
-            (subst (λ (s : ℕ → Option ℕ). AllByRecursion IsJoining (newcomers_of s (FirstClients parties.clients))) w.stored_is joins);
+        joining = joining_first hs parties.clients stored named.few_clients
+            (subst (λ (s : ℕ → Option ℕ). AllByRecursion IsJoining (newcomers_of hs s (FirstClients parties.clients))) w.stored_is joins);
       }
 
 -- ---- a party more

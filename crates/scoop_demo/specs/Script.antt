@@ -6,7 +6,7 @@ use Rattle.std.specs.List.{list_any, filter_map, AllByRecursion}
 use Rattle.std.specs.Result.{result_ok, result_err}
 use Rattle.scoop_message.specs.declared.name.ClientId.{ClientId}
 use Rattle.scoop_object.specs.Class.{ClassTable}
-use Rattle.scoop_world.specs.OpenRefusal.{MayPlace, IsUnopened}
+use Rattle.scoop_world.specs.OpenRefusal.{MayPlace, IsUnopened, handlers_of}
 use Rattle.scoop_model.specs.Opening.{IsJoining}
 use Rattle.scoop_world.specs.Placing.{newcomers_of}
 use Rattle.scoop_world.specs.declared.placing.Placement.{Placement}
@@ -103,7 +103,7 @@ own_class class = class
 -- a world opens with these parties, over these stored incarnations, if there is memory
 pub record Opens (parties : Parties) (stored : ℕ → Option ℕ) : Type 0 where
   pub placed : MayPlace own_class (map placement_of parties.placed) parties.clients
-  pub joining : AllByRecursion IsJoining (newcomers_of stored parties.clients)
+  pub joining : AllByRecursion IsJoining (newcomers_of (handlers_of (map placement_of parties.placed)) stored parties.clients)
 
 -- no world opens with them, for this reason, which isn't out of memory
 abbrev pub IsClosed : Parties → (ℕ → Option ℕ) → WorldOpenError → Type 0

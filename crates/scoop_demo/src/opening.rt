@@ -1,6 +1,6 @@
 //! The opening of a book of one handler.
 
-ghost use Rattle.std.specs.Prelude.{◌≡◌, ◌≢◌, ◌∷◌, [], false, IfOk, IfErr, OnOk};
+ghost use Rattle.std.specs.Prelude.{◌≡◌, ◌≢◌, ◌∷◌, [], false, IfOk, IfErr, IfSome, OnOk};
 ghost use Rattle.scoop_message.specs.declared.limits.TheConstants.{MAX_HISTORY};
 ghost use Rattle.scoop_keeper.specs.Keeper.{IsSame, Stays};
 ghost use Rattle.scoop_book.specs.Books.{IsBook};
@@ -25,6 +25,22 @@ fn refusal_of(error: OpenError) -> RunError
         OpenError::Keeper(refusal) => RunError::from(refusal),
         OpenError::OutOfMemory => RunError::OutOfMemory,
         OpenError::NoPasses | OpenError::Repeated(_) => unreachable!(),
+    }
+}
+
+// The list of one handler, if there is memory for it. Apart from the keeper, so that a refusal has less to drop.
+fn alone<B: Behaviour>(
+    alloc: Global,
+    number: HandlerId,
+    class: Class,
+    object: B,
+) -> Option<Vec<(HandlerId, Class, B)>>
+    ensures { IfSome result (λ handlers. handlers.items ≡ (number, class, object) ∷ []) }
+{
+    let mut handlers = Vec::new(alloc);
+    match handlers.push((number, class, object)) {
+        Ok(()) => Some(handlers),
+        Err(_) => None,
     }
 }
 
@@ -53,11 +69,9 @@ pub fn open_book<B: Behaviour, K: Keeper<Global>>(
     // A refusal drops the keeper, so this clause is about the stored state if every such keeper is honest.
     ensures refused { IfErr result (FailsToOpen (K.handlers keeper) ((k : K) → K.is_honest k) number class (B.class object)) }
 {
-    let mut handlers = Vec::new(alloc);
-    match handlers.push((number, class, object)) {
-        Ok(()) => {}
-        Err(_) => return Err(RunError::OutOfMemory),
-    }
+    let Some(handlers) = alone(alloc, number, class, object) else {
+        return Err(RunError::OutOfMemory);
+    };
     match Book::open(alloc, handlers, keeper) {
         Ok(book) => Ok(book),
         Err(error) => Err(refusal_of(error)),

@@ -1,5 +1,5 @@
 -- A world that opens is safe.
-use Rattle.scoop_model.proofs.Names.{List, [], map, refl, NoRepeats, all_made, RightAnswers, AcceptsRight, IsSubsequence, Safe, nothing, Tape, WholeBeforeNext}
+use Rattle.scoop_model.proofs.Names.{List, [], refl, NoRepeats, all_made, RightAnswers, AcceptsRight, IsSubsequence, Safe, nothing, Tape, WholeBeforeNext}
 use Rattle.scoop_model.proofs.Names.{Placement, Newcomer, new_site, new_party, opening, World}
 
 pub no_repeats : {A : Type 0} → NoRepeats {A = A} []
@@ -13,5 +13,5 @@ opens_safe ps ns =
       tapes = all_made new_site (Tape w) (λ p. record { in_turn = refl; beginnings = tt }) ps;
       whole = all_made new_site (WholeBeforeNext w) (λ p front between back b later e some. absurd (some refl)) ps;
       answers = all_made new_site RightAnswers (λ p k r e. absurd (cc)) ps;
-      accepted = all_made (new_party (map (λ p. p.handler) ps)) (AcceptsRight w) (λ n. record { answered = tt; once = no_repeats }) ns;
+      accepted = all_made new_party (AcceptsRight w) (λ n. record { answered = tt; once = no_repeats }) ns;
     }

@@ -1,9 +1,9 @@
 -- A block is opened only after each of its handlers has granted it the lock and said so. Every event keeps this invariant: while a
 -- reservation locks, each of its handlers that isn't left has sent a Locked. After that, all of them have.
-use Rattle.scoop_model.proofs.Names.{◌≡◌, ℕ, List, ◌++◌, map, Some, None, refl, sym, ap, ◌∙◌, subst, append-nil, Option, find, if◌then◌else◌, slice_get, ◌==◌}
+use Rattle.scoop_model.proofs.Names.{◌≡◌, ℕ, List, ◌++◌, Some, None, refl, sym, ap, ◌∙◌, subst, append-nil, Option, find, if◌then◌else◌, slice_get, ◌==◌}
 use Rattle.scoop_model.proofs.Names.{◌-◌, option_to_list, Contains, Contains-append_left, same_Some, get_or_from_slice_get, slice_get_within, AllByRecursion}
 use Rattle.scoop_model.proofs.Names.{client_of, Message, Open, Locked, Block, ClientId, HandlerId, all_found, by_test, row, hear, HandlerState}
-use Rattle.scoop_model.proofs.Names.{ReservationState, due, heard, logs, of_party, by_party, id_found, newest_block, with_sent, heard_party, restarted_party}
+use Rattle.scoop_model.proofs.Names.{ReservationState, due, heard, of_party, by_party, id_found, newest_block, with_sent, heard_party, restarted_party}
 use Rattle.scoop_model.proofs.Names.{heard_world, with_site, begun_site, finished_site, reopened_world, Placement, Newcomer, opening, logs_after, WasGranted}
 use Rattle.scoop_model.proofs.Names.{WasGrantedAtAll, TellsGranted, World, Party, BlockLog, set_party, is_party, sent_at, party_of, id_of, handlers_of}
 use Rattle.scoop_model.proofs.Events.{Changes}
@@ -136,4 +136,4 @@ granting_kept w o i = record {
 }
 
 pub opens_granting : (ps : List Placement) (ns : List Newcomer) → Granting (opening ps ns)
-opens_granting ps ns = record { messages = tt; parties = λ c p at r held. absurd (none_reserved c (map (λ y. y.handler) ps) ns p at r held) }
+opens_granting ps ns = record { messages = tt; parties = λ c p at r held. absurd (none_reserved c ns p at r held) }

@@ -1,6 +1,10 @@
 pub mod Facts
+pub mod Joining
 pub mod Clients
+pub mod Owing
 pub mod Runs
+pub mod Meeting
 pub use Facts.*
+pub use Joining.*
 pub use Clients.*
 pub use Runs.*

@@ -19,7 +19,7 @@ use Rattle.scoop_reserve.specs.declared.stage.Step.TheVariants as step
 -- ---- a client sends what is due
 
 pub data Sends (c : ClientState) (h : HandlerId) : Message → Type 0 where
-  sends_hello : Sends c h (Hello h c.id c.inc)
+  sends_hello : has c.unwelcomed h ≡ true → Sends c h (Hello h c.id c.inc)
   sends_lock : (r : ReservationState) → c.reservation ≡ Some r → r.stage ≡ Locking → is_lowest h r.left ≡ true → Sends c h (Lock h r.block)
   sends_open : (r : ReservationState) → c.reservation ≡ Some r → r.stage ≡ Opening → has r.left h ≡ true → Sends c h (Open h r.block)
   sends_unlock : (r : ReservationState) → c.reservation ≡ Some r → r.stage ≡ Unlocking → has r.left h ≡ true → Sends c h (Unlock h r.block)
@@ -39,7 +39,7 @@ module _ (c : ClientState) (h : HandlerId) (m : Message) where
 
   by_row : (o : Option Message) → DueRow c h o → o ≡ Some m → Sends c h m
   by_row o owes_nothing e = absurd (cc)
-  by_row o (greets left) e = subst (Sends c h) (same_Some _ m e) sends_hello
+  by_row o (greets left) e = subst (Sends c h) (same_Some _ m e) (sends_hello left)
   by_row o (reserves r n greeted held owes) e = by_stage r held r.stage refl (owes ∙ e)
   by_row o (logs r l greeted held free opened window some) e = subst (Sends c h) (same_Some _ m e) (sends_log r l held free opened window some)
 

@@ -84,7 +84,7 @@ pub use Rattle.scoop_client.specs.declared.phase.ClientNote.{ClientNote}
 pub use Rattle.scoop_client.specs.declared.phase.Phase.TheVariants.{Idle, Greeting, Running, Ending}
 pub use Rattle.scoop_model.proofs.Basics.{all_made, of_party, all_mapped, locking_giving, opening_giving, some_same, ok_is, first_false}
 pub use Rattle.scoop_model.proofs.Keys.{number_found, by_site, site_put, own_site, heard_place, by_party, id_found}
-pub use Rattle.scoop_model.specs.Opening.{MayOpen, IsPlaced, IsJoining}
+pub use Rattle.scoop_model.specs.Opening.{MayOpen, IsPlaced, IsJoining, KnowsPlaced}
 pub use Rattle.scoop_model.specs.Reach.{steps, IsReached, Run, next, run_after, Leads, run}
 pub use Rattle.scoop_model.specs.Safe.{HasRun, query_of, entries_of, IsAnswered, RightAnswers, AcceptsRight, IsSubsequence, Safe, nothing, Tape}
 pub use Rattle.scoop_model.specs.Safe.{WholeBeforeNext, left_out, InOrder, untold, numbered, part, IsWhole}

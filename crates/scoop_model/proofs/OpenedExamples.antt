@@ -1,6 +1,6 @@
 -- The worlds of the computed examples may open.
-use Rattle.scoop_model.proofs.Names.{◌≡◌, ℕ, List, [], ◌∷◌, map, refl, ap, arith, NoRepeats, ClientId, HandlerId, once_more, IsPlaced, IsJoining, Placement}
-use Rattle.scoop_model.proofs.Names.{Newcomer}
+use Rattle.scoop_model.proofs.Names.{◌≡◌, ◌≤◌, ℕ, List, [], ◌∷◌, length, length-map, map, refl, sym, ap, subst, arith, NoRepeats, ClientId, HandlerId, once_more}
+use Rattle.scoop_model.proofs.Names.{IsPlaced, IsJoining, KnowsPlaced, Placement, Newcomer}
 use Rattle.scoop_model.specs.Examples.Parties.{CellsMayOpen, CounterMayOpen, handler, client, cell, counter, placed, joins}
 use Rattle.scoop_model.proofs.Beginnings.{no_repeats}
 
@@ -28,8 +28,8 @@ three_handlers = grind (arith, once_more, other_handler, two_handlers)
 one_client : (n : Newcomer) → ClientsApart (n ∷ [])
 one_client n = once_more (λ (x : Newcomer). x.id) [] n no_repeats tt
 
-three_clients : ClientsApart (joins 7 ∷ joins 8 ∷ joins 9 ∷ [])
-three_clients = grind (arith, once_more, one_client, other_client)
+three_clients : (hs : List ℕ) → ClientsApart (joins hs 7 ∷ joins hs 8 ∷ joins hs 9 ∷ [])
+three_clients hs = grind (arith, once_more, one_client, other_client)
 
 has_cell : (h : ℕ) → IsPlaced (placed cell 0 h)
 has_cell h = record { words = record { some = omega arith; few = omega arith }; class = refl }
@@ -37,17 +37,21 @@ has_cell h = record { words = record { some = omega arith; few = omega arith }; 
 has_counter : (h : ℕ) → IsPlaced (placed counter 0 h)
 has_counter h = record { words = record { some = omega arith; few = omega arith }; class = refl }
 
-joining : (c : ℕ) → IsJoining (joins c)
-joining c = record { some = omega arith; limit = omega arith; next = omega arith }
+joining : (hs : List ℕ) (c : ℕ) → IsJoining (joins hs c)
+joining hs c = record { some = omega arith; limit = omega arith; next = omega arith }
+
+-- each knows all that are placed
+knowing : (hs : List ℕ) (c : ℕ) → 1 ≤ length hs → NoRepeats (map handler hs) → KnowsPlaced (map handler hs) (joins hs c)
+knowing hs c some once = record { some = subst (λ n. 1 ≤ n) (sym (length-map hs handler)) some; once = once; among = λ h e. e }
 
 pub one_cell_opens : CellsMayOpen (1 ∷ []) (7 ∷ [])
-one_cell_opens = grind (arith, one_handler, placed, has_cell, one_client, joins, joining)
+one_cell_opens = grind (arith, one_handler, placed, has_cell, one_client, joins, joining, knowing)
 
 pub two_cells_open : CellsMayOpen (1 ∷ 2 ∷ []) (7 ∷ [])
-two_cells_open = grind (arith, two_handlers, placed, has_cell, one_client, joins, joining)
+two_cells_open = grind (arith, two_handlers, placed, has_cell, one_client, joins, joining, knowing)
 
 pub three_cells_open : CellsMayOpen (1 ∷ 2 ∷ 3 ∷ []) (7 ∷ 8 ∷ 9 ∷ [])
-three_cells_open = grind (arith, three_handlers, placed, has_cell, three_clients, joining)
+three_cells_open = grind (arith, three_handlers, placed, has_cell, three_clients, joining, knowing)
 
 pub counter_opens : CounterMayOpen (7 ∷ [])
-counter_opens = grind (arith, one_handler, placed, has_counter, one_client, joins, joining)
+counter_opens = grind (arith, one_handler, placed, has_counter, one_client, joins, joining, knowing)

@@ -66,9 +66,9 @@ numbers_open : (ps : List Placement) → map number_of (map new_site ps) ≡ map
 numbers_open [] = refl
 numbers_open (p ∷ ps) = ap (λ ns. p.handler ∷ ns) (numbers_open ps)
 
-ids_open : (hs : List HandlerId) (ns : List Newcomer) → map id_of (map (new_party hs) ns) ≡ map (λ (n : Newcomer). n.id) ns
-ids_open hs [] = refl
-ids_open hs (n ∷ ns) = ap (λ cs. n.id ∷ cs) (ids_open hs ns)
+ids_open : (ns : List Newcomer) → map id_of (map new_party ns) ≡ map (λ (n : Newcomer). n.id) ns
+ids_open [] = refl
+ids_open (n ∷ ns) = ap (λ cs. n.id ∷ cs) (ids_open ns)
 
 known : (w : World) (r : IsReached w)
     → Ordered w × Named (map (λ (p : Placement). p.handler) r.placements) (map (λ (n : Newcomer). n.id) r.newcomers) w
@@ -78,7 +78,7 @@ known w r =
     subst (λ v. Ordered v × Named hs cs v) (ap (λ (x : Run). x.0) r.leads)
     (steps_kept (λ v. Ordered v × Named hs cs v) (λ v i. both_kept Ordered (Named hs cs) v (ordered_kept v i.0) (named_kept hs cs v i.0 i.1))
     (opening r.placements r.newcomers) r.events
-    (opens_ordered r.placements r.newcomers, (numbers_open r.placements, ids_open hs r.newcomers)))
+    (opens_ordered r.placements r.newcomers, (numbers_open r.placements, ids_open r.newcomers)))
 
 pub reached_ordered : (w : World) → IsReached w → Ordered w
 reached_ordered w r = (known w r).0

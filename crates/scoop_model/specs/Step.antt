@@ -251,26 +251,27 @@ pub record Placement : Type 0 where
   pub class : ClassTable
   pub words : List ℕ
 
--- a client as it joins, with the incarnation that was stored before, 0 where none was
+-- a client as it joins, with the incarnation that was stored before, 0 where none was, and the handlers that it knows
 pub record Newcomer : Type 0 where
   pub id : ClientId
   pub batch : ℕ
   pub stored : ℕ
+  pub handlers : List HandlerId
 
 abbrev pub new_site : Placement → Site
 new_site p =
     let s : HandlerState = new_state p.handler p.words in
     record { node = p.node; placed = p.words; core = core_of p.class s false; stored = s; opened = []; ran = [] }
 
-abbrev pub new_party : List HandlerId → Newcomer → Party
-new_party hs n = record { client = greeting n.id (n.stored + 1) hs 0 n.batch; stored = n.stored + 1; accepted = [] }
+abbrev pub new_party : Newcomer → Party
+new_party n = record { client = greeting n.id (n.stored + 1) n.handlers 0 n.batch; stored = n.stored + 1; accepted = [] }
 
--- no handler has been greeted and nothing was sent; each client knows all handlers, in its next incarnation
+-- no handler has been greeted and nothing was sent; each client knows its own handlers, in its next incarnation
 abbrev pub opening : List Placement → List Newcomer → World
 opening placements newcomers =
     record {
       sites = map new_site placements;
-      parties = map (new_party (map (λ p. p.handler) placements)) newcomers;
+      parties = map new_party newcomers;
       sent = [];
       joint = [];
       logs = [];

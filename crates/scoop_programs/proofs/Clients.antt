@@ -13,12 +13,11 @@ use Rattle.scoop_client.specs.declared.error.BeginError.TheVariants.{NoHandlers,
 use Rattle.scoop_keeper.specs.Keeper.{last_incarnation}
 use Rattle.scoop_driver.specs.declared.step.Step.{Step}
 use Rattle.scoop_driver.specs.Steps.{AllCan, walk}
-use Rattle.scoop_weave.specs.System.{LocalClient, after_restart, new_client}
+use Rattle.scoop_weave.specs.System.{LocalClient, after_restart}
 use Rattle.scoop_weave.specs.ClientSteps.{Lives, driven}
-use Rattle.scoop_weave.specs.Lives.{ClientLife, IsClientLife}
+use Rattle.scoop_weave.specs.Lives.{IsClientLife}
 use Rattle.scoop_weave.proofs.JoinedLives.{number_test}
-use Rattle.scoop_model.specs.Step.{Placement}
-use Rattle.scoop_runtime.specs.declared.progress.ClientStop.{ClientStop}
+use Rattle.scoop_texts.specs.declared.progress.ClientStop.{ClientStop}
 use Rattle.scoop_runtime.specs.ClientLives.{AreLives, ClientRan, Lived, Unbegun}
 use Rattle.scoop_runtime.specs.ClientLives.{ClientLife as Life}
 use Rattle.scoop_programs.specs.Programs.{BeginAfter, ClientMayRun, ClientRun, ClientRuns, first_of, life_of_client}
@@ -122,10 +121,7 @@ module _ {K : Type 0} {incarnations : K → ℕ → Option ℕ} {is_honest : K �
       (ran_lives id batch known (incarnations r.before) (incarnations r.after) (is_honest r.after) r.result r.ran)
       (subst (λ (o : Option ℕ). Follow id batch known (unwrap_or o 0) rest) after.0.same (runs_follow id batch known s later after.0.honest after.1))
 
-  pub is_client_life : (ps : List Placement) (c : ClientRuns incarnations is_honest) → ClientMayRun (map (λ (p : Placement). p.handler) ps) c
-      → IsClientLife ps (life_of_client c)
-  is_client_life ps c may =
-      let life : ClientLife = life_of_client c in
-      let own = lives c.id c.batch c.known (unwrap_or (incarnations c.first.before c.id.0) 0) (lives_in c.first ++ flat_map lives_in c.later)
-      (runs_follow c.id c.batch c.known c.first c.later may.honest may.after) in
-      subst (λ hs. Lives (new_client hs life.joined) life.first life.more life.now) may.knows own
+  pub is_client_life : (c : ClientRuns incarnations is_honest) → ClientMayRun c → IsClientLife (life_of_client c)
+  is_client_life c may =
+      lives c.id c.batch c.known (unwrap_or (incarnations c.first.before c.id.0) 0) (lives_in c.first ++ flat_map lives_in c.later)
+      (runs_follow c.id c.batch c.known c.first c.later may.honest may.after)

@@ -30,10 +30,10 @@ use Rattle.scoop_weave.specs.Example.{after_event, cells, entries_by, first_even
 use Rattle.scoop_weave.specs.Example.{node, opened_again}
 use Rattle.scoop_weave.specs.Example.{opening, order, reply_to, told_at}
 use Rattle.scoop_weave.proofs.ExampleRuns.{runs}
-use Rattle.scoop_runtime.specs.declared.error.RuntimeError.TheVariants.{InsideBlock}
+use Rattle.scoop_texts.specs.declared.error.RuntimeError.TheVariants.{InsideBlock}
 use Rattle.scoop_runtime.specs.declared.plan.Member.{Member}
-use Rattle.scoop_runtime.specs.declared.progress.ClientStop.{ClientStop}
-use Rattle.scoop_runtime.specs.declared.progress.Unended.TheVariants.{Held}
+use Rattle.scoop_texts.specs.declared.progress.ClientStop.{ClientStop}
+use Rattle.scoop_texts.specs.declared.progress.Unended.TheVariants.{Held}
 use Rattle.scoop_runtime.specs.NodeLives.{NodeRan}
 use Rattle.scoop_runtime.specs.ClientLives.{ClientRan, Lived}
 use Rattle.scoop_programs.specs.Programs.{ClientRun, ClientRuns, MayRun, NodeRuns}
@@ -207,7 +207,7 @@ may = record {
   apart = once_more (λ (n : NodeRuns Has always). n.number) [] node_runs none_twice tt;
   opens = two_cells_open;
   each_node = (record { some = omega arith; missing = (missing 1, (missing 2, tt)); ready = tt; after = tt }, tt);
-  each_client = (record { knows = refl; honest = tt; after = (record { same = refl; honest = tt }, tt) }, tt);
+  each_client = (record { honest = tt; after = (record { same = refl; honest = tt }, tt) }, tt);
 }
 
 pub example : ExampleRuns

@@ -1,13 +1,12 @@
 -- The nodes and clients of a system's file are such that a world may open with them.
-use Rattle.std.proofs.Common.{◌≡◌, ℕ, ◌==◌, ◌||◌, false, List, [], ◌∷◌, ◌++◌, flat_map, map, Option, refl, sym, ap, subst, ◌∙◌}
-use Rattle.std.specs.Prelude.{if◌then◌else◌, option_to_list, unwrap_or}
-use Rattle.std.specs.List.{AllByRecursion, AllZip, filter, list_any}
+use Rattle.std.proofs.Common.{◌≡◌, ℕ, List, [], ◌∷◌, ◌++◌, flat_map, map, Option, refl, sym, ap, subst, ◌∙◌}
+use Rattle.std.specs.Prelude.{option_to_list, unwrap_or}
+use Rattle.std.specs.List.{AllByRecursion, AllZip}
 use Rattle.std.specs.Option.{option_map}
-use Rattle.std.proofs.lemmas.List.{map-append}
+use Rattle.scoop_message.specs.declared.name.ClientId.{ClientId}
 use Rattle.scoop_message.specs.declared.name.HandlerId.{HandlerId}
 use Rattle.scoop_message.specs.Lists.{NoRepeats}
 use Rattle.scoop_object.specs.Class.{ClassTable}
-use Rattle.scoop_handler.proofs.Basics.{by_test}
 use Rattle.scoop_keeper.specs.Keeper.{Stored}
 use Rattle.scoop_model.specs.Opening.{MayOpen}
 use Rattle.scoop_model.specs.Step.{Placement, Newcomer}
@@ -16,14 +15,14 @@ use Rattle.scoop_system.specs.declared.place.NodePlace.{NodePlace}
 use Rattle.scoop_system.specs.declared.place.HandlerPlace.{HandlerPlace}
 use Rattle.scoop_system.specs.declared.place.ClientPlace.{ClientPlace}
 use Rattle.scoop_system.specs.System.{Plan}
-use Rattle.scoop_audit.specs.Parties.{handlers_on, has_handlers, joins, nodes_in, placed_as, placed_in, placed_on, placements_in_file}
+use Rattle.scoop_system.specs.Known.{handlers_on, known_to}
+use Rattle.scoop_audit.specs.Parties.{joins_in, nodes_in, placed_as, placed_in, placed_on, placements_in_file}
 use Rattle.scoop_audit.specs.Parties.{MayRun as FileMayRun}
 use Rattle.scoop_audit.specs.Told.{placements_on}
 use Rattle.scoop_runtime.specs.declared.plan.Member.{Member}
-use Rattle.scoop_runtime.specs.Beginnings.{gather, known_in}
-use Rattle.scoop_runtime.specs.Beginnings.{placed_on as numbers_on}
-use Rattle.scoop_programs.specs.Programs.{AreAWorld, ClientMayRun, ClientRuns, NodeMayRun, NodeRuns, newcomers_in, placed_at, placements_in}
-use Rattle.scoop_programs.specs.Files.{AreOf, IsClientOf, IsMemberOf, IsNodeOf}
+use Rattle.scoop_runtime.specs.Members.{IsMemberOf}
+use Rattle.scoop_programs.specs.Programs.{AreAWorld, ClientMayRun, ClientRuns, NodeMayRun, NodeRuns, newcomer_of, newcomers_in, placed_at, placements_in}
+use Rattle.scoop_programs.specs.Files.{AreOf, IsClientOf, IsNodeOf}
 use Rattle.scoop_programs.proofs.Worlds.{are_a_world}
 
 -- ---- one node's handlers
@@ -41,47 +40,6 @@ members_placed s n (h ∷ hs) (m ∷ ms) all =
 members_placed s n [] (m ∷ ms) all = absurd all
 members_placed s n (h ∷ hs) [] all = absurd all
 
-members_named : (s : Plan) (hs : List HandlerPlace) (ms : List Member) → AllZip (IsMemberOf s) hs ms
-    → map (λ (h : HandlerPlace). h.handler) hs ≡ map (λ (m : Member). m.handler) ms
-members_named s [] [] all = refl
-members_named s (h ∷ hs) (m ∷ ms) all =
-    ap (λ x. x ∷ map (λ (h : HandlerPlace). h.handler) hs) (sym all.0.number) ∙ ap (λ xs. m.handler ∷ xs) (members_named s hs ms all.1)
-members_named s [] (m ∷ ms) all = absurd all
-members_named s (h ∷ hs) [] all = absurd all
-
-numbers_there : (place : NodePlace) (hs : List HandlerPlace)
-    → gather (numbers_on place) hs ≡ map (λ (h : HandlerPlace). h.handler) (handlers_on place.number hs)
-numbers_there place [] = refl
-numbers_there place (h ∷ hs) =
-    by_test (λ t. (if t then h.handler ∷ [] else []) ++ gather (numbers_on place) hs
-    ≡ map (λ (h : HandlerPlace). h.handler) (if t then h ∷ handlers_on place.number hs else handlers_on place.number hs)) (h.node == place.number)
-    (λ _. ap (λ xs. h.handler ∷ xs) (numbers_there place hs)) (λ _. numbers_there place hs)
-
-nobody_there : (n : ℕ) (hs : List HandlerPlace) → list_any (λ h. h.node == n) hs ≡ false → handlers_on n hs ≡ []
-nobody_there n [] none = refl
-nobody_there n (h ∷ hs) none =
-    by_test (λ t. (t || list_any (λ h. h.node == n) hs) ≡ false → (if t then h ∷ handlers_on n hs else handlers_on n hs) ≡ [])
-    (h.node == n) (λ _ e. cc) (λ _ e. nobody_there n hs e) none
-
--- nodes without handlers add nothing
-known_with : (s : Plan) (places : List NodePlace)
-    → gather (λ n. gather (numbers_on n) s.handlers) places
-    ≡ gather (λ (n : NodePlace). map (λ (h : HandlerPlace). h.handler) (handlers_on n.number s.handlers))
-    (filter (λ (n : NodePlace). has_handlers s n.number) places)
-known_with s [] = refl
-known_with s (p ∷ places) =
-    let named : NodePlace → List HandlerId = λ n. map (λ (h : HandlerPlace). h.handler) (handlers_on n.number s.handlers) in
-    let rest : List NodePlace = filter (λ (n : NodePlace). has_handlers s n.number) places in
-    ap (λ xs. xs ++ gather (λ n. gather (numbers_on n) s.handlers) places) (numbers_there p s.handlers)
-    ∙ (ap (λ xs. named p ++ xs) (known_with s places)
-    ∙ by_test (λ t. has_handlers s p.number ≡ t → named p ++ gather named rest ≡ gather named (if t then p ∷ rest else rest)) (has_handlers s p.number)
-    (λ _ _. refl)
-    (λ _ e. ap (λ (hs : List HandlerPlace). map (λ (h : HandlerPlace). h.handler) hs ++ gather named rest) (nobody_there p.number s.handlers e)) refl)
-
-named_so : (n : ℕ) (ms : List Member) → map (λ (m : Member). m.handler) ms ≡ map (λ (p : Placement). p.handler) (map (placed_at n) ms)
-named_so n [] = refl
-named_so n (m ∷ ms) = ap (λ xs. m.handler ∷ xs) (named_so n ms)
-
 -- ---- all nodes
 
 module _ {K : Type 0} {has : K → ℕ → Stored → Type 0} {is_honest : K → Type 0} where
@@ -97,19 +55,6 @@ module _ {K : Type 0} {has : K → ℕ → Stored → Type 0} {is_honest : K →
       ∙ ap (λ ps. map (placed_at n.number) n.members ++ ps) (nodes_placed s places nodes all.1)
   nodes_placed s [] (n ∷ nodes) all = absurd all
   nodes_placed s (p ∷ places) [] all = absurd all
-
-  nodes_named : (s : Plan) (places : List NodePlace) (nodes : List (NodeRuns has is_honest)) → AllZip (IsNodeOf s) places nodes
-      → gather (λ (n : NodePlace). map (λ (h : HandlerPlace). h.handler) (handlers_on n.number s.handlers)) places
-      ≡ map (λ (p : Placement). p.handler) (placed nodes)
-  nodes_named s [] [] all = refl
-  nodes_named s (p ∷ places) (n ∷ nodes) all =
-      let named : NodePlace → List HandlerId = λ n. map (λ (h : HandlerPlace). h.handler) (handlers_on n.number s.handlers) in
-      let number : Placement → HandlerId = λ p. p.handler in
-      ap (λ xs. xs ++ gather named places) (members_named s (handlers_on p.number s.handlers) n.members all.0.members ∙ named_so n.number n.members)
-      ∙ (ap (λ xs. map number (map (placed_at n.number) n.members) ++ xs) (nodes_named s places nodes all.1)
-      ∙ sym (map-append number (map (placed_at n.number) n.members) (placed nodes)))
-  nodes_named s [] (n ∷ nodes) all = absurd all
-  nodes_named s (p ∷ places) [] all = absurd all
 
   nodes_numbered : (s : Plan) (places : List NodePlace) (nodes : List (NodeRuns has is_honest)) → AllZip (IsNodeOf s) places nodes
       → map (λ (n : NodePlace). n.number) places ≡ map (λ (n : NodeRuns has is_honest). n.number) nodes
@@ -135,31 +80,31 @@ module _ {K : Type 0} {has : K → ℕ → Stored → Type 0} {is_honest : K →
 module _ {K : Type 0} {has : K → ℕ → Stored → Type 0} {is_honest : K → Type 0} {J : Type 0} {incarnations : J → ℕ → Option ℕ} {is_faithful : J → Type 0}
     (s : Plan) (nodes : List (NodeRuns has is_honest)) where
   clients_join : (places : List ClientPlace) (clients : List (ClientRuns incarnations is_faithful)) → AllZip (IsClientOf s) places clients
-      → map joins places ≡ newcomers_in nodes clients
+      → map (joins_in s) places ≡ newcomers_in nodes clients
   clients_join [] [] all = refl
   clients_join (p ∷ places) (c ∷ clients) all =
-      let make : _ → ℕ → ℕ → Newcomer = λ id batch stored. record { id = id; batch = batch; stored = stored } in
-      ap (λ x. x ∷ map joins places)
-      (ap (λ x. make x p.batch 0) (sym all.0.id)
-      ∙ (ap (λ x. make c.id x 0) (sym all.0.batch) ∙ ap (λ (o : Option ℕ). make c.id c.batch (unwrap_or o 0)) (sym all.0.fresh)))
-      ∙ ap (λ xs. make c.id c.batch (unwrap_or (incarnations c.first.before c.id.0) 0) ∷ xs) (clients_join places clients all.1)
+      let make : ClientId → ℕ → ℕ → List HandlerId → Newcomer = λ id batch stored hs. record { id = id; batch = batch; stored = stored; handlers = hs } in
+      let known : List HandlerId = known_to s p in
+      ap (λ x. x ∷ map (joins_in s) places)
+      (ap (λ x. make x p.batch 0 known) (sym all.0.id)
+      ∙ (ap (λ x. make c.id x 0 known) (sym all.0.batch)
+      ∙ (ap (λ (o : Option ℕ). make c.id c.batch (unwrap_or o 0) known) (sym all.0.fresh)
+      ∙ ap (make c.id c.batch (unwrap_or (incarnations c.first.before c.id.0) 0)) (sym all.0.knows))))
+      ∙ ap (λ xs. newcomer_of c ∷ xs) (clients_join places clients all.1)
   clients_join [] (c ∷ clients) all = absurd all
   clients_join (p ∷ places) [] all = absurd all
 
-  clients_may : (hs : List HandlerId) (places : List ClientPlace) (clients : List (ClientRuns incarnations is_faithful)) → known_in s ≡ hs
-      → AllZip (IsClientOf s) places clients → AllByRecursion (ClientMayRun hs) clients
-  clients_may hs [] [] known all = tt
-  clients_may hs (p ∷ places) (c ∷ clients) known all =
-      (record { knows = all.0.knows ∙ known; honest = all.0.honest; after = all.0.after }, clients_may hs places clients known all.1)
-  clients_may hs [] (c ∷ clients) known all = absurd all
-  clients_may hs (p ∷ places) [] known all = absurd all
+  clients_may : (places : List ClientPlace) (clients : List (ClientRuns incarnations is_faithful)) → AllZip (IsClientOf s) places clients
+      → AllByRecursion ClientMayRun clients
+  clients_may [] [] all = tt
+  clients_may (p ∷ places) (c ∷ clients) all = (record { honest = all.0.honest; after = all.0.after }, clients_may places clients all.1)
+  clients_may [] (c ∷ clients) all = absurd all
+  clients_may (p ∷ places) [] all = absurd all
 
   pub file_world : (clients : List (ClientRuns incarnations is_faithful)) → FileMayRun s → AreOf s nodes clients → AreAWorld nodes clients
   file_world clients may are =
-      let same = lives_placed nodes clients in
-      let placements : placements_in_file s ≡ placements_in nodes clients = nodes_placed s (nodes_in s) nodes are.each_node ∙ same in
-      let known : known_in s ≡ map (λ (p : Placement). p.handler) (placements_in nodes clients) =
-      known_with s s.nodes ∙ (nodes_named s (nodes_in s) nodes are.each_node ∙ ap (map (λ (p : Placement). p.handler)) same) in
+      let placements : placements_in_file s ≡ placements_in nodes clients =
+      nodes_placed s (nodes_in s) nodes are.each_node ∙ lives_placed nodes clients in
       are_a_world nodes clients
       (record {
         apart = subst NoRepeats (nodes_numbered s (nodes_in s) nodes are.each_node) may.apart;
@@ -167,5 +112,5 @@ module _ {K : Type 0} {has : K → ℕ → Stored → Type 0} {is_honest : K →
             subst (λ ps. MayOpen ps (newcomers_in nodes clients)) placements
             (subst (MayOpen (placements_in_file s)) (clients_join s.clients clients are.each_client) may.opens);
         each_node = nodes_may s (nodes_in s) nodes are.each_node;
-        each_client = clients_may (map (λ (p : Placement). p.handler) (placements_in nodes clients)) s.clients clients known are.each_client;
+        each_client = clients_may s.clients clients are.each_client;
       })

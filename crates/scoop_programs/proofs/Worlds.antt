@@ -28,10 +28,9 @@ module _ {K : Type 0} {has : K → ℕ → Stored → Type 0} {is_honest : K →
       → MayRun nodes clients → AreAWorld nodes clients
   are_a_world nodes clients runs =
       let ps : List Placement = placements_in nodes clients in
-      let hs : List HandlerId = map (λ (p : Placement). p.handler) ps in
       let words : HandlerId → List ℕ = words_in ps in
       let each_node = all_of life_of_node NodeMayRun (IsNodeLife words) (is_node_life words) nodes runs.each_node in
-      let each_client = all_of life_of_client (ClientMayRun hs) (IsClientLife ps) (is_client_life ps) clients runs.each_client in
+      let each_client = all_of life_of_client ClientMayRun IsClientLife is_client_life clients runs.each_client in
       record {
         each_node = each_node;
         each_client = each_client;

@@ -18,7 +18,7 @@ use Rattle.scoop_weave.specs.Order.{IsOrder}
 use Rattle.scoop_weave.specs.Weave.{IsWorld}
 use Rattle.scoop_weave.specs.Lives.{NodeLife, ClientLife, IsNodeLife, IsClientLife, newcomers_of, parties_of, placements_of, system_of, words_in}
 use Rattle.scoop_runtime.specs.declared.plan.Member.{Member}
-use Rattle.scoop_runtime.specs.declared.progress.ClientStop.{ClientStop}
+use Rattle.scoop_texts.specs.declared.progress.ClientStop.{ClientStop}
 use Rattle.scoop_runtime.specs.NodeLives.{NodeRan}
 use Rattle.scoop_runtime.specs.ClientLives.{ClientRan, Lived, Unbegun}
 use Rattle.scoop_runtime.specs.ClientLives.{ClientLife as Life}
@@ -106,22 +106,22 @@ abbrev pub now_after : LocalClient → List Step → List (List Step) → LocalC
 now_after c first [] = driven c first
 now_after c first (steps ∷ more) = now_after (after_restart (driven c first)) steps more
 
-abbrev pub life_from : List HandlerId → Newcomer → List (List Step) → ClientLife
-life_from hs n drivers =
-    record { joined = n; first = first_of drivers; more = more_of drivers; now = now_after (new_client hs n) (first_of drivers) (more_of drivers) }
+abbrev pub life_from : Newcomer → List (List Step) → ClientLife
+life_from n drivers =
+    record { joined = n; first = first_of drivers; more = more_of drivers; now = now_after (new_client n) (first_of drivers) (more_of drivers) }
 
 module _ {K : Type 0} {incarnations : K → ℕ → Option ℕ} {is_honest : K → Type 0} where
   abbrev pub lives_in : {id : ClientId} {batch : ℕ} {known : List HandlerId} → ClientRun incarnations is_honest id batch known → List Life
   lives_in {id = id} {batch = batch} {known = known} r =
       lives_by id batch known (incarnations r.before) (incarnations r.after) (is_honest r.after) r.result r.ran
 
-  -- the client as it joins, with the incarnation that its keeper had of it before, 0 where it had none
+  -- the client as it joins: the incarnation that its keeper had of it before, 0 where it had none, and the handlers that it knows
   abbrev pub newcomer_of : ClientRuns incarnations is_honest → Newcomer
-  newcomer_of c = record { id = c.id; batch = c.batch; stored = unwrap_or (incarnations c.first.before c.id.0) 0 }
+  newcomer_of c = record { id = c.id; batch = c.batch; stored = unwrap_or (incarnations c.first.before c.id.0) 0; handlers = c.known }
 
   -- the steps of all lives of its runs, each of which but the first is a restart
   abbrev pub life_of_client : ClientRuns incarnations is_honest → ClientLife
-  life_of_client c = life_from c.known (newcomer_of c) (map steps_in (lives_in c.first ++ flat_map lives_in c.later))
+  life_of_client c = life_from (newcomer_of c) (map steps_in (lives_in c.first ++ flat_map lives_in c.later))
 
 -- ---- what is supposed of a node
 
@@ -165,10 +165,8 @@ module _ {K : Type 0} {incarnations : K → ℕ → Option ℕ} {is_honest : K �
   BeginAfter r [] = ⊤
   BeginAfter r (s ∷ later) = BeginsAfter r s × BeginAfter s later
 
-  -- The client knows these handlers, and its keeper was honest. Each further run begins with the incarnation that the last
-  -- one left.
-  pub record ClientMayRun (hs : List HandlerId) (c : ClientRuns incarnations is_honest) : Type 0 where
-    pub knows : c.known ≡ hs
+  -- The client's keeper was honest. Each further run begins with the incarnation that the last one left.
+  pub record ClientMayRun (c : ClientRuns incarnations is_honest) : Type 0 where
     pub honest : is_honest c.first.after
     pub after : BeginAfter c.first c.later
 
@@ -188,17 +186,17 @@ module _ {K : Type 0} {has : K → ℕ → Stored → Type 0} {is_honest : K →
   abbrev pub newcomers_in : List Newcomer
   newcomers_in = newcomers_of lives_of_clients
 
-  -- no node comes twice, a world may open with these handlers and clients, and each client knows all handlers, in order
+  -- no node comes twice, and a world may open with these handlers and clients
   pub record MayRun : Type 0 where
     pub apart : NoRepeats (map (λ (n : NodeRuns has is_honest). n.number) nodes)
     pub opens : MayOpen placements_in newcomers_in
     pub each_node : AllByRecursion NodeMayRun nodes
-    pub each_client : AllByRecursion (ClientMayRun (map (λ (p : Placement). p.handler) placements_in)) clients
+    pub each_client : AllByRecursion ClientMayRun clients
 
   -- Histories replay and steps can be made. Each order of all moves, in which each message that is heard was sent
   -- before, is that of a world.
   pub record AreAWorld : Type 0 where
     pub each_node : AllByRecursion (IsNodeLife (words_in placements_in)) lives_of_nodes
-    pub each_client : AllByRecursion (IsClientLife placements_in) lives_of_clients
+    pub each_client : AllByRecursion IsClientLife lives_of_clients
     pub world : (order : List (ℕ × LocalMove)) → IsOrder (parties_of lives_of_nodes lives_of_clients) order → HeardAfterSent [] (map (λ x. x.1) order)
         → IsWorld placements_in newcomers_in (map (λ x. x.1) order) (system_of lives_of_nodes lives_of_clients)

@@ -17,7 +17,8 @@ use std::alloc::Global;
 /// - each further run of a client begins with the incarnation that the last one left;
 /// - each keeper was honest: of a node when the node was ready, and at the end of each run that another one follows; of a
 ///   client at the end of each run;
-/// - a world may open with these handlers and clients, and each client knows all handlers, in their order.
+/// - a world may open with these handlers and clients. Each client knows one handler at least, each once and each of a node;
+///   another client may know others.
 ///
 /// Then the histories and steps that the runs had are lives of nodes and clients. Each order of all their moves, in which each
 /// message that is heard was sent before, is that of a world. Nothing else is asked of the network.
@@ -29,8 +30,9 @@ pub fn programs_are_a_world<K: Keeper<Global>, J: Keeper<Global>>()
 {}
 
 /// The same for the nodes and clients of a system that was read from a text, and has a handler. Then a world may open with
-/// them, and each client knows all handlers by its own contract. A client's keeper had no incarnation of it before its first
-/// run. A node's members are the handlers that the file places on it, each with its class. A node without handlers is left out.
+/// them. A node runs by its plan, as `NodePlan::of` ensures it, so it has the handlers that the file places on it, each with
+/// its class. A client knows the handlers that it uses, by its own contract. A client's keeper had no incarnation of it before
+/// its first run. A node without handlers is left out.
 pub fn systems_are_a_world<K: Keeper<Global>, J: Keeper<Global>>()
     ensures { (text : List ℕ) (s : Plan) (nodes : List (NodeRuns K.handlers K.is_honest)) (clients : List (ClientRuns J.incarnations J.is_honest))
         → Means text (Ok s) → 1 ≤ length s.handlers → AreOf s nodes clients → AreAWorld nodes clients }

@@ -1,5 +1,5 @@
 -- A replayed client goes on by its steps and restarts.
-use Rattle.std.proofs.Common.{◌≡◌, ◌+◌, ◌-◌, ◌^◌, ◌==◌, ◌<◌, ℕ, false, List, [], ◌∷◌, ◌++◌, map, length, slice_get, Option, Some, None, Result, Ok, Err, refl, sym, ap, ◌∙◌, subst, arith}
+use Rattle.std.proofs.Common.{◌≡◌, ◌+◌, ◌-◌, ◌^◌, ◌==◌, ◌<◌, ℕ, false, List, [], ◌∷◌, ◌++◌, map, length, Option, Some, None, Result, Ok, Err, refl, sym, ap, ◌∙◌, subst, arith}
 use Rattle.std.proofs.lemmas.Bool.Decides.{Decides-eqb}
 use Rattle.std.specs.Prelude.{IfOk, IsOk, nat_lt}
 use Rattle.scoop_message.specs.declared.name.ClientId.{ClientId}
@@ -10,7 +10,6 @@ use Rattle.scoop_client.specs.declared.command.Command.{Command}
 use Rattle.scoop_client.specs.declared.error.BeginError.{BeginError}
 use Rattle.scoop_client.specs.Beginning.{Begins, begun, greeting, unless_repeated}
 use Rattle.scoop_client.specs.Commands as client
-use Rattle.scoop_client.specs.Due.{due}
 use Rattle.scoop_client.specs.Hearing.{heard}
 use Rattle.scoop_reserve.specs.Handlers.{first_repeated}
 use Rattle.scoop_model.proofs.Basics.{by_test}
@@ -18,7 +17,7 @@ use Rattle.scoop_model.proofs.Moves.{Notices, passes_over, hears, Takes, takes_r
 use Rattle.scoop_driver.specs.declared.step.Received.{Received}
 use Rattle.scoop_driver.specs.declared.step.Step.{Step}
 use Rattle.scoop_driver.specs.declared.step.Step.TheVariants.{Broke, Gave, Turned}
-use Rattle.scoop_driver.specs.Steps.{Can, IsDueAt, after, after_command, after_message, message_in}
+use Rattle.scoop_driver.specs.Steps.{Can, after, after_command, after_message, message_in}
 use Rattle.scoop_weave.specs.System.{LocalClient, after_restart}
 use Rattle.scoop_weave.specs.ClientSteps.{driven, moves_at}
 use Rattle.scoop_weaver.specs.declared.traffic.Traffic.{Traffic}
@@ -111,7 +110,3 @@ pub begins_greeting :
     → IfOk res (λ c. c ≡ greeting id inc hs last batch)
 begins_greeting id inc hs last batch (Ok c) e = is_greeting id inc hs last batch c e
 begins_greeting id inc hs last batch (Err error) e = tt
-
-pub is_due_there :
-    (c : ClientState) (place : ℕ) (h : HandlerId) (m : Message) → slice_get c.handlers place ≡ Some h → due c h ≡ Some m → IsDueAt c place
-is_due_there c place h m here owed = record { handler = h; here = here; message = m; owed = owed }

@@ -1,4 +1,5 @@
 mod Lists
+mod Jobs
 pub mod Numbering
 pub mod Lives
 pub mod Drivers

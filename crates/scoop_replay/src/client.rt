@@ -1,6 +1,6 @@
 //! A client whose lives are replayed.
 
-ghost use Rattle.std.specs.Prelude.{◌≡◌, ◌++◌, [], ◌+◌, ◌-◌, ◌^◌, ◌<◌, ◌≤◌, List, IfOk, IsTrue, OnOk, length, map};
+ghost use Rattle.std.specs.Prelude.{◌≡◌, ◌++◌, [], ◌+◌, ◌-◌, ◌^◌, ◌<◌, ◌≤◌, ◌↔◌, List, IfErr, IfOk, IsTrue, OnOk, length, map};
 ghost use Rattle.scoop_message.specs.declared.limits.TheConstants.{MAX_ENTRIES};
 ghost use Rattle.scoop_frame.specs.Frame.{frame, IsFrame};
 ghost use Rattle.scoop_client.specs.State.{block_of};
@@ -15,6 +15,7 @@ ghost use Rattle.scoop_weaver.specs.Passing.{traffic_of};
 ghost use Rattle.scoop_weaver.specs.Post.{Grows};
 ghost use Rattle.scoop_weaver.specs.Trails.{HasTraffic};
 ghost use Rattle.scoop_replay.specs.Client.{RestartsOn, StepsOn, client_value};
+ghost use Rattle.scoop_replay.specs.Refusals.{IsClientRefusal, IsRestartRefusal};
 
 use crate::error::ReplayError;
 use scoop_client::{BeginError, Client, Command};
@@ -70,7 +71,7 @@ fn moves_of(alloc: Global, client: &Client, made: &Step) -> Result<Vec<Traffic>,
 
 // Whether the message has a frame of the version. It is written here, which shows that it has one.
 fn is_framed(version: Version, message: &Message) -> bool
-    ensures { IsTrue result → IsFrame version message.now (frame version message.now) }
+    ensures { IsTrue result ↔ IsFrame version message.now (frame version message.now) }
 {
     if !message.fits() || !version.carries(message) {
         return false;
@@ -81,9 +82,8 @@ fn is_framed(version: Version, message: &Message) -> bool
 }
 
 // Whether a message is due to the handler at this place.
-#[tactic(auto, using(crate::proofs::Clients::is_due_there))]
 fn is_due_at(client: &Client, place: usize) -> bool
-    ensures { IsTrue result → IsDueAt client.now place }
+    ensures { IsTrue result ↔ IsDueAt client.now place }
 {
     let Some(handler) = client.handlers().get(place) else {
         return false;
@@ -178,6 +178,8 @@ impl ClientReplay {
     ) -> Result<(), ReplayError>
         ensures grows { OnOk result (Grows post.old post.new) }
         ensures steps { OnOk result (StepsOn (Gave command.now) self.old self.new post.old post.new) }
+        ensures can { OnOk result (Can self.old.client (Gave command.now)) }
+        ensures refused { IfErr result (IsClientRefusal self.old.client (Gave command.now)) }
     {
         match self.client.may_carry_out(command) {
             Ok(()) => {}
@@ -202,6 +204,8 @@ impl ClientReplay {
     ) -> Result<(), ReplayError>
         ensures grows { OnOk result (Grows post.old post.new) }
         ensures steps { OnOk result (StepsOn (Turned (Frame version message.now)) self.old self.new post.old post.new) }
+        ensures can { OnOk result (Can self.old.client (Turned (Frame version message.now))) }
+        ensures refused { IfErr result (IsClientRefusal self.old.client (Turned (Frame version message.now))) }
     {
         if !is_framed(version, message) {
             return Err(ReplayError::NoFrame);
@@ -234,6 +238,8 @@ impl ClientReplay {
     ) -> Result<(), ReplayError>
         ensures grows { OnOk result (Grows post.old post.new) }
         ensures steps { OnOk result (StepsOn (Broke place) self.old self.new post.old post.new) }
+        ensures can { OnOk result (Can self.old.client (Broke place)) }
+        ensures refused { IfErr result (IsClientRefusal self.old.client (Broke place)) }
     {
         if !is_due_at(&self.client, place) {
             return Err(ReplayError::NothingDue(place));
@@ -251,6 +257,7 @@ impl ClientReplay {
     pub fn restart(&mut self, alloc: Global, post: &mut Post) -> Result<(), ReplayError>
         ensures grows { OnOk result (Grows post.old post.new) }
         ensures restarts { OnOk result (RestartsOn self.old self.new post.old post.new) }
+        ensures refused { IfErr result (IsRestartRefusal self.old.client) }
     {
         let has_failed = self.has_failed;
         if has_failed {

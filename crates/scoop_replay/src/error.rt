@@ -1,5 +1,7 @@
 //! Why a replay doesn't go on.
 
+ghost use Rattle.std.specs.Prelude.{◌≡◌};
+
 use scoop_client::ClientError;
 use scoop_message::{HandlerId, Message, OutOfMemory};
 
@@ -25,6 +27,10 @@ pub enum ReplayError {
 }
 
 impl From<OutOfMemory> for ReplayError {
+    ghost use Rattle.scoop_replay.specs.declared.error.ReplayError.TheVariants as variants;
+
+    ghost from_gives = { λ _ e. e ≡ variants.OutOfMemory };
+
     fn from(_: OutOfMemory) -> ReplayError {
         ReplayError::OutOfMemory
     }

@@ -1,6 +1,6 @@
 //! Events at the handlers of a node.
 
-ghost use Rattle.std.specs.Prelude.{◌≡◌, map, IfOk, IfSome, IsTrue};
+ghost use Rattle.std.specs.Prelude.{◌≡◌, ◌↔◌, map, IfErr, IfNone, IfOk, IfSome, IsTrue, OnOk};
 ghost use Rattle.scoop_message.specs.Lists.{NoRepeats};
 ghost use Rattle.scoop_message.specs.Message.{handler_of};
 ghost use Rattle.scoop_handler.specs.Local.{is_handler, number_in};
@@ -8,6 +8,7 @@ ghost use Rattle.scoop_keeper.specs.Keyed.{IsFirst};
 ghost use Rattle.scoop_book.specs.declared.event.Event.TheVariants as event;
 ghost use Rattle.scoop_book.specs.declared.event.Reply.TheVariants as replied;
 ghost use Rattle.scoop_book.specs.Moves.{Moves};
+ghost use Rattle.scoop_replay.specs.Refusals.{HasNothingOut, IsNodeRefusal, RepliesSo};
 
 use crate::error::ReplayError;
 use crate::local::Local;
@@ -38,6 +39,8 @@ pub(crate) fn hear_so(
     requires apart { NoRepeats (map number_in locals.old.items) }
     ensures moves { IfOk result (λ heard. Moves (event.Hear message.now) (replied.Heard heard) locals.old.items locals.new.items) }
     ensures same { IfOk result (λ heard. heard.reply ≡ reply.now) }
+    ensures replies { OnOk result (RepliesSo locals.old.items message.now reply.now) }
+    ensures refused { IfErr result (IsNodeRefusal locals.old.items (event.Hear message.now) reply.now) }
     ensures numbers { map number_in locals.new.items ≡ map number_in locals.old.items }
 {
     let heard = hear(locals, place, message)?;
@@ -50,7 +53,7 @@ pub(crate) fn hear_so(
 
 // Whether the two replies are the same.
 fn is_same(left: &Option<Message>, right: &Option<Message>) -> bool
-    ensures { IsTrue result → left.now ≡ right.now }
+    ensures { IsTrue result ↔ (left.now ≡ right.now) }
 {
     match (left, right) {
         (Some(left), Some(right)) => same_message(left, right),
@@ -79,6 +82,7 @@ pub(crate) fn finish(locals: &mut Vec<Local>, place: usize, handler: HandlerId) 
     requires first { IsFirst (is_handler handler) locals.old.items place }
     requires apart { NoRepeats (map number_in locals.old.items) }
     ensures moves { IfSome result (λ ran. Moves (event.Finish handler) (replied.Finished ran) locals.old.items locals.new.items) }
+    ensures nothing { IfNone result (HasNothingOut locals.old.items handler) }
     ensures numbers { map number_in locals.new.items ≡ map number_in locals.old.items }
 {
     let local = &mut locals[place];

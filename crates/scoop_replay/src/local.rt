@@ -3,6 +3,7 @@
 ghost use Rattle.std.specs.Prelude.{◌≡◌, ◌↔◌, ℕ, List, None, Some, find, IsTrue, IfNone, IfOk, IfSome, MatchOption, OnErr, OnOk};
 ghost use Rattle.scoop_message.specs.declared.name.HandlerId.{HandlerId as Name};
 ghost use Rattle.scoop_handler.specs.Local.{Begins, Finishes, Hears, is_handler, number_in};
+ghost use Rattle.scoop_handler.specs.Running.{job_out};
 ghost use Rattle.hex.specs.Hex.{encode_lower};
 ghost use Rattle.scoop_keeper.specs.Keyed.{IsFirst};
 ghost use Rattle.scoop_weave.specs.NodeHistories.{reopened};
@@ -27,17 +28,18 @@ pub(crate) struct Local {
 impl Model for Local {
     ghost use Rattle.std.specs.Prelude.{◌≡◌, Some};
     ghost use Rattle.scoop_handler.specs.Local.{LocalHandler, local_handler};
+    ghost use Rattle.scoop_handler.specs.Running.{job_out};
 
     ghost Value = { LocalHandler };
 
     ghost view = { λ l. local_handler l.handler (Some l.handler.state) };
 
-    ghost invariant = { λ l. l.class ≡ l.handler.class };
+    ghost invariant = { λ l. (l.class ≡ l.handler.class) × (l.job ≡ job_out l.handler) };
 }
 
 // Whether these hex digits, in lower case, are those of the bytes.
 fn are_digits(alloc: Global, digits: &[u8], bytes: &[u8]) -> Result<bool, OutOfMemory>
-    ensures { IfOk result (λ are. IsTrue are → digits.now ≡ encode_lower bytes.now) }
+    ensures { IfOk result (λ are. IsTrue are ↔ (digits.now ≡ encode_lower bytes.now)) }
 {
     let text = hex::encode(alloc, bytes)?;
     Ok(text.as_bytes() == digits)
@@ -50,7 +52,7 @@ fn is_stored_as(
     image_digits: &[u8],
     pending_digits: &[u8],
 ) -> Result<bool, OutOfMemory>
-    ensures { IfOk result (λ is. IsTrue is → AreBlobs state.now image_digits.now pending_digits.now) }
+    ensures { IfOk result (λ is. IsTrue is ↔ AreBlobs state.now image_digits.now pending_digits.now) }
 {
     let front = image(alloc, state)?;
     if !are_digits(alloc, image_digits, &front)? {
@@ -96,6 +98,8 @@ impl Local {
         ensures hears { IfOk result (λ heard. Hears message.now heard self.old self.new) }
         ensures err { OnErr result (self.new ≡ self.old) }
     {
+        // For the prover: the handler is sound.
+        let _sound = self.handler.number();
         self.handler.hear(message)
     }
 
@@ -115,6 +119,7 @@ impl Local {
     pub(crate) fn finish(&mut self) -> Option<Ran>
         ensures finishes { IfSome result (λ ran. Finishes ran self.old self.new) }
         ensures none { result ≡ None → self.new ≡ self.old }
+        ensures nothing { result ≡ None → job_out self.old.core ≡ None }
     {
         let Some(job) = self.job.take() else {
             return None;
@@ -148,7 +153,7 @@ impl Local {
         image: &[u8],
         pending: &[u8],
     ) -> Result<bool, OutOfMemory>
-        ensures { IfOk result (λ is. IsTrue is → IsStoredAs self.now image.now pending.now) }
+        ensures { IfOk result (λ is. IsTrue is ↔ IsStoredAs self.now image.now pending.now) }
     {
         let state = self.handler.copy()?;
         is_stored_as(alloc, &state, image, pending)

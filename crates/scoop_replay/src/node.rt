@@ -1,19 +1,21 @@
 //! A node whose lives are replayed.
 
-ghost use Rattle.std.specs.Prelude.{◌≡◌, ◌++◌, ◌∷◌, [], List, map, IfNone, IfOk, IfSome, IsTrue, OnOk};
+ghost use Rattle.std.specs.Prelude.{◌≡◌, ◌++◌, ◌∷◌, [], List, map, IfErr, IfNone, IfOk, IfSome, IsTrue, OnOk};
 ghost use Rattle.scoop_weaver.specs.declared.traffic.Traffic.{Traffic as Move};
 ghost use Rattle.scoop_weaver.specs.Trails.{HasTraffic};
 ghost use Rattle.scoop_message.specs.Lists.{NoRepeats};
 ghost use Rattle.scoop_handler.specs.Local.{is_handler, number_in};
 ghost use Rattle.scoop_keeper.specs.Keyed.{IsFirst};
 ghost use Rattle.scoop_weaver.specs.Post.{Grows};
-ghost use Rattle.std.specs.Prelude.{ℕ, length, slice_get};
+ghost use Rattle.std.specs.Prelude.{◌↔◌, ℕ, None, length, slice_get};
 ghost use Rattle.std.specs.List.{list_any};
 ghost use Rattle.std.specs.Option.{option_map};
 ghost use Rattle.scoop_message.specs.Message.{same_handler};
 ghost use Rattle.scoop_message.specs.declared.name.HandlerId.{HandlerId as Name};
 ghost use Rattle.scoop_weave.specs.NodeHistories.{reopened};
 ghost use Rattle.scoop_replay.specs.Node.{BeganSo, GoesOn, HeardSo, IsStoredAs, OpensAgain, RanSo, node_value, placed_local};
+ghost use Rattle.scoop_book.specs.declared.event.Event.TheVariants as event;
+ghost use Rattle.scoop_replay.specs.Refusals.{HasNothingOut, IsNodeRefusal, RepliesSo};
 
 use crate::error::ReplayError;
 use crate::handlers::{begin, finish, hear_so};
@@ -50,6 +52,7 @@ impl Model for NodeReplay {
 fn add(trail: &mut Trail, post: &mut Post, next: &Traffic) -> Result<(), ReplayError>
     ensures grows { OnOk result (Grows post.old post.new) }
     ensures adds { (ts : List Move) → OnOk result (HasTraffic post.old trail.old ts → HasTraffic post.new trail.new (ts ++ next.now ∷ [])) }
+    ensures memory { IfErr result (λ e. e ≡ ReplayError.OutOfMemory) }
 {
     match trail.add(post, next) {
         Ok(()) => Ok(()),
@@ -92,6 +95,8 @@ impl NodeReplay {
         ensures number { self.new.number ≡ self.old.number }
         ensures grows { OnOk result (Grows post.old post.new) }
         ensures goes { OnOk result (GoesOn (HeardSo message.now reply.now) self.old self.new post.old post.new) }
+        ensures replies { OnOk result (RepliesSo self.old.handlers message.now reply.now) }
+        ensures refused { IfErr result (IsNodeRefusal self.old.handlers (event.Hear message.now) reply.now) }
     {
         let Some(place) = place_of(&self.locals, message.handler()) else {
             return Err(ReplayError::NoHandler(message.handler()));
@@ -112,6 +117,7 @@ impl NodeReplay {
         ensures number { self.new.number ≡ self.old.number }
         ensures grows { OnOk result (Grows post.old post.new) }
         ensures goes { OnOk result (GoesOn (BeganSo handler) self.old self.new post.old post.new) }
+        ensures refused { IfErr result (IsNodeRefusal self.old.handlers (event.Begin handler) None) }
     {
         let Some(place) = place_of(&self.locals, handler) else {
             return Err(ReplayError::NoHandler(handler));
@@ -128,6 +134,8 @@ impl NodeReplay {
         ensures number { self.new.number ≡ self.old.number }
         ensures grows { OnOk result (Grows post.old post.new) }
         ensures goes { OnOk result (GoesOn (RanSo handler) self.old self.new post.old post.new) }
+        ensures out { OnOk result (HasNothingOut self.old.handlers handler → ⊥) }
+        ensures refused { IfErr result (IsNodeRefusal self.old.handlers (event.Finish handler) None) }
     {
         let Some(place) = place_of(&self.locals, handler) else {
             return Err(ReplayError::NoHandler(handler));
@@ -144,6 +152,7 @@ impl NodeReplay {
         ensures number { self.new.number ≡ self.old.number }
         ensures grows { OnOk result (Grows post.old post.new) }
         ensures opens { OnOk result (OpensAgain self.old self.new post.old post.new) }
+        ensures memory { IfErr result (λ e. e ≡ ReplayError.OutOfMemory) }
     {
         match reopen_all(alloc, &self.locals) {
             Ok(locals) => self.locals = locals,
@@ -196,7 +205,7 @@ impl NodeReplay {
         image: &[u8],
         pending: &[u8],
     ) -> Result<bool, OutOfMemory>
-        ensures { IfOk result (λ is. IsTrue is → IfSome (slice_get self.now.handlers place) (λ l. IsStoredAs l image.now pending.now)) }
+        ensures { IfOk result (λ is. IfSome (slice_get self.now.handlers place) (λ l. IsTrue is ↔ IsStoredAs l image.now pending.now)) }
     {
         if place < self.locals.len() {
             self.locals[place].is_stored_as(alloc, image, pending)

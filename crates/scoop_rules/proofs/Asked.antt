@@ -325,7 +325,7 @@ asked_kept w o l a tape i = record {
 }
 
 pub opens_asked : (ps : List Placement) (ns : List Newcomer) → Asked (opening ps ns)
-opens_asked ps ns = all_made (new_party (map (λ p. p.handler) ps)) (PartyAsked (opening ps ns)) (λ n. record { asked = λ r e. absurd (cc) }) ns
+opens_asked ps ns = all_made new_party (PartyAsked (opening ps ns)) (λ n. record { asked = λ r e. absurd (cc) }) ns
 
 -- ---- what it shows
 

@@ -11,20 +11,20 @@ use Rattle.scoop_keeper.specs.Keeper.{IsSame}
 use Rattle.scoop_driver.specs.declared.step.Step.{Step}
 use Rattle.scoop_driver.specs.Steps.{AllCan, walk}
 use Rattle.scoop_driver.specs.State.{Seen}
-use Rattle.scoop_runtime.specs.declared.error.RuntimeError.{RuntimeError}
-use Rattle.scoop_runtime.specs.declared.parting.Left.{Left}
-use Rattle.scoop_runtime.specs.declared.parting.Left.TheVariants as left
-use Rattle.scoop_runtime.specs.declared.progress.ClientStop.{ClientStop}
-use Rattle.scoop_runtime.specs.declared.progress.Unended.{Unended}
-use Rattle.scoop_runtime.specs.declared.progress.Unended.TheVariants.{Nothing, When, GivenUp, Cut, Held}
+use Rattle.scoop_texts.specs.declared.error.RuntimeError.{RuntimeError}
+use Rattle.scoop_session.specs.declared.parting.Left.{Left}
+use Rattle.scoop_session.specs.declared.parting.Left.TheVariants as left
+use Rattle.scoop_texts.specs.declared.progress.ClientStop.{ClientStop}
+use Rattle.scoop_texts.specs.declared.progress.Unended.{Unended}
+use Rattle.scoop_texts.specs.declared.progress.Unended.TheVariants.{Nothing, When, GivenUp, Cut, Held}
 use Rattle.scoop_runtime.specs.Beginnings.{BeginsNext}
 use Rattle.scoop_runtime.specs.ClientLives.{AreLives, BeginsNone, ClientLife, ClientRan, LivesAtMostOnce, LivesBy, LivesOf, LivesOn}
 use Rattle.scoop_runtime.specs.ClientLives.{LivesThen, RunsLives, Lived, Unbegun, it_stays, it_takes}
 use Rattle.scoop_runtime.specs.Cutting.{BecomesOf, PartsFrom}
-use Rattle.scoop_runtime.specs.Obeying.{Drives}
-use Rattle.scoop_runtime.specs.Parting.{Leaves}
-use Rattle.scoop_runtime.specs.Progress.{input_ended}
-use Rattle.scoop_runtime.proofs.Driven.{drives_both}
+use Rattle.scoop_session.specs.Obeying.{Drives}
+use Rattle.scoop_session.specs.Parting.{Leaves}
+use Rattle.scoop_session.specs.Endings.{input_ended}
+use Rattle.scoop_session.proofs.Driven.{drives_both}
 
 same_incarnations : (i : ℕ → Option ℕ) → IsSame i i
 same_incarnations i = record { each = λ c. refl }

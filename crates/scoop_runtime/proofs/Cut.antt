@@ -6,8 +6,8 @@ use Rattle.scoop_client.specs.State.{ClientState}
 use Rattle.scoop_driver.specs.State.{Seen}
 use Rattle.scoop_runtime.specs.Beginnings.{BeginsNext}
 use Rattle.scoop_runtime.specs.Cutting.{Cuts}
-use Rattle.scoop_runtime.specs.Obeying.{TakesTurnsOnly}
-use Rattle.scoop_runtime.specs.Parting.{owes}
+use Rattle.scoop_session.specs.Obeying.{TakesTurnsOnly}
+use Rattle.scoop_session.specs.Parting.{owes}
 
 pub cuts_then :
     (id : ClientId) (batch : ℕ) (known handlers : List HandlerId) (old new : ℕ → Option ℕ) (is_honest : Type 0) (fresh : ClientState) (s t : Seen)

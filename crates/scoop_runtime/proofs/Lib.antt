@@ -1,9 +1,5 @@
 mod ClientLives
 mod Cut
-mod Driven
-mod Gathered
-mod News
+mod Members
+mod Names
 mod NodeLives
-mod Inside
-mod Turned
-mod Writing

@@ -7,14 +7,14 @@ use Rattle.scoop_client.specs.State.{ClientState, phase_of}
 use Rattle.scoop_keeper.specs.Keeper.{IsSame, Sets, last_incarnation, next_of}
 use Rattle.scoop_driver.specs.declared.step.Step.{Step}
 use Rattle.scoop_driver.specs.Steps.{AllCan, commands_by, walk}
-use Rattle.scoop_runtime.specs.declared.error.RuntimeError.{RuntimeError}
-use Rattle.scoop_runtime.specs.declared.parting.Left.{Left}
-use Rattle.scoop_runtime.specs.declared.parting.Left.TheVariants as left
-use Rattle.scoop_runtime.specs.declared.progress.ClientStop.{ClientStop}
-use Rattle.scoop_runtime.specs.declared.progress.Unended.{Unended}
-use Rattle.scoop_runtime.specs.declared.progress.Unended.TheVariants.{Nothing, When, GivenUp, Cut, Held}
+use Rattle.scoop_texts.specs.declared.error.RuntimeError.{RuntimeError}
+use Rattle.scoop_session.specs.declared.parting.Left.{Left}
+use Rattle.scoop_session.specs.declared.parting.Left.TheVariants as left
+use Rattle.scoop_texts.specs.declared.progress.ClientStop.{ClientStop}
+use Rattle.scoop_texts.specs.declared.progress.Unended.{Unended}
+use Rattle.scoop_texts.specs.declared.progress.Unended.TheVariants.{Nothing, When, GivenUp, Cut, Held}
 use Rattle.scoop_runtime.specs.Beginnings.{BeginsNext}
-use Rattle.scoop_runtime.specs.Parting.{owes}
+use Rattle.scoop_session.specs.Parting.{owes}
 
 -- ---- lives
 

@@ -9,14 +9,14 @@ use Rattle.scoop_client.specs.State.{ClientState}
 use Rattle.scoop_keeper.specs.Keeper.{IsSame}
 use Rattle.scoop_driver.specs.declared.step.Step.{Step}
 use Rattle.scoop_driver.specs.Steps.{AllCan, commands_by, walk}
-use Rattle.scoop_runtime.specs.declared.parting.Left.{Left}
-use Rattle.scoop_runtime.specs.declared.parting.Left.TheVariants as left
-use Rattle.scoop_runtime.specs.declared.progress.Unended.{Unended}
-use Rattle.scoop_runtime.specs.declared.progress.Unended.TheVariants as unended
+use Rattle.scoop_session.specs.declared.parting.Left.{Left}
+use Rattle.scoop_session.specs.declared.parting.Left.TheVariants as left
+use Rattle.scoop_texts.specs.declared.progress.Unended.{Unended}
+use Rattle.scoop_texts.specs.declared.progress.Unended.TheVariants as unended
 use Rattle.scoop_runtime.specs.Beginnings.{BeginsNext}
 use Rattle.scoop_runtime.specs.ClientLives.{LivesAtMostOnce}
-use Rattle.scoop_runtime.specs.Parting.{owes}
-use Rattle.scoop_runtime.specs.Texts.{numbers_text}
+use Rattle.scoop_session.specs.Parting.{owes}
+use Rattle.scoop_links.specs.Texts.{numbers_text}
 
 -- A client's next incarnation began, and took turns until nothing was due to these handlers: each has welcomed it. A
 -- handler that welcomes an incarnation has cut the blocks of the earlier ones.

@@ -1,25 +1,17 @@
 //! A client whose commands are the lines of an input.
 
-ghost use Rattle.std.specs.Prelude.{◌≡◌, ◌++◌, None, Ok, Err, IfOk, OnErr, OnOk, is_some};
+ghost use Rattle.std.specs.Prelude.{◌≡◌, None, Ok, Err, IfOk, OnErr, OnOk, is_some};
 ghost use Rattle.scoop_client.specs.State.{phase_of};
 ghost use Rattle.scoop_keeper.specs.Keeper.{Stays};
-ghost use Rattle.scoop_runtime.specs.Beginnings.{BeginsNext, gather, known_in, placed_on};
+ghost use Rattle.scoop_system.specs.Known.{known_to};
+ghost use Rattle.scoop_runtime.specs.Beginnings.{BeginsNext};
 ghost use Rattle.scoop_runtime.specs.ClientLives.{BeginsNone, ClientRan, LivesOn, RunsLives};
-ghost use Rattle.scoop_runtime.specs.Obeying.{Drives};
-ghost use Rattle.scoop_runtime.specs.Progress.{input_ended};
+ghost use Rattle.scoop_session.specs.Obeying.{Drives};
+ghost use Rattle.scoop_session.specs.Endings.{input_ended};
 
 use crate::cutting::{Remains, cut_left, tell_unended};
-use crate::error::RuntimeError;
-use crate::lent_link::LentLink;
-use crate::news_link::NewsLink;
-use crate::patient_link::PatientLink;
 use crate::plan::ClientPlan;
-use crate::progress::{ClientStop, Progress, Unended};
-use crate::reply::{Reply, print_replies};
-use crate::session::{Session, unwritten};
 use crate::trying::Between;
-use crate::typing::{tell_help, tell_misread, tell_note, tell_ready};
-use crate::waiting_link::WaitingLink;
 use arrayvec::ArrayVec;
 use scoop_client::{BeginError, Client};
 use scoop_driver::Pause;
@@ -27,62 +19,17 @@ use scoop_errors::PartyError;
 use scoop_journal::{Journal, Line};
 use scoop_keeper::{Keeper, KeeperError};
 use scoop_lines::{LineBytes, LineSource};
-use scoop_link::{Link, PacedLink, REPEATS};
+use scoop_link::Link;
+use scoop_links::{LentLink, client_link};
 use scoop_message::{HandlerId, OutOfMemory};
-use scoop_system::{ClientLine, ClientPlace, HandlerPlace, NodePlace, System, read_line};
+use scoop_session::{Session, unwritten};
+use scoop_system::{ClientLine, ClientPlace, read_line};
+use scoop_texts::{
+    ClientStop, Progress, Reply, RuntimeError, Unended, print_replies, tell_error, tell_help,
+    tell_misread, tell_note, tell_ready,
+};
 use std::alloc::Global;
 use std::io::Write;
-
-// Adds the handler of this place, if it is on this node.
-fn add_placed(
-    node: &NodePlace,
-    place: &HandlerPlace,
-    known: &mut Vec<HandlerId>,
-) -> Result<(), OutOfMemory>
-    ensures { OnOk result (known.new.items ≡ known.old.items ++ placed_on node.now place.now) }
-{
-    if place.node == node.number {
-        known.push(place.handler)?;
-    }
-    Ok(())
-}
-
-// Adds the handlers of this node.
-fn add_node(
-    node: &NodePlace,
-    places: &[HandlerPlace],
-    known: &mut Vec<HandlerId>,
-) -> Result<(), OutOfMemory>
-    ensures { OnOk result (known.new.items ≡ known.old.items ++ gather (placed_on node.now) places.now) }
-{
-    for place in places {
-        add_placed(node, place, known)?;
-    }
-    Ok(())
-}
-
-// Adds the handlers of these nodes.
-fn add_nodes(
-    nodes: &[NodePlace],
-    places: &[HandlerPlace],
-    known: &mut Vec<HandlerId>,
-) -> Result<(), OutOfMemory>
-    ensures { OnOk result (known.new.items ≡ known.old.items ++ gather (λ n. gather (placed_on n) places.now) nodes.now) }
-{
-    for node in nodes {
-        add_node(node, places, known)?;
-    }
-    Ok(())
-}
-
-/// The handlers of a system, node by node: the theorem wants every client to know them in this order.
-pub(crate) fn known_handlers(alloc: Global, system: &System) -> Result<Vec<HandlerId>, OutOfMemory>
-    ensures { IfOk result (λ known. known.items ≡ known_in system.now) }
-{
-    let mut known = Vec::new(alloc);
-    add_nodes(system.nodes(), system.handlers(), &mut known)?;
-    Ok(known)
-}
 
 // Writes the first line of the client's life into its journal, if there is one.
 fn begin_journal<J: Write + Drop>(
@@ -196,16 +143,32 @@ fn read_and_obey<L: Link, J: Write + Drop, P: Pause, W: Write, N: Write>(
     ensures { Drives session.old.driver.seen session.new.driver.seen }
 {
     match read_line(plan.system(), line) {
-        Ok(asked) => {
-            progress.has_begun = true;
-            obey_line(plan, session, &asked, pause, writer, notes)
-        }
+        Ok(asked) => match plan.place().unused(&asked) {
+            Some(handler) => refuse_line(plan, RuntimeError::NotUsed(number, handler), notes),
+            None => {
+                progress.has_begun = true;
+                obey_line(plan, session, &asked, pause, writer, notes)
+            }
+        },
         Err(fault) if plan.is_typed() => {
             tell_misread(plan.system(), number, fault, notes);
             Ok(Next::Line)
         }
         Err(fault) => Err(RuntimeError::Line(number, fault)),
     }
+}
+
+// Ends the client with the error of a line, unless a user types.
+fn refuse_line<N: Write>(
+    plan: &ClientPlan<'_>,
+    error: RuntimeError,
+    notes: &mut N,
+) -> Result<Next, RuntimeError> {
+    if !plan.is_typed() {
+        return Err(error);
+    }
+    tell_error(error, notes);
+    Ok(Next::Line)
 }
 
 // Does what each line of the input asks, writes one reply for each, and records the progress. Returns the lines that were
@@ -303,23 +266,8 @@ fn obey_line<L: Link, J: Write + Drop, P: Pause, W: Write, N: Write>(
     }
 }
 
-/// The link of a client. It tolerates failed calls, drops stale replies, is rate-limited, and reports the handlers that the
-/// client waits for.
-pub(crate) fn client_link<L: Link, E: Write + Drop>(
-    alloc: Global,
-    link: L,
-    waits: E,
-    faults: E,
-    known: &[HandlerId],
-) -> Result<WaitingLink<PacedLink<NewsLink<PatientLink<L, E>>>, E>, OutOfMemory> {
-    let link = PatientLink::new(link, "client", faults);
-    let link = NewsLink::new(alloc, link, known)?;
-    let link = PacedLink::new(alloc, link, known.len(), REPEATS)?;
-    WaitingLink::new(alloc, link, waits, known.len())
-}
-
 // Greets, and does what the lines ask. Borrows the session, so that no early return has to drop it.
-#[tactic(auto, using(crate::proofs::Driven::drives_turned))]
+#[tactic(auto, using(crate::proofs::Names::drives_turned))]
 fn run_session<L: Link, J: Write + Drop, I: LineSource, P: Pause, W: Write, N: Write>(
     plan: &ClientPlan<'_>,
     session: &mut Session<'_, L, J>,
@@ -466,11 +414,11 @@ where
     P: Pause,
     W: Write,
     N: Write,
-    ensures lives { RunsLives plan.now.place.client plan.now.place.batch (known_in plan.now.system.now) (K.incarnations keeper.old) (K.incarnations keeper.new)
-        (K.is_honest keeper.new) result.ended result.unended }
+    ensures lives { RunsLives plan.now.place.client plan.now.place.batch (known_to plan.now.system.now plan.now.place) (K.incarnations keeper.old)
+        (K.incarnations keeper.new) (K.is_honest keeper.new) result.ended result.unended }
     ensures honest { K.is_honest keeper.new → K.is_honest keeper.old }
 {
-    let known = match known_handlers(alloc, plan.system()) {
+    let known = match plan.system().known_to(alloc, &plan.place()) {
         Ok(known) => known,
         Err(error) => return unbegun_after(RuntimeError::from(error)),
     };
@@ -493,8 +441,8 @@ where
     )
 }
 
-/// Runs a client over a link. It takes its next incarnation from the keeper, greets every handler, and then does what each
-/// line of the input asks. It writes one line for each, at once; for a refusal it writes `refused` and why, and goes on.
+/// Runs a client over a link. It takes its next incarnation from the keeper, greets every handler that it uses, and then does what
+/// each line of the input asks. It writes one line for each, at once; for a refusal it writes `refused` and why, and goes on.
 /// It writes its journal, if there is one: a command before it sends anything for it, and what it received before it acts on
 /// it. Repeated datagrams are rate-limited. When nothing new comes for a second, the client writes to `waits` which handlers it
 /// waits for. A call of the link that fails is written to `faults`; only the thousandth in a row ends the client. Between
@@ -506,15 +454,15 @@ where
 /// frees them. So a run takes at most two incarnations, and has a life with each.
 ///
 /// `notes` is also for a user who types the lines. The client then writes there:
-/// - that every handler has welcomed it, and which lines there are;
-/// - each line that can't be read, with advice;
+/// - that every handler that it uses has welcomed it, and which lines there are;
+/// - each line that can't be read or names a handler that the client doesn't use, with advice;
 /// - the meaning of each refusal;
 /// - how many tries of a waiting block failed.
 ///
 /// Refused, each with the progress so far:
 /// - what the keeper refuses, before anything is sent;
 /// - `NotWelcomed` and `NotAnswered` when the turns are over, and `link: LinkFault`;
-/// - the first line that can't be read, unless a user types;
+/// - the first line that can't be read or names a handler that the client doesn't use, unless a user types;
 /// - for a strict client the first line that is refused;
 /// - a fault of the input;
 /// - `InsideBlock` and `InsideWhen` if the input ends inside a block;
@@ -543,8 +491,8 @@ where
     P: Pause,
     W: Write,
     N: Write,
-    ensures ran { ClientRan plan.now.place.client plan.now.place.batch (known_in plan.now.system.now) (K.incarnations keeper.old) (K.incarnations keeper.new)
-        (K.is_honest keeper.new) result }
+    ensures ran { ClientRan plan.now.place.client plan.now.place.batch (known_to plan.now.system.now plan.now.place) (K.incarnations keeper.old)
+        (K.incarnations keeper.new) (K.is_honest keeper.new) result }
     ensures honest { K.is_honest keeper.new → K.is_honest keeper.old }
 {
     let mut progress = Progress::new();

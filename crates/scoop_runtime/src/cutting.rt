@@ -3,25 +3,21 @@
 ghost use Rattle.std.specs.Prelude.{◌≡◌, OnOk};
 ghost use Rattle.std.specs.Io.KnownBytes.{Appends};
 ghost use Rattle.scoop_keeper.specs.Keeper.{Stays};
-ghost use Rattle.scoop_runtime.specs.Beginnings.{known_in};
+ghost use Rattle.scoop_system.specs.Known.{known_to};
 ghost use Rattle.scoop_runtime.specs.ClientLives.{LivesAtMostOnce};
 ghost use Rattle.scoop_runtime.specs.Cutting.{BecomesOf, Cuts, IsNotGivenUp, Parts, PartsFrom, cut_text, freeing_text, held_text, unended_line};
 
-use crate::client::{begin_client, client_link, known_handlers};
-use crate::error::RuntimeError;
-use crate::lent_link::LentLink;
-use crate::parting::{Left, PARTING_TURNS};
+use crate::client::begin_client;
 use crate::plan::ClientPlan;
-use crate::progress::Unended;
-use crate::session::Session;
-use crate::typing::send_out;
-use crate::waiting_link::print_numbers;
 use scoop_client::HandlerList;
 use scoop_errors::PartyError;
 use scoop_journal::Journal;
 use scoop_keeper::Keeper;
 use scoop_link::Link;
+use scoop_links::{LentLink, client_link, print_numbers};
 use scoop_message::{Block, ClientId, HandlerId};
+use scoop_session::{Left, PARTING_TURNS, Session};
+use scoop_texts::{RuntimeError, Unended, send_out};
 use std::alloc::Global;
 use std::io;
 use std::io::Write;
@@ -180,7 +176,7 @@ fn print_cut<W: Write>(client: ClientId, handlers: &[HandlerId], writer: &mut W)
 }
 
 /// Cuts the block of a client that was killed: the client takes its next incarnation from the keeper, and greets every
-/// handler of the system. Then no handler holds a block of its earlier incarnations, and it writes
+/// handler that it uses. Then no handler holds a block of its earlier incarnations, and it writes
 /// `cut client 7 at handlers 1 2`. Handlers that don't welcome it are written to `notes`, with what frees them. `waits`
 /// gets the handlers that it waits for, and `faults` the calls of the link that fail. It writes its journal, if there is one.
 ///
@@ -206,13 +202,13 @@ where
     E: Write + Drop,
     W: Write,
     N: Write,
-    ensures cuts { OnOk result (Cuts plan.now.place.client plan.now.place.batch (known_in plan.now.system.now) (known_in plan.now.system.now)
-        (K.incarnations keeper.old) (K.incarnations keeper.new) (K.is_honest keeper.new)) }
-    ensures lives { LivesAtMostOnce plan.now.place.client plan.now.place.batch (known_in plan.now.system.now)
+    ensures cuts { OnOk result (Cuts plan.now.place.client plan.now.place.batch (known_to plan.now.system.now plan.now.place)
+        (known_to plan.now.system.now plan.now.place) (K.incarnations keeper.old) (K.incarnations keeper.new) (K.is_honest keeper.new)) }
+    ensures lives { LivesAtMostOnce plan.now.place.client plan.now.place.batch (known_to plan.now.system.now plan.now.place)
         (K.incarnations keeper.old) (K.incarnations keeper.new) (K.is_honest keeper.new) }
     ensures honest { K.is_honest keeper.new → K.is_honest keeper.old }
 {
-    let known = known_handlers(alloc, plan.system())?;
+    let known = plan.system().known_to(alloc, &plan.place())?;
     let mut link = client_link(alloc, link, waits, faults, &known)?;
     let turns = plan.turns();
     greet_anew(

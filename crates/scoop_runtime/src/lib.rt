@@ -2,7 +2,7 @@
 //!
 //! [`node_run`] serves a node with threads over a record. When its history is full it closes the node and opens it again
 //! over the same record and link. [`client_run`] runs a client whose commands are the lines of an input: it takes its next
-//! incarnation, greets every handler and replies line by line. At its end it leaves no block behind. [`client_cut`] does that
+//! incarnation, greets every handler that it uses and replies line by line. At its end it leaves no block behind. [`client_cut`] does that
 //! for a client that was killed. [`open_node_link`] and [`open_client_link`] bind their
 //! addresses. [`print_reply`] writes the reply to a line. [`check_script`] reads all lines of a script before a client runs them.
 //!
@@ -30,43 +30,27 @@
 //! ```
 #![tactic(auto)]
 
-mod advice;
 mod backoff;
 mod client;
 mod cutting;
 mod ending;
-mod error;
-mod last_block;
-mod lent_link;
 mod links;
-mod news_link;
 mod node;
+mod objects;
 mod openings;
-mod parting;
-mod patient_link;
 mod pending;
 mod plan;
-mod printing;
-mod progress;
-mod ranges;
-mod reply;
-mod script;
-mod session;
 mod trying;
-mod typing;
-mod waiting_link;
-mod wish;
 
-pub use advice::{About, FileFault};
 pub use backoff::Backoff;
 pub use client::client_run;
 pub use cutting::client_cut;
 pub use ending::Ending;
-pub use error::RuntimeError;
 pub use links::{open_client_link, open_node_link};
 pub use node::{node_run, node_run_until};
+pub use objects::{Objects, Tables};
 pub use plan::{ClientPlan, NodePlan, Serving};
-pub use progress::{ClientStop, Progress, Unended};
-pub use ranges::{MAX_EXECUTORS, MIN_HISTORY, OutOfRange};
-pub use reply::{Reply, print_reply};
-pub use script::check_script;
+pub use scoop_texts::{
+    About, ClientStop, FileFault, MAX_EXECUTORS, MIN_HISTORY, OutOfRange, Progress, Reply,
+    RuntimeError, Unended, check_script, print_reply,
+};

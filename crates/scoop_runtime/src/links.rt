@@ -1,10 +1,10 @@
 //! The links of nodes and clients.
 
-use crate::error::RuntimeError;
 use scoop_errors::PartyError;
 use scoop_link::{Addresses, Party, UdpLink};
 use scoop_message::OutOfMemory;
 use scoop_system::{ClientPlace, NodePlace, System};
+use scoop_texts::RuntimeError;
 use std::alloc::Global;
 use std::net::{Net, SocketAddr};
 

@@ -4,15 +4,15 @@ ghost use Rattle.std.specs.Prelude.{IfOk};
 ghost use Rattle.scoop_runtime.specs.NodeLives.{GoesFurther, GoesOn, NodeRan};
 
 use crate::ending::{Ending, EndingLink};
-use crate::error::RuntimeError;
-use crate::patient_link::PatientLink;
+use crate::objects::Objects;
 use crate::pending::{Resting, open_node, run_all, run_first};
 use crate::plan::{NodePlan, Serving};
-use crate::printing::{print_closed, print_ready, print_reopened};
 use scoop_errors::PartyError;
 use scoop_keeper::Keeper;
 use scoop_link::Link;
+use scoop_links::PatientLink;
 use scoop_netloop::{OpenGate, ServeEnd, Stop, serve};
+use scoop_texts::{RuntimeError, print_closed, print_ready, print_reopened};
 use std::alloc::Global;
 use std::io;
 use std::io::Write;
@@ -22,17 +22,18 @@ use std::time::Clock;
 
 // Serves the node until its history is full, its turns are over, it is asked to end or it fails, and closes it. Returns why it ended, and
 // the keeper.
-fn serve_once<K, L, R>(
+fn serve_once<O, K, L, R>(
     rt: &R,
     alloc: Global,
-    plan: &NodePlan,
+    plan: &NodePlan<O>,
     serving: &Serving,
-    resting: Resting<K>,
+    resting: Resting<O::Object, K>,
     link: &mut L,
     turns: u64,
     ending: &Ending,
-) -> Result<(ServeEnd, Resting<K>), RuntimeError>
+) -> Result<(ServeEnd, Resting<O::Object, K>), RuntimeError>
 where
+    O: Objects,
     K: Keeper<Global> + Send,
     L: Link,
     R: Threads + Wait + Clock + Sync,
@@ -58,13 +59,13 @@ fn told<W: Write>(written: io::Result<()>, writer: &mut W) -> Result<(), Runtime
 }
 
 // Runs what is pending after the history was full, and writes that the node is opened again.
-fn reopen<K: Keeper<Global>, W: Write, R: Wait>(
+fn reopen<O: Objects, K: Keeper<Global>, W: Write, R: Wait>(
     rt: &R,
     alloc: Global,
-    plan: &NodePlan,
-    resting: Resting<K>,
+    plan: &NodePlan<O>,
+    resting: Resting<O::Object, K>,
     writer: &mut W,
-) -> Result<Resting<K>, RuntimeError>
+) -> Result<Resting<O::Object, K>, RuntimeError>
     ensures { IfOk result (λ r. GoesOn K.handlers K.is_honest resting.stood resting.keeper r.stood r.keeper) }
 {
     let resting = run_all(rt, alloc, plan, resting)?;
@@ -75,17 +76,18 @@ fn reopen<K: Keeper<Global>, W: Write, R: Wait>(
 
 // Serves the node, opening by opening, until its turns are over or it is asked to end. Borrows the link, so that no early return has to drop
 // it.
-fn serve_on<K, L, E, W, R>(
+fn serve_on<O, K, L, E, W, R>(
     rt: &R,
     alloc: Global,
-    plan: &NodePlan,
+    plan: &NodePlan<O>,
     serving: &Serving,
-    mut resting: Resting<K>,
+    mut resting: Resting<O::Object, K>,
     link: &mut PatientLink<L, E>,
     writer: &mut W,
     ending: &Ending,
-) -> Result<Resting<K>, RuntimeError>
+) -> Result<Resting<O::Object, K>, RuntimeError>
 where
+    O: Objects,
     K: Keeper<Global> + Send,
     L: Link,
     E: Write + Drop,
@@ -122,10 +124,10 @@ where
 /// - what the keeper refuses;
 /// - a loop that ends in another way, and a node that can't be closed;
 /// - `write fault`, and `out of memory`.
-pub fn node_run<K, L, E, W, R>(
+pub fn node_run<O, K, L, E, W, R>(
     rt: &R,
     alloc: Global,
-    plan: &NodePlan,
+    plan: &NodePlan<O>,
     serving: &Serving,
     keeper: K,
     link: L,
@@ -133,6 +135,7 @@ pub fn node_run<K, L, E, W, R>(
     writer: &mut W,
 ) -> Result<K, RuntimeError>
 where
+    O: Objects,
     K: Keeper<Global> + Send,
     L: Link,
     E: Write + Drop,
@@ -147,10 +150,10 @@ where
 }
 
 /// The same for a node that another thread may ask to end: then it serves no further, and closes.
-pub fn node_run_until<K, L, E, W, R>(
+pub fn node_run_until<O, K, L, E, W, R>(
     rt: &R,
     alloc: Global,
-    plan: &NodePlan,
+    plan: &NodePlan<O>,
     serving: &Serving,
     keeper: K,
     link: L,
@@ -159,6 +162,7 @@ pub fn node_run_until<K, L, E, W, R>(
     ending: &Ending,
 ) -> Result<K, RuntimeError>
 where
+    O: Objects,
     K: Keeper<Global> + Send,
     L: Link,
     E: Write + Drop,

@@ -7,13 +7,14 @@ ghost use Rattle.scoop_keeper.specs.Keeper.{IsTheOne, Keeps, Missing, Stays, sto
 ghost use Rattle.scoop_runtime.specs.NodeLives.{Gained, GainedAt};
 ghost use Rattle.scoop_runtime.specs.Records.{HasState, LacksState};
 
-use crate::error::RuntimeError;
+use crate::objects::Objects;
 use crate::plan::{Member, NodePlan};
 use scoop_errors::PartyError;
 use scoop_handler::Handler;
 use scoop_keeper::{Keeper, KeeperError};
 use scoop_message::HandlerId;
-use scoop_object::{Class, Table};
+use scoop_object::{Behaviour, Class};
+use scoop_texts::RuntimeError;
 use std::alloc::Global;
 
 // The first of the handlers that the keeper has no state of. It loads the last one first.
@@ -40,8 +41,8 @@ fn missing_handler<K: Keeper<Global>>(
 
 /// Refuses a record that lacks a handler of the node, with `NoHandler`, or as the keeper refuses. Such a record is another
 /// party's, or its node was never ready.
-pub(crate) fn require_handlers<K: Keeper<Global>>(
-    plan: &NodePlan,
+pub(crate) fn require_handlers<O: Objects, K: Keeper<Global>>(
+    plan: &NodePlan<O>,
     keeper: &mut K,
 ) -> Result<(), RuntimeError>
     ensures all { K.is_honest keeper.new → OnOk result (AllByRecursion (HasState (K.handlers keeper.old)) plan.now.numbers.items) }
@@ -56,12 +57,12 @@ pub(crate) fn require_handlers<K: Keeper<Global>>(
 }
 
 // Stores the state of a new handler.
-fn put_opening<K: Keeper<Global>>(
+fn put_opening<B: Behaviour, K: Keeper<Global>>(
     alloc: Global,
-    opening: (HandlerId, Class, Table),
+    opening: (HandlerId, Class, B),
     keeper: &mut K,
 ) -> Result<(), RuntimeError>
-    ensures keeps { K.is_honest keeper.new → OnOk result (Keeps (K.handlers keeper.old) (K.handlers keeper.new) (new_state opening.0 opening.2.words)) }
+    ensures keeps { K.is_honest keeper.new → OnOk result (Keeps (K.handlers keeper.old) (K.handlers keeper.new) (new_state opening.0 (B.words opening.2))) }
     ensures honest { K.is_honest keeper.new → K.is_honest keeper.old }
 {
     let (number, class, object) = opening;
@@ -76,8 +77,9 @@ fn put_opening<K: Keeper<Global>>(
 }
 
 // Stores the handler's opening state, if the keeper has none.
-fn store_opening<K: Keeper<Global>>(
+fn store_opening<O: Objects, K: Keeper<Global>>(
     alloc: Global,
+    objects: &O,
     member: &Member,
     keeper: &mut K,
 ) -> Result<(), RuntimeError>
@@ -86,23 +88,23 @@ fn store_opening<K: Keeper<Global>>(
 {
     match keeper.load_handler(member.handler) {
         Ok(Some(_)) => Ok(()),
-        Ok(None) => put_opening(alloc, member.open(alloc)?, keeper),
+        Ok(None) => put_opening(alloc, member.open(alloc, objects)?, keeper),
         Err(refusal) => Err(RuntimeError::from(refusal)),
     }
 }
 
 /// Stores the opening state of each handler of the node that the keeper lacks, so that a node that was ready finds all of
 /// them again.
-pub(crate) fn store_openings<K: Keeper<Global>>(
+pub(crate) fn store_openings<O: Objects, K: Keeper<Global>>(
     alloc: Global,
-    plan: &NodePlan,
+    plan: &NodePlan<O>,
     keeper: &mut K,
 ) -> Result<(), RuntimeError>
     ensures gained { K.is_honest keeper.new → OnOk result ((h : ℕ) → GainedAt (K.handlers keeper.old) (K.handlers keeper.new) plan.now.members.items h) }
     ensures honest { K.is_honest keeper.new → K.is_honest keeper.old }
 {
     for member in &plan.members {
-        store_opening(alloc, member, keeper)?;
+        store_opening(alloc, &plan.objects, member, keeper)?;
     }
     Ok(())
 }

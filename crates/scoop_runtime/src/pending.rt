@@ -3,7 +3,7 @@
 ghost use Rattle.std.specs.Prelude.{◌≡◌, ◌≤◌, ℕ, IfOk, OnOk, vec_len};
 ghost use Rattle.scoop_runtime.specs.NodeLives.{GainedAt, GoesOn, IsKept, OpenedFrom, RanTo, RunsFrom};
 
-use crate::error::RuntimeError;
+use crate::objects::Objects;
 use crate::openings::{require_handlers, store_openings};
 use crate::plan::{NodePlan, Serving};
 use scoop_book::{Book, BookError, Node, OpenError, Pass, ReopenError, Standing};
@@ -12,7 +12,8 @@ use scoop_errors::PartyError;
 use scoop_keeper::{Keeper, KeeperError};
 use scoop_message::HandlerId;
 use scoop_netloop::{ServeEnd, run_out};
-use scoop_object::Table;
+use scoop_object::Behaviour;
+use scoop_texts::RuntimeError;
 use std::alloc::Global;
 use std::sync::Wait;
 
@@ -21,9 +22,9 @@ const FIRST_PASS: u32 = 0;
 
 /// A node between two openings: its keeper, and its handlers as they stand.
 #[derive(Drop)]
-pub(crate) struct Resting<K: Keeper<Global>> {
+pub(crate) struct Resting<B: Behaviour, K: Keeper<Global>> {
     pub(crate) keeper: K,
-    pub(crate) stood: Standing<Table>,
+    pub(crate) stood: Standing<B>,
 }
 
 // The error for handlers that don't open.
@@ -60,8 +61,8 @@ fn unrun(error: BookError) -> RuntimeError {
 }
 
 // Runs what is pending, handler after handler. Returns the handlers that are left; the history was full at the first.
-fn run_some<'h, K: Keeper<Global>>(
-    book: &mut Book<Table, K>,
+fn run_some<'h, B: Behaviour, K: Keeper<Global>>(
+    book: &mut Book<B, K>,
     handlers: &'h [HandlerId],
 ) -> Result<&'h [HandlerId], BookError>
     ensures opening { book.new.opening ≡ book.old.opening }
@@ -78,10 +79,10 @@ fn run_some<'h, K: Keeper<Global>>(
 }
 
 // Runs what is pending at `left`. Returns the node at rest, and the handlers that are still left.
-fn run_book<'h, K: Keeper<Global>>(
-    mut book: Book<Table, K>,
+fn run_book<'h, B: Behaviour, K: Keeper<Global>>(
+    mut book: Book<B, K>,
     left: &'h [HandlerId],
-) -> Result<(Resting<K>, &'h [HandlerId]), RuntimeError>
+) -> Result<(Resting<B, K>, &'h [HandlerId]), RuntimeError>
     ensures ran { IfOk result (λ r. RunsFrom K.handlers K.is_honest book.opening r.0.stood r.0.keeper) }
     ensures honest { IfOk result (λ r. K.is_honest r.0.keeper → K.is_honest book.keeper) }
 {
@@ -96,31 +97,31 @@ fn run_book<'h, K: Keeper<Global>>(
 
 // Opens the handlers over the keeper for the first time and runs what is pending. Returns the node at rest, and the
 // handlers that are still left.
-fn run_opened<'h, K: Keeper<Global>>(
+fn run_opened<'h, O: Objects, K: Keeper<Global>>(
     alloc: Global,
-    plan: &'h NodePlan,
+    plan: &'h NodePlan<O>,
     keeper: K,
-) -> Result<(Resting<K>, &'h [HandlerId]), RuntimeError>
+) -> Result<(Resting<O::Object, K>, &'h [HandlerId]), RuntimeError>
     ensures ran { IfOk result (λ r. RanTo K.handlers K.is_honest plan.now.members.items keeper r.0.keeper r.0.stood) }
     ensures kept { IfOk result (λ r. IsKept K.handlers K.is_honest r.0.stood r.0.keeper) }
 {
-    match Book::open(alloc, plan.objects(alloc)?, keeper) {
+    match Book::open(alloc, plan.handed(alloc)?, keeper) {
         Ok(book) => run_book(book, &plan.numbers),
         Err(error) => Err(unopened(error)),
     }
 }
 
 // The same for a node at rest.
-fn run_again<'h, K: Keeper<Global>>(
+fn run_again<'h, O: Objects, K: Keeper<Global>>(
     alloc: Global,
-    plan: &NodePlan,
-    resting: Resting<K>,
+    plan: &NodePlan<O>,
+    resting: Resting<O::Object, K>,
     left: &'h [HandlerId],
-) -> Result<(Resting<K>, &'h [HandlerId]), RuntimeError>
+) -> Result<(Resting<O::Object, K>, &'h [HandlerId]), RuntimeError>
     ensures goes_on { IfOk result (λ r. GoesOn K.handlers K.is_honest resting.stood resting.keeper r.0.stood r.0.keeper) }
     ensures honest { IfOk result (λ r. K.is_honest r.0.keeper → K.is_honest resting.keeper) }
 {
-    let handlers = plan.objects(alloc)?;
+    let handlers = plan.handed(alloc)?;
     let Resting { keeper, stood } = resting;
     match Book::reopen(alloc, handlers, keeper, &stood) {
         Ok(book) => run_book(book, left),
@@ -129,13 +130,13 @@ fn run_again<'h, K: Keeper<Global>>(
 }
 
 // Runs what is pending at `left`, opening after opening.
-fn run_left<'h, K: Keeper<Global>, R: Wait>(
+fn run_left<'h, O: Objects, K: Keeper<Global>, R: Wait>(
     rt: &R,
     alloc: Global,
-    plan: &NodePlan,
-    mut resting: Resting<K>,
+    plan: &NodePlan<O>,
+    mut resting: Resting<O::Object, K>,
     mut left: &'h [HandlerId],
-) -> Result<Resting<K>, RuntimeError>
+) -> Result<Resting<O::Object, K>, RuntimeError>
     ensures goes_on { IfOk result (λ r. GoesOn K.handlers K.is_honest resting.stood resting.keeper r.stood r.keeper) }
     ensures honest { IfOk result (λ r. K.is_honest r.keeper → K.is_honest resting.keeper) }
 {
@@ -152,21 +153,21 @@ fn run_left<'h, K: Keeper<Global>, R: Wait>(
 
 /// Runs the entries that a node took but didn't run before its history was full. No client would send them again, since
 /// they are acknowledged. Each pass over the handlers opens them anew, with an empty history.
-pub(crate) fn run_all<K: Keeper<Global>, R: Wait>(
+pub(crate) fn run_all<O: Objects, K: Keeper<Global>, R: Wait>(
     rt: &R,
     alloc: Global,
-    plan: &NodePlan,
-    resting: Resting<K>,
-) -> Result<Resting<K>, RuntimeError>
+    plan: &NodePlan<O>,
+    resting: Resting<O::Object, K>,
+) -> Result<Resting<O::Object, K>, RuntimeError>
     ensures { IfOk result (λ r. GoesOn K.handlers K.is_honest resting.stood resting.keeper r.stood r.keeper) }
 {
     run_left(rt, alloc, plan, resting, &plan.numbers)
 }
 
 // The record has every handler.
-fn prepare<K: Keeper<Global>>(
+fn prepare<O: Objects, K: Keeper<Global>>(
     alloc: Global,
-    plan: &NodePlan,
+    plan: &NodePlan<O>,
     serving: &Serving,
     keeper: &mut K,
 ) -> Result<(), RuntimeError>
@@ -181,13 +182,13 @@ fn prepare<K: Keeper<Global>>(
 }
 
 /// Prepares a node's record: it has every handler, and nothing is pending of what the node took before it was killed.
-pub(crate) fn run_first<K: Keeper<Global>, R: Wait>(
+pub(crate) fn run_first<O: Objects, K: Keeper<Global>, R: Wait>(
     rt: &R,
     alloc: Global,
-    plan: &NodePlan,
+    plan: &NodePlan<O>,
     serving: &Serving,
     mut keeper: K,
-) -> Result<Resting<K>, RuntimeError>
+) -> Result<Resting<O::Object, K>, RuntimeError>
     ensures ran { IfOk result (λ r. RanTo K.handlers K.is_honest plan.now.members.items keeper r.keeper r.stood) }
     ensures kept { IfOk result (λ r. IsKept K.handlers K.is_honest r.stood r.keeper) }
 {
@@ -197,16 +198,16 @@ pub(crate) fn run_first<K: Keeper<Global>, R: Wait>(
 }
 
 /// Opens the node again, with enough passes for a loop.
-pub(crate) fn open_node<K: Keeper<Global>>(
+pub(crate) fn open_node<O: Objects, K: Keeper<Global>>(
     alloc: Global,
-    plan: &NodePlan,
+    plan: &NodePlan<O>,
     serving: &Serving,
-    resting: Resting<K>,
-) -> Result<(Node<Table, K>, Vec<Pass>), RuntimeError>
+    resting: Resting<O::Object, K>,
+) -> Result<(Node<O::Object, K>, Vec<Pass>), RuntimeError>
     ensures enough { IfOk result (λ opened. 2 ≤ vec_len opened.1) }
     ensures opened { IfOk result (λ opened. OpenedFrom resting.stood opened.1.items) }
 {
-    let handlers = plan.objects(alloc)?;
+    let handlers = plan.handed(alloc)?;
     let Resting { keeper, stood } = resting;
     let passes = serving.passes();
     match Node::reopen_limited(alloc, handlers, keeper, passes, serving.history(), &stood) {

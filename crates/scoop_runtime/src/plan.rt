@@ -1,20 +1,21 @@
 //! The plans of a node that is served and of a client that runs.
 
-ghost use Rattle.std.specs.Prelude.{◌≡◌, ◌≤◌, ◌+◌, true, false, length, IfOk, MatchResult, Some, None};
+ghost use Rattle.std.specs.Prelude.{◌≡◌, ◌≤◌, ◌+◌, true, false, length, map, IfOk, MatchResult, Some, None};
 ghost use Rattle.scoop_message.specs.declared.limits.TheConstants.{MAX_ENTRIES, MAX_HANDLERS, MAX_HISTORY};
-ghost use Rattle.scoop_runtime.specs.declared.ranges.TheConstants.{MAX_EXECUTORS};
+ghost use Rattle.scoop_texts.specs.declared.ranges.TheConstants.{MAX_EXECUTORS};
 ghost use Rattle.std.specs.List.{AllZip};
+ghost use Rattle.scoop_runtime.specs.Members.{AreMembersOf, IsMemberOf, IsPlanOf};
 ghost use Rattle.scoop_runtime.specs.NodeLives.{IsMemberObject};
-ghost use Rattle.scoop_runtime.specs.Ranges.{client_fault, serving_fault};
+ghost use Rattle.scoop_texts.specs.Ranges.{client_fault, serving_fault};
 
-use crate::error::RuntimeError;
-use crate::ranges::OutOfRange;
+use crate::objects::{Objects, Tables};
 use scoop_client::BeginError;
 use scoop_errors::PartyError;
 use scoop_message::limits::MAX_HANDLERS;
 use scoop_message::{HandlerId, OutOfMemory, Words};
-use scoop_object::{Behaviour, Class, Table};
+use scoop_object::Class;
 use scoop_system::{ClientPlace, HandlerPlace, NodePlace, System};
+use scoop_texts::{OutOfRange, RuntimeError};
 use std::alloc::Global;
 
 /// The settings of a node that is served.
@@ -117,27 +118,34 @@ pub(crate) struct Member {
 
 impl Member {
     /// The handler with its class and a new object.
-    pub(crate) fn open(&self, alloc: Global) -> Result<(HandlerId, Class, Table), RuntimeError>
-        ensures { IfOk result (IsMemberObject ⟦<Table as Behaviour>⟧.words self.now) }
+    pub(crate) fn open<O: Objects>(
+        &self,
+        alloc: Global,
+        objects: &O,
+    ) -> Result<(HandlerId, Class, O::Object), RuntimeError>
+        ensures { IfOk result (IsMemberObject O.Object.words self.now) }
     {
         let class = self.class.copy_in(alloc)?;
-        match Table::new(self.class.copy_in(alloc)?, self.words) {
-            Ok(object) => Ok((self.handler, class, object)),
-            Err(_) => Err(RuntimeError::from(PartyError::WrongClass(self.handler))),
+        match objects.object(alloc, self.handler, &class, self.words)? {
+            Some(object) => Ok((self.handler, class, object)),
+            None => Err(RuntimeError::from(PartyError::WrongClass(self.handler))),
         }
     }
 }
 
-/// A node of a system.
+/// A node of a system, and what makes its objects.
 #[derive(Drop)]
-pub struct NodePlan {
+pub struct NodePlan<O: Objects = Tables> {
     pub(crate) place: NodePlace,
     pub(crate) members: Vec<Member>,
     pub(crate) numbers: Vec<HandlerId>,
+    pub(crate) objects: O,
 }
 
 // The handler as a member of its node. The system has its class.
-fn member_of(alloc: Global, system: &System, place: &HandlerPlace) -> Result<Member, RuntimeError> {
+fn member_of(alloc: Global, system: &System, place: &HandlerPlace) -> Result<Member, RuntimeError>
+    ensures { IfOk result (IsMemberOf system.now place.now) }
+{
     let Some(class) = system.class_of(alloc, place.class)? else {
         return Err(RuntimeError::from(PartyError::WrongClass(place.handler)));
     };
@@ -148,23 +156,66 @@ fn member_of(alloc: Global, system: &System, place: &HandlerPlace) -> Result<Mem
     })
 }
 
-impl NodePlan {
-    /// The node with its handlers, in the order of the file.
-    pub fn of(alloc: Global, system: &System, place: &NodePlace) -> Result<NodePlan, RuntimeError> {
-        let mut members = Vec::new(alloc);
-        let mut numbers = Vec::new(alloc);
-        for handler in system.handlers() {
-            if handler.node == place.number {
-                let member = member_of(alloc, system, handler)?;
-                members.push(member).map_err(OutOfMemory::from)?;
-                numbers.push(handler.handler).map_err(OutOfMemory::from)?;
-            }
+// The members of the node of this number, in the order of the file.
+fn members_on(alloc: Global, system: &System, number: u32) -> Result<Vec<Member>, RuntimeError>
+    ensures { IfOk result (λ members. AreMembersOf system.now number members.items) }
+{
+    let mut members = Vec::new(alloc);
+    let handlers = system.handlers();
+    for place in handlers {
+        if place.node == number {
+            let member = member_of(alloc, system, place)?;
+            members.push(member).map_err(OutOfMemory::from)?;
         }
+    }
+    Ok(members)
+}
+
+// The numbers of the members.
+fn numbers_of(alloc: Global, members: &[Member]) -> Result<Vec<HandlerId>, OutOfMemory>
+    ensures { IfOk result (λ numbers. numbers.items ≡ map (λ (m : Member). m.handler) members.now) }
+{
+    let mut numbers = Vec::new(alloc);
+    for member in members {
+        numbers.push(member.handler)?;
+    }
+    Ok(numbers)
+}
+
+impl NodePlan {
+    /// The node with its handlers, in the order of the file, each with its class and words. Its objects interpret their
+    /// classes.
+    pub fn of(alloc: Global, system: &System, place: &NodePlace) -> Result<NodePlan, RuntimeError>
+        ensures { IfOk result (IsPlanOf system.now place.now) }
+    {
+        let members = members_on(alloc, system, place.number)?;
+        let numbers = numbers_of(alloc, &members)?;
         Ok(NodePlan {
             place: *place,
             members,
             numbers,
+            objects: Tables,
         })
+    }
+}
+
+impl<O: Objects> NodePlan<O> {
+    /// The same node, whose objects these make.
+    pub fn with<P: Objects>(self, objects: P) -> NodePlan<P>
+        ensures { (result.place ≡ self.place) × (result.members ≡ self.members) × (result.numbers ≡ self.numbers) × (result.objects ≡ objects) }
+    {
+        let NodePlan {
+            place,
+            members,
+            numbers,
+            ..
+        } = self;
+        NodePlan {
+            place,
+            members,
+            numbers,
+            objects,
+        }
     }
 
     /// The handlers, in the order of the file.
@@ -175,16 +226,16 @@ impl NodePlan {
     }
 
     /// The handlers with their classes and new objects.
-    pub(crate) fn objects(
+    pub(crate) fn handed(
         &self,
         alloc: Global,
-    ) -> Result<Vec<(HandlerId, Class, Table)>, RuntimeError>
+    ) -> Result<Vec<(HandlerId, Class, O::Object)>, RuntimeError>
         ensures few { IfOk result (λ handlers. length handlers.items ≤ MAX_HANDLERS) }
-        ensures members { IfOk result (λ handlers. AllZip (IsMemberObject ⟦<Table as Behaviour>⟧.words) self.now.members.items handlers.items) }
+        ensures members { IfOk result (λ handlers. AllZip (IsMemberObject O.Object.words) self.now.members.items handlers.items) }
     {
         let mut handlers = Vec::new(alloc);
         for member in &self.members {
-            let opened = member.open(alloc)?;
+            let opened = member.open(alloc, &self.objects)?;
             handlers.push(opened).map_err(OutOfMemory::from)?;
         }
         if handlers.len() > MAX_HANDLERS {
@@ -220,6 +271,33 @@ impl<'a> ClientPlan<'a> {
         ensures ranges { MatchResult result (λ p. client_fault turns place.batch ≡ None) (λ range. client_fault turns place.batch ≡ Some range) }
         ensures kept { IfOk result (λ p. (p.place ≡ place) × (p.turns ≡ turns) × (p.is_typed ≡ is_typed) × (p.is_strict ≡ false)) }
     {
+        ClientPlan::made(system, place, turns, is_typed, false)
+    }
+
+    /// The same for a client that ends after the first line that is refused or whose condition fails.
+    pub fn new_strict(
+        system: &'a System,
+        place: ClientPlace,
+        turns: u64,
+        is_typed: bool,
+    ) -> Result<ClientPlan<'a>, OutOfRange>
+        ensures ranges { MatchResult result (λ p. client_fault turns place.batch ≡ None) (λ range. client_fault turns place.batch ≡ Some range) }
+        ensures kept { IfOk result (λ p. (p.place ≡ place) × (p.turns ≡ turns) × (p.is_typed ≡ is_typed) × (p.is_strict ≡ true)) }
+    {
+        ClientPlan::made(system, place, turns, is_typed, true)
+    }
+
+    // The client with these settings, if they are in their ranges.
+    fn made(
+        system: &'a System,
+        place: ClientPlace,
+        turns: u64,
+        is_typed: bool,
+        is_strict: bool,
+    ) -> Result<ClientPlan<'a>, OutOfRange>
+        ensures ranges { MatchResult result (λ p. client_fault turns place.batch ≡ None) (λ range. client_fault turns place.batch ≡ Some range) }
+        ensures kept { IfOk result (λ p. (p.place ≡ place) × (p.turns ≡ turns) × (p.is_typed ≡ is_typed) × (p.is_strict ≡ is_strict)) }
+    {
         if !OutOfRange::Turns.is_within(turns) {
             return Err(OutOfRange::Turns);
         }
@@ -231,30 +309,8 @@ impl<'a> ClientPlan<'a> {
             place,
             turns,
             is_typed,
-            is_strict: false,
+            is_strict,
         })
-    }
-
-    /// The same client, but it ends after the first line that is refused or whose condition fails.
-    pub fn strict(self) -> ClientPlan<'a>
-        ensures system { result.system ≡ self.entry.system }
-        ensures kept { (result.place ≡ self.entry.place) × (result.turns ≡ self.entry.turns) × (result.is_typed ≡ self.entry.is_typed) }
-        ensures strict { result.is_strict ≡ true }
-    {
-        let ClientPlan {
-            system,
-            place,
-            turns,
-            is_typed,
-            ..
-        } = self;
-        ClientPlan {
-            system,
-            place,
-            turns,
-            is_typed,
-            is_strict: true,
-        }
     }
 
     /// The system.

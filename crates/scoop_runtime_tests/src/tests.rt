@@ -10,6 +10,7 @@ mod leaving;
 mod lossy_link;
 mod moments;
 mod node_and_client;
+mod own_objects;
 mod pausing;
 mod printing;
 mod replay;
@@ -131,7 +132,9 @@ fn ask_lines<L: Link, I: LineSource>(
 ) -> Option<Told> {
     let place = *system.client(ClientId(number))?;
     // a client of it, whose commands are these lines
-    let plan = ClientPlan::new(system, place, TURNS, is_typed).ok()?;
+    let Ok(plan) = ClientPlan::new(system, place, TURNS, is_typed) else {
+        return None;
+    };
     Some(ask_planned(alloc, &plan, keeper, link, lines))
 }
 

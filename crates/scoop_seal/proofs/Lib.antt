@@ -1,4 +1,5 @@
 mod Blocks
+mod Joins
 mod Differences
 mod Seals
 mod Opening

@@ -1,8 +1,8 @@
 -- Keys as text.
-use Rattle.std.specs.Prelude.{ℕ, ◌-◌, ◌==◌, List, length, take, slice_index, Result, Ok, Err, if◌then◌else◌}
+use Rattle.std.specs.Prelude.{ℕ, ◌-◌, ◌==◌, List, [], ◌∷◌, ◌++◌, length, take, slice_index, Result, Ok, Err, if◌then◌else◌}
 use Rattle.hex.specs.declared.error.FromHexError.{FromHexError}
 use Rattle.hex.specs.declared.error.FromHexError.TheVariants.{InvalidHexCharacter, OddLength, InvalidStringLength, OutOfMemory}
-use Rattle.hex.specs.Hex.{decode_sized}
+use Rattle.hex.specs.Hex.{decode_sized, encode_lower}
 use Rattle.scoop_seal.specs.declared.key.KeyError.{KeyError}
 use Rattle.scoop_seal.specs.declared.key.KeyError.TheVariants.{Length, Digit}
 
@@ -25,3 +25,7 @@ key_from (Err OutOfMemory) = Err Length
 -- the key of a text, or the reason why it has none: it must have 64 bytes, each a hex digit
 abbrev pub key_in : List ℕ → Result (List ℕ) KeyError
 key_in text = key_from (decode_sized (line_of text) 32)
+
+-- the text of a key: its digits, and a line feed
+abbrev pub key_text : List ℕ → List ℕ
+key_text key = encode_lower key ++ 10 ∷ []

@@ -1,14 +1,19 @@
 //! Keys.
 
 ghost use Rattle.std.specs.Prelude.{◌≡◌};
-ghost use Rattle.scoop_seal.specs.Key.{end_len, key_in};
+ghost use Rattle.scoop_seal.specs.Key.{end_len, key_in, key_text};
+ghost use Rattle.scoop_seal.specs.System.{sealing_key};
 
-use hex::{FromHex, FromHexError};
+use crate::system_key::system_code;
+use hex::{FromHex, FromHexError, encode_to_slice};
 use std::marker::Model;
 use thiserror::Error;
 
 // Bytes of a key.
 const KEY_LEN: usize = 32;
+
+// Bytes of its text: the digits, and the end of line.
+const TEXT_LEN: usize = 65;
 
 /// A key of 32 bytes. It can't be printed. Contracts see its bytes.
 #[derive(Clone, Copy)]
@@ -65,6 +70,31 @@ impl Key {
             Ok(bytes) => Ok(Key { bytes }),
             Err(FromHexError::InvalidHexCharacter { .. }) => Err(KeyError::Digit),
             Err(_) => Err(KeyError::Length),
+        }
+    }
+
+    /// The text of the key, as `read` reads it: 64 lower-case hex digits, and a line feed.
+    pub fn to_text(&self) -> [u8; TEXT_LEN]
+        ensures { result ≡ key_text self.now }
+    {
+        let mut text = [b'\n'; TEXT_LEN];
+        let Ok(()) = encode_to_slice(&self.bytes, &mut text[..2 * KEY_LEN]) else {
+            unreachable!()
+        };
+        text
+    }
+
+    /// The key that seals the datagrams of a system with this name and life. It is the code of both under this key, so
+    /// that systems and lives with the same key don't hear each other. An empty name and the life 0 stand for a system
+    /// without either, whose datagrams this key seals itself.
+    pub fn of_system(&self, name: &[u8], life: u32) -> Key
+        ensures { result ≡ sealing_key self.now name.now life }
+    {
+        if name.is_empty() && life == 0 {
+            return *self;
+        }
+        Key {
+            bytes: system_code(&self.bytes, name, life),
         }
     }
 

@@ -1,8 +1,8 @@
 //! Sealed datagrams: a link whose datagrams carry a tag that only a holder of the key can make.
 //!
 //! [`hmac`] is the code of RFC 2104 over SHA-256, and [`Key`] a key of 32 bytes. [`SealedLink`] puts 16 bytes of
-//! the code after each datagram that it sends, and gives only datagrams with the right ones. Nothing is secret
-//! except the key. No call takes memory.
+//! the code after each datagram that it sends, and gives only datagrams with the right ones. [`Key::of_system`] binds
+//! the key to a system's name and life. Nothing is secret except the key. No call takes memory.
 //!
 //! ```
 //! let key = Key::new([5; 32]);
@@ -25,6 +25,7 @@
 mod key;
 mod mac;
 mod sealed_link;
+mod system_key;
 mod tag;
 
 pub use key::{Key, KeyError};

@@ -10,16 +10,16 @@ use sha2::{Digest, Sha256};
 const BLOCK_LEN: usize = 64;
 
 // Bytes of a digest.
-const DIGEST_LEN: usize = 32;
+pub(crate) const DIGEST_LEN: usize = 32;
 
 // The byte that is mixed into the key before the message.
-const INNER: u8 = 0x36;
+pub(crate) const INNER: u8 = 0x36;
 
 // The byte that is mixed into the key before the inner digest.
-const OUTER: u8 = 0x5c;
+pub(crate) const OUTER: u8 = 0x5c;
 
 // A key as one block.
-fn block_of(key: &[u8]) -> [u8; BLOCK_LEN]
+pub(crate) fn block_of(key: &[u8]) -> [u8; BLOCK_LEN]
     ensures { result ≡ block_key key.now }
 {
     let mut block = [0; BLOCK_LEN];
@@ -33,7 +33,7 @@ fn block_of(key: &[u8]) -> [u8; BLOCK_LEN]
 }
 
 // A block with a byte mixed into each of its bytes.
-fn mix(block: &[u8; BLOCK_LEN], byte: u8) -> [u8; BLOCK_LEN]
+pub(crate) fn mix(block: &[u8; BLOCK_LEN], byte: u8) -> [u8; BLOCK_LEN]
     ensures { result ≡ mixed block.now byte }
 {
     let mut mixed = *block;
@@ -44,7 +44,7 @@ fn mix(block: &[u8; BLOCK_LEN], byte: u8) -> [u8; BLOCK_LEN]
 }
 
 // The digest of two pieces as one message.
-fn digest_of(first: &[u8], second: &[u8]) -> [u8; DIGEST_LEN]
+pub(crate) fn digest_of(first: &[u8], second: &[u8]) -> [u8; DIGEST_LEN]
     ensures { result ≡ sha256 (first.now ++ second.now) }
 {
     let mut hasher = Sha256::new();

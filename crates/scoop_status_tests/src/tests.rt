@@ -37,15 +37,13 @@ fn state(alloc: Global, words: &[u64]) -> Result<HandlerState, Fail> {
     Ok(state)
 }
 
-// A watch of a node of a system whose only client is client 7.
-fn watch(alloc: Global, log: LogLevel) -> Result<Watch, Fail> {
-    let clients = vec![in alloc; ClientId(7)]?;
+// A watch that shows states.
+fn watch(alloc: Global, log: LogLevel) -> Watch {
     let settings = Settings {
         log,
         shows_states: true,
-        clients,
     };
-    Ok(Watch::new(alloc, settings))
+    Watch::new(alloc, settings)
 }
 
 // A message without a reply.

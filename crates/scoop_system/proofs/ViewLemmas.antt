@@ -15,6 +15,8 @@ use Rattle.scoop_system.specs.KeyText.{key_text}
 use Rattle.scoop_system.specs.declared.error.Key.TheVariants as key
 use Rattle.scoop_system.specs.Value.{list_of, list_at, names_of, words_at, some_words, is_known, key_fault}
 use Rattle.scoop_system.specs.Name.{told}
+use Rattle.scoop_system.specs.declared.place.HandlerPlace.{HandlerPlace}
+use Rattle.scoop_system.specs.Used.{listed_used, some_used}
 
 -- the values of a list
 pub list_of_view : (vs : List Value) → list_of (items_view vs) ≡ map view vs
@@ -55,6 +57,11 @@ list_few k limit d list vs found array few = rw (found, array, list_of_view vs, 
 pub words_listed : (d list : Data) (vs : List Value) → get (key_text key.Words) d ≡ Some list → as_array list ≡ Some (items_view vs)
     → some_words (map view vs) ≡ words_at d
 words_listed d list vs found array = rw (found, array, list_of_view vs) refl
+
+-- the handlers of a client
+pub used_listed : (handlers : List HandlerPlace) (list : Data) (vs : List Value) → as_array list ≡ Some (items_view vs)
+    → some_used handlers (map view vs) ≡ listed_used handlers (as_array list)
+used_listed handlers list vs array = rw (array, list_of_view vs) refl
 
 -- the first key that isn't known, and none
 pub key_unknown : (known : List Key) (d : Data) (m : BTreeMap (String Global) Value) (name : String Global) → as_table d ≡ Some (table_view m)

@@ -1,7 +1,7 @@
 -- Texts of faults.
 use Rattle.std.specs.Prelude.{ℕ, List, [], ◌++◌, codes, Option, Some, None}
 use Rattle.std.specs.Fmt.{decimal}
-use Rattle.scoop_message.specs.declared.limits.TheConstants.{MAX_WORDS}
+use Rattle.scoop_message.specs.declared.limits.TheConstants.{MAX_HANDLERS, MAX_WORDS}
 use Rattle.scoop_system.specs.declared.error.Place.{Place}
 use Rattle.scoop_system.specs.declared.error.Place.TheVariants as place
 use Rattle.scoop_system.specs.declared.error.Wrong.{Wrong}
@@ -16,6 +16,7 @@ quoted name = codes "\"" ++ name ++ codes "\""
 
 abbrev pub place_text : Place → List ℕ
 place_text place.File = codes "file"
+place_text place.System = codes "system"
 place_text (place.Numbered kind number) = key_text kind ++ codes " " ++ decimal number
 place_text (place.Nameless kind count) = codes "[[" ++ key_text kind ++ codes "]] " ++ decimal count
 place_text (place.Class name) = codes "class " ++ quoted name
@@ -32,6 +33,7 @@ plain_text wrong.NotWords = codes "words must be a list of 1 to " ++ (decimal MA
 plain_text wrong.NotAText = codes "a term must be text: write it in quotes"
 plain_text wrong.NotATest = codes "test must be a formula or a list of two terms"
 plain_text wrong.NotAWrite = codes "a write must be a formula or a list of a word and three terms"
+plain_text wrong.NotHandlers = codes "handlers must be a list of 1 to " ++ (decimal MAX_HANDLERS ++ codes " numbers or names of handlers")
 plain_text other = []
 
 abbrev pub wrong_text : Wrong → List ℕ
@@ -55,10 +57,14 @@ wrong_text (wrong.NotAWriteFormula text) = quoted text ++ codes " is not a write
 wrong_text (wrong.NoSuchWord term) = term ++ codes " is not a word"
 wrong_text (wrong.NoSuchArgument term) = term ++ codes " is not an argument"
 wrong_text (wrong.WrittenTwice word) = codes "w" ++ decimal word ++ codes " is written twice"
+wrong_text (wrong.NoSuchHandler number) = codes "no such handler " ++ decimal number
+wrong_text (wrong.NoHandlerNamed name) = codes "no such handler " ++ quoted name
+wrong_text (wrong.HandlerTwice number) = codes "handler " ++ decimal number ++ codes " stands twice"
 wrong_text plain = plain_text plain
 
 abbrev pub placed : Place → List ℕ → List ℕ
 placed place.File text = text
+placed place.System text = place_text place.System ++ codes ": " ++ text
 placed (place.Numbered kind number) text = place_text (place.Numbered kind number) ++ codes ": " ++ text
 placed (place.Nameless kind count) text = place_text (place.Nameless kind count) ++ codes ": " ++ text
 placed (place.Class name) text = place_text (place.Class name) ++ codes ": " ++ text

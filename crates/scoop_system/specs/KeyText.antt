@@ -2,7 +2,7 @@
 use Rattle.std.specs.Prelude.{ℕ, List, [], codes}
 use Rattle.scoop_system.specs.declared.error.Key.{Key}
 use Rattle.scoop_system.specs.declared.error.Key.TheVariants.{Class, Node, Handler, Client, Operation, Number, Name, Address, Status, Words, Batch, Test}
-use Rattle.scoop_system.specs.declared.error.Key.TheVariants.{Writes, Answer}
+use Rattle.scoop_system.specs.declared.error.Key.TheVariants.{Writes, Answer, System, Life, Handlers}
 
 abbrev pub key_text : Key → List ℕ
 key_text Class = codes "class"
@@ -19,6 +19,9 @@ key_text Batch = codes "batch"
 key_text Test = codes "test"
 key_text Writes = codes "writes"
 key_text Answer = codes "answer"
+key_text System = codes "system"
+key_text Life = codes "life"
+key_text Handlers = codes "handlers"
 
 -- how the tables of a key are written
 abbrev pub hint_text : Key → List ℕ
@@ -36,3 +39,6 @@ hint_text Batch = []
 hint_text Test = []
 hint_text Writes = []
 hint_text Answer = []
+hint_text System = []
+hint_text Life = []
+hint_text Handlers = []

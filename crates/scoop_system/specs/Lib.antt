@@ -4,9 +4,12 @@ pub mod NamedConditions
 pub mod ShownWord
 pub mod Words
 pub mod Operations
+pub mod Identity
 pub mod System
+pub mod Known
 pub mod Arguments
 pub mod Line
+pub mod Using
 pub mod LineText
 pub mod Address
 pub mod KeyText
@@ -16,6 +19,7 @@ pub mod Place
 pub mod Formulas
 pub mod Terms
 pub mod Classes
+pub mod Used
 pub mod Meaning
 pub mod Stop
 pub mod File

@@ -8,7 +8,7 @@ use Rattle.scoop_message.specs.declared.limits.TheConstants.{MAX_ARGS}
 use Rattle.scoop_message.specs.declared.name.HandlerId.{HandlerId}
 use Rattle.scoop_message.specs.declared.request.Request.{Request}
 use Rattle.scoop_classes.specs.Classes.{same_text}
-use Rattle.scoop_system.specs.declared.named_handlers.TheConstants.{MAX_NAMED}
+use Rattle.scoop_system.specs.declared.line.reserve.TheConstants.{MAX_NAMED}
 use Rattle.scoop_system.specs.declared.condition.TheConstants.{MAX_CONDITIONS}
 use Rattle.scoop_system.specs.declared.condition.Test.{Test}
 use Rattle.scoop_system.specs.declared.condition.Test.TheVariants.{Least, Most, Is}

@@ -8,6 +8,7 @@ use Rattle.std.specs.Net.Addr.{is_ipv4}
 use Rattle.toml.specs.Data.{Data, get}
 use Rattle.scoop_lines.specs.Reading.{Read, ◌>>=◌, unless}
 use Rattle.scoop_message.specs.declared.limits.TheConstants.{MAX_NODES, MAX_HANDLERS, MAX_CLIENTS, MAX_ENTRIES}
+use Rattle.scoop_message.specs.declared.name.HandlerId.{HandlerId}
 use Rattle.scoop_classes.specs.Classes.{class_of_name, table_of}
 use Rattle.scoop_classes.specs.declared.classes.DemoClass.{DemoClass}
 use Rattle.scoop_system.specs.declared.error.Key.{Key}
@@ -15,20 +16,22 @@ use Rattle.scoop_system.specs.declared.error.Key.TheVariants as key
 use Rattle.scoop_system.specs.declared.error.Wrong.{Wrong}
 use Rattle.scoop_system.specs.declared.error.Wrong.TheVariants.{Twice, NameTwice, AddressOf, StatusOf, OtherFamily, NoSuchNode, NoSuchClass}
 use Rattle.scoop_system.specs.declared.error.Wrong.TheVariants.{WordCount}
-use Rattle.scoop_system.specs.declared.error.Place.TheVariants.{File}
+use Rattle.scoop_system.specs.declared.error.Place.TheVariants.{File, System}
 use Rattle.scoop_system.specs.declared.place.NodePlace.{NodePlace}
 use Rattle.scoop_system.specs.declared.place.HandlerPlace.{HandlerPlace}
 use Rattle.scoop_system.specs.declared.place.HandlerClass.{HandlerClass}
 use Rattle.scoop_system.specs.declared.place.HandlerClass.TheVariants.{Known, Own}
 use Rattle.scoop_system.specs.declared.place.ClientPlace.{ClientPlace}
+use Rattle.scoop_system.specs.declared.identity.Identity.{Identity}
 use Rattle.scoop_system.specs.declared.reading.TheConstants.{MAX_CLASSES}
 use Rattle.scoop_system.specs.Name.{told}
 use Rattle.scoop_system.specs.System.{Plan, NamedClass, class_named, has_name}
-use Rattle.scoop_system.specs.Value.{number_at, text_at, address_at, status_at, words_at, handler_name_at, list_at, key_fault, in_range, whole_of}
+use Rattle.scoop_system.specs.Value.{number_at, text_at, name_at, address_at, status_at, words_at, handler_name_at, list_at, key_fault, in_range, whole_of}
 use Rattle.scoop_system.specs.KeyText.{key_text}
 use Rattle.scoop_system.specs.Address.{same_address}
 use Rattle.scoop_system.specs.Place.{Told, at, place_at}
 use Rattle.scoop_system.specs.Classes.{classes_from}
+use Rattle.scoop_system.specs.Used.{used_at}
 
 -- this fault, if the test passes
 abbrev pub wrong_if : Bool → Wrong → Option Wrong
@@ -153,7 +156,7 @@ handlers_from classes nodes handlers (d ∷ ds) =
 -- ---- clients
 
 abbrev pub client_keys : List Key
-client_keys = key.Number ∷ key.Address ∷ key.Batch ∷ []
+client_keys = key.Number ∷ key.Address ∷ key.Batch ∷ key.Handlers ∷ []
 
 abbrev pub batch_in : Option Data → Read Wrong ℕ
 batch_in None = Ok 1
@@ -163,25 +166,63 @@ batch_in (Some d) = in_range key.Batch 1 MAX_ENTRIES (whole_of d)
 abbrev pub batch_at : Data → Read Wrong ℕ
 batch_at d = batch_in (get (key_text key.Batch) d)
 
-abbrev pub new_client : ℕ → SocketAddr → ℕ → ClientPlace
-new_client number address batch = record { client = record { 0 = number }; address = address; batch = batch }
+abbrev pub new_client : ℕ → SocketAddr → ℕ → Option (List HandlerId) → ClientPlace
+new_client number address batch handlers =
+    record { client = record { 0 = number }; address = address; batch = batch; handlers = handlers }
 
 -- a client, after those before it
-abbrev pub client_of : List NodePlace → List ClientPlace → Data → Read Wrong ClientPlace
-client_of nodes clients d =
+abbrev pub client_of : List NodePlace → List HandlerPlace → List ClientPlace → Data → Read Wrong ClientPlace
+client_of nodes handlers clients d =
     unless (key_fault client_keys d)
-    (number_of d >>= λ number. address_at d >>= λ address. batch_at d >>= λ batch. unless (wrong_if (list_any (λ c. c.client.0 == number) clients) Twice)
-    (unless (address_fault nodes clients address) (Ok (new_client number address batch))))
+    (number_of d >>= λ number. address_at d >>= λ address. batch_at d >>= λ batch. used_at handlers d >>= λ used.
+    unless (wrong_if (list_any (λ c. c.client.0 == number) clients) Twice)
+    (unless (address_fault nodes clients address) (Ok (new_client number address batch used))))
 
-abbrev pub clients_from : List NodePlace → List ClientPlace → List Data → Told (List ClientPlace)
-clients_from nodes clients [] = Ok clients
-clients_from nodes clients (d ∷ ds) =
-    at (place_at key.Client (length clients + 1) d) (client_of nodes clients d) >>= λ c. clients_from nodes (clients ++ c ∷ []) ds
+abbrev pub clients_from : List NodePlace → List HandlerPlace → List ClientPlace → List Data → Told (List ClientPlace)
+clients_from nodes handlers clients [] = Ok clients
+clients_from nodes handlers clients (d ∷ ds) =
+    at (place_at key.Client (length clients + 1) d) (client_of nodes handlers clients d) >>= λ c. clients_from nodes handlers (clients ++ c ∷ []) ds
+
+-- ---- the name and the life
+
+abbrev pub name_in : Option Data → Read Wrong (List ℕ) → Read Wrong (Option (List ℕ))
+name_in None name = Ok None
+name_in (Some d) name = name >>= λ n. Ok (Some n)
+
+-- the name of the system, if it has one
+abbrev pub own_name_at : Data → Read Wrong (Option (List ℕ))
+own_name_at d = name_in (get (key_text key.Name) d) (name_at key.Name d)
+
+abbrev pub life_in : Option Data → Read Wrong (Option ℕ)
+life_in None = Ok None
+life_in (Some d) = in_range key.Life 1 (2 ^ 32 - 1) (whole_of d) >>= λ n. Ok (Some n)
+
+-- the life of the system, if it says one
+abbrev pub life_at : Data → Read Wrong (Option ℕ)
+life_at d = life_in (get (key_text key.Life) d)
+
+abbrev pub identity_keys : List Key
+identity_keys = key.Name ∷ key.Life ∷ []
+
+abbrev pub new_identity : Option (List ℕ) → Option ℕ → Identity
+new_identity name life = record { name = name; life = life }
+
+-- the name and the life in a table
+abbrev pub identity_from : Data → Read Wrong Identity
+identity_from d = unless (key_fault identity_keys d) (own_name_at d >>= λ name. life_at d >>= λ life. Ok (new_identity name life))
+
+abbrev pub identity_in : Option Data → Told Identity
+identity_in None = Ok (new_identity None None)
+identity_in (Some d) = at System (identity_from d)
+
+-- the name and the life of the file; none without a table of them
+abbrev pub identity_of : Data → Told Identity
+identity_of d = identity_in (get (key_text key.System) d)
 
 -- ---- the whole
 
 abbrev pub file_keys : List Key
-file_keys = key.Class ∷ key.Node ∷ key.Handler ∷ key.Client ∷ []
+file_keys = key.System ∷ key.Class ∷ key.Node ∷ key.Handler ∷ key.Client ∷ []
 
 -- the classes of the file, the nodes, the handlers, the clients
 abbrev pub classes_of : Data → Told (List NamedClass)
@@ -193,14 +234,19 @@ nodes_of d = at File (list_at key.Node MAX_NODES d) >>= nodes_from []
 abbrev pub handlers_of : List NamedClass → List NodePlace → Data → Told (List HandlerPlace)
 handlers_of classes nodes d = at File (list_at key.Handler MAX_HANDLERS d) >>= handlers_from classes nodes []
 
-abbrev pub clients_of : List NodePlace → Data → Told (List ClientPlace)
-clients_of nodes d = at File (list_at key.Client MAX_CLIENTS d) >>= clients_from nodes []
+abbrev pub clients_of : List NodePlace → List HandlerPlace → Data → Told (List ClientPlace)
+clients_of nodes handlers d = at File (list_at key.Client MAX_CLIENTS d) >>= clients_from nodes handlers []
 
-abbrev pub plan_of : List NamedClass → List NodePlace → List HandlerPlace → List ClientPlace → Plan
-plan_of classes nodes handlers clients = record { classes = classes; nodes = nodes; handlers = handlers; clients = clients }
+abbrev pub plan_of : Identity → List NamedClass → List NodePlace → List HandlerPlace → List ClientPlace → Plan
+plan_of identity classes nodes handlers clients =
+    record { identity = identity; classes = classes; nodes = nodes; handlers = handlers; clients = clients }
 
--- the system of a table. The first fault is that of its keys, then of its classes, nodes, handlers and clients
+-- the classes, nodes, handlers and clients of a file, with this name and life
+abbrev pub parts_of : Identity → Data → Told Plan
+parts_of identity d =
+    classes_of d >>= λ classes. nodes_of d >>= λ nodes. handlers_of classes nodes d >>= λ handlers. clients_of nodes handlers d >>= λ clients.
+    Ok (plan_of identity classes nodes handlers clients)
+
+-- the system of a table. The first fault is that of its keys, then of its name and life, its classes, nodes, handlers and clients
 abbrev pub system_of : Data → Told Plan
-system_of d =
-    at File (unless (key_fault file_keys d) (Ok d)) >>= λ file. classes_of file >>= λ classes. nodes_of file >>= λ nodes.
-    handlers_of classes nodes file >>= λ handlers. clients_of nodes file >>= λ clients. Ok (plan_of classes nodes handlers clients)
+system_of d = at File (unless (key_fault file_keys d) (Ok d)) >>= λ file. identity_of file >>= λ identity. parts_of identity file

@@ -10,6 +10,7 @@ use Rattle.scoop_system.specs.declared.place.HandlerPlace.{HandlerPlace}
 use Rattle.scoop_system.specs.declared.place.HandlerClass.{HandlerClass}
 use Rattle.scoop_system.specs.declared.place.HandlerClass.TheVariants.{Known, Own}
 use Rattle.scoop_system.specs.declared.place.ClientPlace.{ClientPlace}
+use Rattle.scoop_system.specs.declared.identity.Identity.{Identity}
 use Rattle.scoop_system.specs.Operations.{known_operation}
 
 -- a class of a system's own: its name, the class, and the numbers and names of its operations
@@ -18,8 +19,9 @@ pub record NamedClass : Type 0 where
   pub table : ClassTable
   pub operations : List OwnOperation
 
--- a system: its own classes, its nodes, handlers and clients
+-- a system: its name and life, its own classes, its nodes, handlers and clients
 pub record Plan : Type 0 where
+  pub identity : Identity
   pub classes : List NamedClass
   pub nodes : List NodePlace
   pub handlers : List HandlerPlace

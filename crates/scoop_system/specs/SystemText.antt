@@ -3,6 +3,7 @@ use Rattle.std.specs.Prelude.{ℕ, ◌==◌, if◌then◌else◌, List, [], ◌�
 use Rattle.std.specs.Fmt.{decimal}
 use Rattle.std.specs.Net.Text.{socket_text}
 use Rattle.std.specs.declared.net.socket_addr.SocketAddr.{SocketAddr}
+use Rattle.scoop_message.specs.declared.name.HandlerId.{HandlerId}
 use Rattle.scoop_object.specs.declared.term.Term.{Term}
 use Rattle.scoop_object.specs.declared.term.Term.TheVariants.{Const, Word, Arg}
 use Rattle.scoop_object.specs.declared.term.Write.{Write}
@@ -14,6 +15,8 @@ use Rattle.scoop_system.specs.declared.place.HandlerPlace.{HandlerPlace}
 use Rattle.scoop_system.specs.declared.place.HandlerClass.{HandlerClass}
 use Rattle.scoop_system.specs.declared.place.HandlerClass.TheVariants.{Known, Own}
 use Rattle.scoop_system.specs.declared.place.ClientPlace.{ClientPlace}
+use Rattle.scoop_system.specs.declared.identity.Identity.{Identity}
+use Rattle.scoop_system.specs.Identity.{is_none}
 use Rattle.scoop_system.specs.System.{Plan, NamedClass}
 
 -- ---- nodes, handlers and clients
@@ -32,7 +35,7 @@ abbrev pub name_text : Option (List ℕ) → List ℕ
 name_text None = []
 name_text (Some name) = codes " name " ++ name
 
-abbrev pub handler_text : HandlerPlace → List ℕ
+unfoldable pub handler_text : HandlerPlace → List ℕ
 handler_text h =
     codes "  handler " ++ decimal h.handler.0 ++ codes " " ++ handler_class_text h.class ++ numbers_text h.words ++ name_text h.name ++ codes "\n"
 
@@ -54,8 +57,19 @@ abbrev pub nodes_text : List HandlerPlace → List NodePlace → List ℕ
 nodes_text handlers [] = []
 nodes_text handlers (n ∷ ns) = node_text handlers n ++ nodes_text handlers ns
 
-abbrev pub client_text : ClientPlace → List ℕ
-client_text c = codes "client " ++ decimal c.client.0 ++ codes " " ++ socket_text c.address ++ codes " batch " ++ decimal c.batch ++ codes "\n"
+-- the numbers of handlers, with a space before each
+abbrev pub handler_numbers_text : List HandlerId → List ℕ
+handler_numbers_text [] = []
+handler_numbers_text (h ∷ hs) = codes " " ++ decimal h.0 ++ handler_numbers_text hs
+
+-- the handlers that a client uses, if its table names them
+abbrev pub used_text : Option (List HandlerId) → List ℕ
+used_text None = []
+used_text (Some handlers) = codes " handlers" ++ handler_numbers_text handlers
+
+unfoldable pub client_text : ClientPlace → List ℕ
+client_text c =
+    codes "client " ++ decimal c.client.0 ++ codes " " ++ socket_text c.address ++ codes " batch " ++ decimal c.batch ++ used_text c.handlers ++ codes "\n"
 
 abbrev pub clients_text : List ClientPlace → List ℕ
 clients_text [] = []
@@ -110,6 +124,20 @@ abbrev pub classes_text : List NamedClass → List ℕ
 classes_text [] = []
 classes_text (c ∷ cs) = class_text c ++ classes_text cs
 
--- the nodes with their handlers, the clients, and the classes of the system's own
+-- ---- the name and the life
+
+abbrev pub own_name_text : Option (List ℕ) → List ℕ
+own_name_text None = []
+own_name_text (Some name) = codes " " ++ name
+
+abbrev pub life_text : Option ℕ → List ℕ
+life_text None = []
+life_text (Some life) = codes " life " ++ decimal life
+
+-- a line of the name and the life; none if the system has neither
+abbrev pub identity_text : Identity → List ℕ
+identity_text i = if is_none i then [] else (codes "system" ++ own_name_text i.name ++ life_text i.life ++ codes "\n")
+
+-- the name and the life, the nodes with their handlers, the clients, and the classes of the system's own
 abbrev pub system_text : Plan → List ℕ
-system_text s = nodes_text s.handlers s.nodes ++ clients_text s.clients ++ classes_text s.classes
+system_text s = identity_text s.identity ++ nodes_text s.handlers s.nodes ++ clients_text s.clients ++ classes_text s.classes

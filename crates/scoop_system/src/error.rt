@@ -38,6 +38,8 @@ pub struct Fault {
 pub enum Place {
     /// The whole file.
     File,
+    /// The table of the system's name and life.
+    System,
     /// The node, handler or client of this number.
     Numbered(Key, u32),
     /// The class, node, handler or client at this place, counted from 1: it has no name or number.
@@ -67,6 +69,9 @@ pub enum Key {
     Test,
     Writes,
     Answer,
+    System,
+    Life,
+    Handlers,
 }
 
 /// A fault at a place.
@@ -128,6 +133,14 @@ pub enum Wrong {
     NotAWriteFormula(Name),
     /// The operation writes this word twice.
     WrittenTwice(u8),
+    /// The handlers of a client aren't a list of 1 to 64 numbers or names.
+    NotHandlers,
+    /// No handler of the file has this number.
+    NoSuchHandler(u64),
+    /// No handler of the file has this name.
+    NoHandlerNamed(Name),
+    /// The client names the handler of this number twice.
+    HandlerTwice(u32),
 }
 
 impl fmt::Display for SystemError {
@@ -182,6 +195,7 @@ impl fmt::Display for Place {
     fn fmt<W: fmt::Write>(&self, f: &mut fmt::Formatter<W>) -> fmt::Result {
         match self {
             Place::File => f.write_str("file"),
+            Place::System => f.write_str("system"),
             Place::Numbered(kind, number) => write!(f, "{kind} {number}"),
             Place::Nameless(kind, count) => write!(f, "[[{kind}]] {count}"),
             Place::Class(name) => write!(f, "class \"{name}\""),
@@ -218,6 +232,9 @@ impl Key {
             Key::Test => "test",
             Key::Writes => "writes",
             Key::Answer => "answer",
+            Key::System => "system",
+            Key::Life => "life",
+            Key::Handlers => "handlers",
         }
     }
 
@@ -241,7 +258,10 @@ impl Key {
             | Key::Batch
             | Key::Test
             | Key::Writes
-            | Key::Answer => "",
+            | Key::Answer
+            | Key::System
+            | Key::Life
+            | Key::Handlers => "",
         }
     }
 }
@@ -275,6 +295,7 @@ impl Wrong {
             Wrong::NotAText => "a term must be text: write it in quotes",
             Wrong::NotATest => "test must be a formula or a list of two terms",
             Wrong::NotAWrite => "a write must be a formula or a list of a word and three terms",
+            Wrong::NotHandlers => "handlers must be a list of 1 to 64 numbers or names of handlers",
             _ => "",
         }
     }
@@ -330,6 +351,9 @@ impl fmt::Display for Wrong {
             Wrong::NoSuchWord(term) => write!(f, "{term} is not a word"),
             Wrong::NoSuchArgument(term) => write!(f, "{term} is not an argument"),
             Wrong::WrittenTwice(word) => write!(f, "w{word} is written twice"),
+            Wrong::NoSuchHandler(number) => write!(f, "no such handler {number}"),
+            Wrong::NoHandlerNamed(name) => write!(f, "no such handler \"{name}\""),
+            Wrong::HandlerTwice(number) => write!(f, "handler {number} stands twice"),
             Wrong::OtherFamily
             | Wrong::NoTable
             | Wrong::Twice
@@ -337,7 +361,8 @@ impl fmt::Display for Wrong {
             | Wrong::NotWords
             | Wrong::NotAText
             | Wrong::NotATest
-            | Wrong::NotAWrite => f.write_str(self.plain_text()),
+            | Wrong::NotAWrite
+            | Wrong::NotHandlers => f.write_str(self.plain_text()),
         }
     }
 }

@@ -19,6 +19,7 @@ use crate::system::System;
 pub use fault::LineFault;
 pub use fault_in::LineFaultIn;
 use request::read_request_alone;
+pub use reserve::MAX_NAMED;
 use reserve::read_reserve;
 use scoop_lines::{is, is_blank, next_word};
 use scoop_message::{HandlerId, Request};

@@ -1,31 +1,30 @@
-//! The handlers that a line names.
+//! The handlers that a line, or the table of a client, names.
 
 ghost use Rattle.std.specs.Prelude.{◌≡◌, ◌≤◌, length};
 ghost use Rattle.std.specs.Result.{OkIff};
+ghost use Rattle.scoop_message.specs.declared.limits.TheConstants.{MAX_HANDLERS};
 ghost use Rattle.std.specs.Cmp.Lexicographic.{pointwise, lists_per, lists_equiv};
 ghost use Rattle.scoop_message.specs.contracts.name.HandlerIdPartialEq.TheImpl as on_handler;
 ghost use Rattle.scoop_message.specs.contracts.name.HandlerIdPartialEq.TheImpl.Laws as partial_laws;
 ghost use Rattle.scoop_message.specs.contracts.name.HandlerIdEq.TheImpl.Laws as handler_laws;
 
 use scoop_message::HandlerId;
+use scoop_message::limits::MAX_HANDLERS;
 use std::marker::Model;
 use thiserror::Error;
-
-/// Handlers that one line may name: one more than a block may have, so that a client itself refuses too many.
-pub const MAX_NAMED: usize = 9;
 
 // The value of an unused cell.
 const NOBODY: HandlerId = HandlerId(0);
 
-/// A line names more than nine handlers.
+/// More handlers are named than a system may have.
 #[derive(Clone, Copy, Debug, PartialEq, Eq, Error)]
 #[error("TooManyNamed")]
 pub struct TooManyNamed;
 
-/// The handlers that a line names, at most nine, in order. Contracts see them as a list.
+/// Named handlers, at most as many as a system may have, in order. Contracts see them as a list.
 #[derive(Clone, Copy, Debug)]
 pub struct NamedHandlers {
-    cells: [HandlerId; MAX_NAMED],
+    cells: [HandlerId; MAX_HANDLERS],
     count: usize,
 }
 
@@ -33,20 +32,20 @@ impl Model for NamedHandlers {
     ghost use Rattle.std.specs.Prelude.{List, take, length};
     ghost use Rattle.scoop_message.specs.declared.name.HandlerId.{HandlerId as Handler};
     ghost use Rattle.scoop_message.specs.Padded.{IsPadded, padded, length-first, padded-first};
-    ghost use Rattle.scoop_system.specs.declared.named_handlers.TheConstants.{MAX_NAMED};
+    ghost use Rattle.scoop_message.specs.declared.limits.TheConstants.{MAX_HANDLERS};
     ghost use Rattle.scoop_system.specs.NamedHandlers.{nobody};
 
     ghost Value = { List Handler };
 
     ghost view = { λ a. take a.count a.cells };
 
-    ghost invariant = { λ a. IsPadded nobody MAX_NAMED a.count a.cells };
+    ghost invariant = { λ a. IsPadded nobody MAX_HANDLERS a.count a.cells };
 
-    ghost inverse = { λ xs. record { cells = padded nobody MAX_NAMED xs; count = length xs } };
+    ghost inverse = { λ xs. record { cells = padded nobody MAX_HANDLERS xs; count = length xs } };
 
     ghost inverse_ok = { λ a h i. record {
-      cells = padded-first nobody MAX_NAMED a.count a.cells h i;
-      count = length-first nobody MAX_NAMED a.count a.cells h i;
+      cells = padded-first nobody MAX_HANDLERS a.count a.cells h i;
+      count = length-first nobody MAX_HANDLERS a.count a.cells h i;
     } };
 }
 
@@ -65,15 +64,15 @@ impl Eq for NamedHandlers {
 }
 
 impl NamedHandlers {
-    /// The list as named handlers. The error is `TooManyNamed` exactly if there are more than nine.
+    /// The list as named handlers. The error is `TooManyNamed` exactly if there are more than 64.
     pub fn of(handlers: &[HandlerId]) -> Result<NamedHandlers, TooManyNamed>
-        ensures { OkIff result (length handlers.now ≤ MAX_NAMED) handlers.now }
+        ensures { OkIff result (length handlers.now ≤ MAX_HANDLERS) handlers.now }
     {
         let count = handlers.len();
-        if count > MAX_NAMED {
+        if count > MAX_HANDLERS {
             return Err(TooManyNamed);
         }
-        let mut cells = [NOBODY; MAX_NAMED];
+        let mut cells = [NOBODY; MAX_HANDLERS];
         cells[..count].copy_from_slice(handlers);
         Ok(NamedHandlers { cells, count })
     }

@@ -1,6 +1,7 @@
 //! Nodes, handlers and clients of a system, with their addresses.
 
 use crate::name::Name;
+use crate::named_handlers::NamedHandlers;
 use scoop_classes::DemoClass;
 use scoop_message::{ClientId, HandlerId, Words};
 use std::fmt;
@@ -37,13 +38,16 @@ pub struct HandlerPlace {
     pub name: Option<Name>,
 }
 
-/// A client, its address, and the number of entries that it puts into one Log: 1 to 4.
+/// A client and its address.
 #[derive(Clone, Copy)]
 pub struct ClientPlace {
     pub client: ClientId,
     /// Its port isn't 0, all addresses of the system are of its family, and no other party has it.
     pub address: SocketAddr,
+    /// The number of entries that it puts into one Log: 1 to 4.
     pub batch: u8,
+    /// The handlers that it uses: at least one, each once, and each a handler of the system. `None` if it uses all.
+    pub handlers: Option<NamedHandlers>,
 }
 
 impl fmt::Display for HandlerClass {

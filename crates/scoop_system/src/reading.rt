@@ -5,21 +5,25 @@ ghost use Rattle.toml.specs.Data.{table};
 ghost use Rattle.toml.specs.Parse.{parse_document};
 ghost use Rattle.toml.specs.View.{view};
 ghost use Rattle.toml.specs.Errors.{IsMemory};
-ghost use Rattle.scoop_system.specs.Meaning.{system_of};
+ghost use Rattle.scoop_system.specs.Meaning.{parts_of, system_of};
 ghost use Rattle.scoop_system.specs.File.{Means, SaysNoSystem};
 ghost use Rattle.scoop_system.specs.Stop.{IfFault};
 
 mod class;
 mod formula;
+mod identity;
 mod party;
 mod place;
 mod stop;
 mod term;
+mod used;
 mod value;
 
 use crate::error::{Key, SystemError, TomlFault};
+use crate::identity::Identity;
 use crate::system::System;
 use class::read_classes;
+use identity::read_identity;
 use party::{read_clients, read_handlers, read_nodes};
 use place::check_keys;
 use std::alloc::Global;
@@ -35,11 +39,20 @@ pub(crate) fn read_table(alloc: Global, file: &Value) -> Result<System, Stop>
     ensures fault { IfErr result (λ e. IfFault e (λ fault. system_of (view file.now) ≡ Err fault)) }
 {
     check_keys(file)?;
+    let identity = read_identity(file)?;
+    read_parts(alloc, identity, file)
+}
+
+// The classes, nodes, handlers and clients of a file, as a system with this name and life.
+fn read_parts(alloc: Global, identity: Identity, file: &Value) -> Result<System, Stop>
+    ensures ok { IfOk result (λ system. parts_of identity (view file.now) ≡ Ok system) }
+    ensures fault { IfErr result (λ e. IfFault e (λ fault. parts_of identity (view file.now) ≡ Err fault)) }
+{
     let classes = read_classes(alloc, file)?;
     let nodes = read_nodes(alloc, file)?;
     let handlers = read_handlers(alloc, file, classes.as_slice(), nodes.as_slice())?;
-    let clients = read_clients(alloc, file, nodes.as_slice())?;
-    Ok(System::new(classes, nodes, handlers, clients))
+    let clients = read_clients(alloc, file, nodes.as_slice(), handlers.as_slice())?;
+    Ok(System::new(identity, classes, nodes, handlers, clients))
 }
 
 impl System {
@@ -48,7 +61,9 @@ impl System {
     /// # Errors
     /// - `Toml`: exactly if the text isn't TOML.
     /// - `Fault`: exactly if the text is TOML and describes no system. It is the first fault: of the file's keys, then of
-    ///   its classes, nodes, handlers and clients, each in the order of the file.
+    ///   its name and life, its classes, nodes, handlers and clients, each in the order of the file. Within a client's
+    ///   table, its unknown keys come first, then its number, address, batch and handlers. The handlers are read from the
+    ///   left. A taken number or address comes last.
     /// - `OutOfMemory`: an allocation was refused.
     pub fn read(alloc: Global, text: &str) -> Result<System, SystemError>
         ensures system { IfOk result (λ system. Means text.now (Ok system)) }

@@ -7,6 +7,7 @@ ghost use Rattle.scoop_system.specs.System.{Plan, class_table, class_operation, 
 
 use crate::arguments::class_arguments;
 use crate::class::{OwnClass, class_named};
+use crate::identity::Identity;
 use crate::name::Name;
 use crate::operations::known_operation;
 use crate::place::{ClientPlace, HandlerClass, HandlerPlace, NodePlace};
@@ -15,9 +16,11 @@ use scoop_object::Class;
 use std::alloc::Global;
 use std::marker::Model;
 
-/// A system. Contracts see its classes, nodes, handlers and clients as lists, each in the order of the file.
+/// A system. Contracts see its name and life, and its classes, nodes, handlers and clients as lists, each in the order of
+/// the file.
 #[derive(Drop)]
 pub struct System {
+    identity: Identity,
     classes: Vec<OwnClass>,
     nodes: Vec<NodePlace>,
     handlers: Vec<HandlerPlace>,
@@ -29,25 +32,34 @@ impl Model for System {
 
     ghost Value = { Plan };
 
-    ghost view = { λ s. record { classes = s.classes.items; nodes = s.nodes.items; handlers = s.handlers.items; clients = s.clients.items } };
+    ghost view = { λ s. record { identity = s.identity; classes = s.classes.items; nodes = s.nodes.items; handlers = s.handlers.items; clients = s.clients.items } };
 }
 
 impl System {
     // The system of these parts.
     pub(crate) fn new(
+        identity: Identity,
         classes: Vec<OwnClass>,
         nodes: Vec<NodePlace>,
         handlers: Vec<HandlerPlace>,
         clients: Vec<ClientPlace>,
     ) -> System
-        ensures { result ≡ record { classes = classes.items; nodes = nodes.items; handlers = handlers.items; clients = clients.items } }
+        ensures { result ≡ record { identity = identity; classes = classes.items; nodes = nodes.items; handlers = handlers.items; clients = clients.items } }
     {
         System {
+            identity,
             classes,
             nodes,
             handlers,
             clients,
         }
+    }
+
+    /// The name and the life of the system.
+    pub fn identity(&self) -> Identity
+        ensures { result ≡ self.now.identity }
+    {
+        self.identity
     }
 
     /// The classes of the system's own.
@@ -98,14 +110,7 @@ impl System {
     pub fn handler_by_name(&self, name: &[u8]) -> Option<HandlerId>
         ensures { result ≡ handler_of_name self.now.handlers name.now }
     {
-        match self
-            .handlers
-            .iter()
-            .find(|place| has_name(place.name, name))
-        {
-            Some(place) => Some(place.handler),
-            None => None,
-        }
+        handler_of_name(self.handlers.as_slice(), name)
     }
 
     /// The client of this number, if there is one.
@@ -148,6 +153,16 @@ impl System {
             Some(place) => class_arguments(self.classes.as_slice(), op, place.class),
             None => None,
         }
+    }
+}
+
+// The number of the handler of this name, if there is one.
+pub(crate) fn handler_of_name(handlers: &[HandlerPlace], name: &[u8]) -> Option<HandlerId>
+    ensures { result ≡ handler_of_name handlers.now name.now }
+{
+    match handlers.iter().find(|place| has_name(place.name, name)) {
+        Some(place) => Some(place.handler),
+        None => None,
     }
 }
 

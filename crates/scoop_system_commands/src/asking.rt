@@ -2,22 +2,28 @@
 
 use crate::ending::{End, Party, report_end, report_plainly, report_range};
 use crate::journaling::{open_journal, with_journal};
-use crate::system_file::{read_key, read_system, read_text, report_fault};
+use crate::keys::read_key;
+use crate::owning::{check_owner, note_owner};
+use crate::stores::open_client_store;
+use crate::system_file::{read_system, read_text, report_fault};
 use crate::typed_lines::TypedLines;
 use scoop_command_line::{ClientOptions, StoreChoice};
-use scoop_files::{FileError, FiledStore, adopt_for, close, create};
+use scoop_files::close;
 use scoop_journal::{Journal, JournalFile, Owner};
+use scoop_keeper::Keeper;
 use scoop_lines::LineSource;
-use scoop_link::{Link, UdpLink};
+use scoop_link::Link;
 use scoop_message::{ClientId, OutOfMemory};
+use scoop_pacing::{MeasuredLink, SlowNotes, SystemTimes};
 use scoop_report::{Hints, Status, hint, report};
 use scoop_runtime::{
     Backoff, ClientPlan, FileFault, check_script, client_cut, client_run, open_client_link,
 };
 use scoop_seal::{Key, SealedLink};
 use scoop_system::System;
+use std::alloc::Global;
 use std::io;
-use std::io::{BufWriter, IsTerminal};
+use std::io::{BufWriter, IsTerminal, Stderr};
 use std::net::Net;
 
 /// Runs the client of the options. Its system, its key and its port come first, and then its store.
@@ -68,14 +74,21 @@ fn run_in<T: Net>(
         return run_task(rt, net, options, system, Task::Input);
     };
     let text = read_text(rt, path)?;
-    check_lines(rt, system, path, &text)?;
+    check_lines(rt, options, system, path, &text)?;
     run_task(rt, net, options, system, Task::Script(&text))
 }
 
 // Checks the lines of a file, before anything is sent.
-fn check_lines(rt: &HostRuntime, system: &System, path: &str, text: &str) -> Result<(), Status> {
+fn check_lines(
+    rt: &HostRuntime,
+    options: &ClientOptions<'_>,
+    system: &System,
+    path: &str,
+    text: &str,
+) -> Result<(), Status> {
     let mut lines = TypedLines::new(text.as_bytes());
-    match check_script(system, &mut lines, &mut rt.stderr()) {
+    let client = system.client(ClientId(options.number));
+    match check_script(system, client, &mut lines, &mut rt.stderr()) {
         Ok(true) => Ok(()),
         Ok(false) => Err(report_fault(rt, path, "nothing was sent", FileFault::NoScript)),
         Err(error) => Err(report_plainly(rt, error)),
@@ -100,12 +113,17 @@ fn run_task<T: Net>(
         ));
     };
     let is_typed = matches!(task, Task::Input) && rt.stdin().is_terminal();
-    let plan = match ClientPlan::new(system, *place, options.turns, is_typed) {
-        Ok(plan) if options.is_strict => plan.strict(),
+    let made = if options.is_strict {
+        ClientPlan::new_strict(system, *place, options.turns, is_typed)
+    } else {
+        ClientPlan::new(system, *place, options.turns, is_typed)
+    };
+    let plan = match made {
         Ok(plan) => plan,
         Err(range) => return Err(report_range(rt, range)),
     };
-    let key = read_key(rt, options.key)?;
+    let key = read_key(rt, options.key, system)?;
+    check_owner(rt, options.store, system, Owner::Client(client))?;
     let party = Party {
         system,
         address: place.address,
@@ -145,58 +163,61 @@ fn run_at<T: Net>(
     task: Task<'_>,
 ) -> Result<(), End> {
     let link = open_client_link(net, rt.alloc(), plan.system(), &plan.place())?;
-    run_stored(rt, store, plan, key, journal, link, task)
+    match key {
+        Some(key) => run_measured(rt, store, plan, journal, SealedLink::new(link, key), task),
+        None => run_measured(rt, store, plan, journal, link, task),
+    }
+}
+
+// Runs the client over this link, whose round trips decide when a datagram goes again.
+fn run_measured<L: Link>(
+    rt: &HostRuntime,
+    store: StoreChoice<'_>,
+    plan: &ClientPlan<'_>,
+    journal: Option<&JournalFile>,
+    link: L,
+    task: Task<'_>,
+) -> Result<(), End> {
+    let handlers = plan.system().handlers().len();
+    let client = plan.place().client;
+    let clock = SystemTimes::new(rt);
+    let link = MeasuredLink::new(rt.alloc(), link, clock, handlers, client.0)?;
+    run_stored(rt, store, plan, journal, link, task)
 }
 
 // Runs the client over the store of this choice, and closes it.
-fn run_stored(
+fn run_stored<L: Link>(
     rt: &HostRuntime,
     choice: StoreChoice<'_>,
     plan: &ClientPlan<'_>,
-    key: Option<Key>,
     journal: Option<&JournalFile>,
-    link: UdpLink,
+    link: L,
     task: Task<'_>,
 ) -> Result<(), End> {
-    let mut store = open_store(rt, choice, plan.place().client)?;
-    let ran = match key {
-        Some(key) => run_over(
-            rt,
-            plan,
-            &mut store,
-            journal,
-            SealedLink::new(link, key),
-            task,
-        ),
-        None => run_over(rt, plan, &mut store, journal, link, task),
-    };
+    let mut store = open_client_store(rt, choice, plan.place().client)?;
+    let ran = run_over(rt, choice, plan, &mut store, journal, link, task);
     let closed = close(store);
     ran?;
     Ok(closed?)
 }
 
-// The store of this choice.
-fn open_store(
+// Runs the client over this store and this link. Its store knows its owner from then on. A function that names the files' type
+// does one thing alone: the prover takes too many steps at more.
+fn run_over<K: Keeper<Global>, L: Link>(
     rt: &HostRuntime,
     choice: StoreChoice<'_>,
-    client: ClientId,
-) -> Result<FiledStore, FileError> {
-    match choice {
-        StoreChoice::New(path) => create(rt, path),
-        StoreChoice::Old(path) => adopt_for(rt, path, client),
-        StoreChoice::None => Err(FileError::NoFile),
-    }
-}
-
-// Runs the client over this link.
-fn run_over<L: Link>(
-    rt: &HostRuntime,
     plan: &ClientPlan<'_>,
-    store: &mut FiledStore,
+    store: &mut K,
     journal: Option<&JournalFile>,
     link: L,
     task: Task<'_>,
 ) -> Result<(), End> {
+    note_owner(
+        rt,
+        choice,
+        plan.system(),
+        Owner::Client(plan.place().client),
+    );
     match task {
         Task::Input => run_lines(
             rt,
@@ -214,11 +235,16 @@ fn run_over<L: Link>(
     }
 }
 
+// Standard error, for at most one line a second.
+fn slow_notes(rt: &HostRuntime) -> SlowNotes<Stderr, SystemTimes<'_, HostRuntime>> {
+    SlowNotes::new(rt.stderr(), SystemTimes::new(rt))
+}
+
 // Runs the client with these lines.
-fn run_lines<L: Link, I: LineSource>(
+fn run_lines<K: Keeper<Global>, L: Link, I: LineSource>(
     rt: &HostRuntime,
     plan: &ClientPlan<'_>,
-    store: &mut FiledStore,
+    store: &mut K,
     journal: Option<&JournalFile>,
     link: L,
     lines: &mut I,
@@ -232,8 +258,8 @@ fn run_lines<L: Link, I: LineSource>(
         link,
         journal.map(|file| Journal::new(alloc, file)),
         lines,
-        rt.stderr(),
-        rt.stderr(),
+        slow_notes(rt),
+        slow_notes(rt),
         &mut Backoff::new(rt, plan.place().client),
         &mut output,
         &mut rt.stderr(),
@@ -242,10 +268,10 @@ fn run_lines<L: Link, I: LineSource>(
 }
 
 // Cuts the block of a run that was killed.
-fn run_cut<L: Link>(
+fn run_cut<K: Keeper<Global>, L: Link>(
     rt: &HostRuntime,
     plan: &ClientPlan<'_>,
-    store: &mut FiledStore,
+    store: &mut K,
     journal: Option<&JournalFile>,
     link: L,
 ) -> Result<(), End> {
@@ -257,8 +283,8 @@ fn run_cut<L: Link>(
         store,
         link,
         journal.map(|file| Journal::new(alloc, file)),
-        rt.stderr(),
-        rt.stderr(),
+        slow_notes(rt),
+        slow_notes(rt),
         &mut output,
         &mut rt.stderr(),
     )?;

@@ -1,8 +1,9 @@
 //! A folder with the stores of a system's parties.
 
 use crate::ending::report_plainly;
-use scoop_files::{FileError, FiledStore, adopt, adopt_for, create, report_file};
-use scoop_message::{ClientId, OutOfMemory};
+use scoop_command_line::StoreChoice;
+use scoop_files::{FileError, report_file};
+use scoop_message::OutOfMemory;
 use scoop_report::{Hints, Status, hint, report};
 use scoop_runtime::RuntimeError;
 use std::fs;
@@ -36,40 +37,11 @@ pub(crate) fn store_path(
     }
 }
 
-/// The store of a node in this file, and whether it was there. A missing one is made.
-pub(crate) fn open_node_store(rt: &HostRuntime, path: &str) -> Result<(FiledStore, bool), Status> {
-    let is_old = has_file(rt, path)?;
-    let opened = if is_old {
-        adopt(rt, path)
-    } else {
-        create(rt, path)
-    };
-    match opened {
-        Ok(store) => Ok((store, is_old)),
-        Err(error) => Err(report_file(rt, Hints::Always, path, error)),
-    }
-}
-
-/// The store of this client in this file. A missing one is made.
-pub(crate) fn open_client_store(
-    rt: &HostRuntime,
-    path: &str,
-    client: ClientId,
-) -> Result<FiledStore, Status> {
-    let opened = if has_file(rt, path)? {
-        adopt_for(rt, path, client)
-    } else {
-        create(rt, path)
-    };
-    match opened {
-        Ok(store) => Ok(store),
-        Err(error) => Err(report_file(rt, Hints::Always, path, error)),
-    }
-}
-
-fn has_file(rt: &HostRuntime, path: &str) -> Result<bool, Status> {
+/// The store in this file, or a new one if the file is missing.
+pub(crate) fn choice_of<'a>(rt: &HostRuntime, path: &'a str) -> Result<StoreChoice<'a>, Status> {
     match fs::exists(rt, path) {
-        Ok(is_there) => Ok(is_there),
+        Ok(true) => Ok(StoreChoice::Old(path)),
+        Ok(false) => Ok(StoreChoice::New(path)),
         Err(_) => Err(report_file(rt, Hints::Always, path, FileError::Unopened)),
     }
 }

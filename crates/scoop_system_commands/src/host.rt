@@ -1,6 +1,8 @@
 //! A node that runs in a thread of this process.
 
 use crate::ending::{End, Party, report_end};
+use crate::watching::clients_of;
+use scoop_admission::{AdmittingLink, NoReport};
 use scoop_keeper::Keeper;
 use scoop_link::UdpLink;
 use scoop_message::OutOfMemory;
@@ -31,13 +33,16 @@ pub(crate) fn report_node<'a>(
     report_end(rt, &party, End::Runtime(error))
 }
 
-/// A node with its link and its keeper. Its thread has both while the node runs.
+type HostLink = AdmittingLink<UdpLink, NoReport>;
+
+/// A node with its link and its keeper. Its thread has both while the node runs. It hears only the clients of the system's
+/// file.
 #[derive(Drop)]
 pub(crate) struct Host<K: Keeper<Global>> {
     plan: NodePlan,
     address: SocketAddr,
     serving: Serving,
-    link: Option<UdpLink>,
+    link: Option<HostLink>,
     keeper: Option<K>,
     // The file of its store, if it has one.
     path: Option<String>,
@@ -57,11 +62,12 @@ impl<K: Keeper<Global> + Send> Host<K> {
     ) -> Result<Host<K>, RuntimeError> {
         let plan = NodePlan::of(rt.alloc(), system, place)?;
         let link = open_node_link(net, rt.alloc(), system, place)?;
+        let clients = clients_of(rt.alloc(), system)?;
         Ok(Host {
             plan,
             address: place.address,
             serving,
-            link: Some(link),
+            link: Some(AdmittingLink::new(link, clients, NoReport)),
             keeper: Some(keeper),
             path,
             error: None,
@@ -95,7 +101,7 @@ impl<K: Keeper<Global> + Send> Host<K> {
         threads: &T,
         alloc: Global,
         keeper: K,
-        link: UdpLink,
+        link: HostLink,
         notes: Stderr,
         ending: &Ending,
     ) -> Result<K, RuntimeError> {

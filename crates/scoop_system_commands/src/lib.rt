@@ -1,4 +1,4 @@
-//! The commands of a system in a file, `check`, `node`, `client`, `up` and `audit`, and of a store, `store`.
+//! The commands of a system in a file, `check`, `node`, `client`, `up` and `audit`, of a key, `key`, and of a store, `store`.
 //!
 //! Each reports on standard error why it ends early, and returns the status with which the program ends.
 #![tactic(auto)]
@@ -11,8 +11,11 @@ mod folder;
 mod host;
 mod joining;
 mod journaling;
+mod keys;
+mod owning;
 mod serving;
 mod store_words;
+mod stores;
 mod system_file;
 mod typed_lines;
 mod up;
@@ -21,6 +24,7 @@ mod watching;
 pub use asking::run_client;
 pub use auditing::explain;
 pub use checking::check;
+pub use keys::make_key;
 pub use serving::serve_node;
 pub use store_words::show_store;
 pub use up::run_up;

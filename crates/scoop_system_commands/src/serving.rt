@@ -2,11 +2,14 @@
 
 use crate::ending::{End, Party, report_end, report_range};
 use crate::journaling::{open_journal, with_journal};
-use crate::system_file::{read_key, read_system, report_fault};
+use crate::keys::read_key;
+use crate::owning::{check_owner, note_owner};
+use crate::stores::open_node_store;
+use crate::system_file::{read_system, report_fault};
 use crate::watching::{Served, Shown, level_of, open_server, run_watched};
 use jiff::Timestamp;
 use scoop_command_line::{NodeOptions, StoreChoice};
-use scoop_files::{FileError, FiledStore, adopt, close, create};
+use scoop_files::{FiledStore, close};
 use scoop_journal::Owner;
 use scoop_journal_keeper::JournaledKeeper;
 use scoop_keeper::{Keeper, MemoryKeeper};
@@ -86,7 +89,9 @@ fn serve_in<T: Threads + Wait + Clock + Net + Sync>(
             FileFault::NoNode,
         ));
     };
-    let key = read_key(rt, options.key)?;
+    let key = read_key(rt, options.key, system)?;
+    warn_unsealed(rt, key, place.address);
+    check_owner(rt, options.store, system, Owner::Node(number))?;
     let party = Party {
         system,
         address: place.address,
@@ -107,6 +112,23 @@ fn serve_in<T: Threads + Wait + Clock + Net + Sync>(
     match serve_journaled(rt, threads, options, serving, &shown, key) {
         Ok(()) => Ok(()),
         Err(end) => Err(report_end(rt, &party, end)),
+    }
+}
+
+// Warns of a node without a key that other machines can reach.
+fn warn_unsealed(rt: &HostRuntime, key: Option<Key>, address: SocketAddr) {
+    if key.is_none() && !address.ip().is_loopback() {
+        report(
+            rt,
+            format_args!(
+                "{address} is no loopback address, and there is no key: whoever reaches it can forge messages"
+            ),
+        );
+        hint(
+            rt,
+            Hints::Always,
+            "make a key by `scoop key FILE`, and give it to each node and client by --key",
+        );
     }
 }
 
@@ -196,19 +218,12 @@ fn serve_over<L: Link + RefusesForged + Send, T: Threads + Wait + Clock + Net + 
     server: &mut Option<Server>,
     link: L,
 ) -> Result<(), End> {
-    match open_store(rt, choice) {
-        Ok(Some(store)) => serve_stored(rt, threads, served, server, store, link),
-        Ok(None) => serve_unstored(rt, threads, served, server, link),
-        Err(error) => Err(End::from(error)),
+    if let StoreChoice::None = choice {
+        return serve_unstored(rt, threads, served, server, link);
     }
-}
-
-// The store of this choice, if there is one.
-fn open_store(rt: &HostRuntime, choice: StoreChoice<'_>) -> Result<Option<FiledStore>, FileError> {
-    match choice {
-        StoreChoice::New(path) => Ok(Some(create(rt, path)?)),
-        StoreChoice::Old(path) => Ok(Some(adopt(rt, path)?)),
-        StoreChoice::None => Ok(None),
+    match open_node_store(rt, choice) {
+        Ok(store) => serve_stored(rt, threads, choice, served, server, store, link),
+        Err(error) => Err(End::from(error)),
     }
 }
 
@@ -217,12 +232,13 @@ fn open_store(rt: &HostRuntime, choice: StoreChoice<'_>) -> Result<Option<FiledS
 fn serve_stored<L: Link + RefusesForged + Send, T: Threads + Wait + Clock + Net + Sync>(
     rt: &HostRuntime,
     threads: &T,
+    choice: StoreChoice<'_>,
     served: &Served<'_>,
     server: &mut Option<Server>,
     store: FiledStore,
     link: L,
 ) -> Result<(), End> {
-    closed(serve_kept(rt, threads, served, server, store, link))
+    closed(serve_kept(rt, threads, choice, served, server, store, link))
 }
 
 // Closes the store over which a node was served.
@@ -230,10 +246,11 @@ fn closed(served: Result<FiledStore, RuntimeError>) -> Result<(), End> {
     Ok(close(served?)?)
 }
 
-// Serves the node over a store in any place, and returns the store.
+// Serves the node over a store in any place, which knows its owner from then on, and returns the store.
 fn serve_kept<S, L, T>(
     rt: &HostRuntime,
     threads: &T,
+    choice: StoreChoice<'_>,
     served: &Served<'_>,
     server: &mut Option<Server>,
     store: Store<S>,
@@ -244,6 +261,8 @@ where
     L: Link + RefusesForged + Send,
     T: Threads + Wait + Clock + Net + Sync,
 {
+    let about = &served.shown.about;
+    note_owner(rt, choice, about.system, Owner::Node(about.place.number));
     serve_with(rt, threads, served, server, store, link)
 }
 

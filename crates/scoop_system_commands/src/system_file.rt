@@ -2,9 +2,8 @@
 
 use crate::ending::report_plainly;
 use scoop_message::OutOfMemory;
-use scoop_report::{Hints, Status, hint, hint_of_file, report};
+use scoop_report::{Hints, Status, hint_of_file, report};
 use scoop_runtime::{FileFault, RuntimeError};
-use scoop_seal::{Key, KeyError};
 use scoop_system::{System, SystemError};
 use std::fmt::Display;
 use std::io::ErrorKind;
@@ -55,45 +54,5 @@ pub(crate) fn read_system(rt: &HostRuntime, path: &str) -> Result<System, Status
         Ok(system) => Ok(system),
         Err(SystemError::OutOfMemory) => Err(report_memory(rt)),
         Err(error) => Err(report_fault(rt, path, error, FileFault::NoSystem)),
-    }
-}
-
-/// The key in this file, if one is named.
-pub(crate) fn read_key(rt: &HostRuntime, path: Option<&str>) -> Result<Option<Key>, Status> {
-    let Some(path) = path else {
-        return Ok(None);
-    };
-    let text = read_text(rt, path)?;
-    match Key::read(text.as_bytes()) {
-        Ok(key) => Ok(Some(key)),
-        Err(error) => Err(report_key(rt, path, &text, error)),
-    }
-}
-
-// Reports what is wrong with the file of a key. It prints nothing of the file's text but how long it is.
-fn report_key(rt: &HostRuntime, path: &str, text: &str, error: KeyError) -> Status {
-    match error {
-        KeyError::Length => {
-            let advice = FileFault::NoKey.advice();
-            let len = line_len(text);
-            report(rt, format_args!("{path}: {error}"));
-            hint(
-                rt,
-                Hints::Always,
-                format_args!("{path}: it has {len} bytes instead of 64: {advice}"),
-            );
-            Status(STATUS)
-        }
-        KeyError::Digit => report_fault(rt, path, error, FileFault::NoKey),
-    }
-}
-
-// How many bytes the text has before the end of its line.
-fn line_len(text: &str) -> usize {
-    let line = text.strip_suffix("\n").unwrap_or(text);
-    if line.len() < text.len() {
-        line.strip_suffix("\r").unwrap_or(line).len()
-    } else {
-        line.len()
     }
 }

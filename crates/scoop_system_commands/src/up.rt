@@ -1,12 +1,15 @@
 //! `scoop up`: all nodes of a system in one process, and a client.
 
 use crate::ending::{End, Party, report_end, report_plainly, report_range};
-use crate::folder::{make_folder, open_client_store, open_node_store, store_path};
+use crate::folder::{choice_of, make_folder, store_path};
 use crate::host::{Host, report_node};
 use crate::joining::run_beside;
+use crate::owning::{check_owner, note_owner};
+use crate::stores::{open_client_store, open_node_store};
 use crate::system_file::{read_system, report_fault};
-use scoop_command_line::UpOptions;
+use scoop_command_line::{StoreChoice, UpOptions};
 use scoop_files::{FiledStore, close, report_file};
+use scoop_journal::Owner;
 use scoop_keeper::{Keeper, MemoryKeeper};
 use scoop_message::{ClientId, OutOfMemory};
 use scoop_record::Store;
@@ -74,11 +77,11 @@ fn plan_of<'a>(
     place: &ClientPlace,
     is_strict: bool,
 ) -> Result<ClientPlan<'a>, OutOfRange> {
-    let plan = ClientPlan::new(system, *place, TURNS, rt.stdin().is_terminal())?;
+    let is_typed = rt.stdin().is_terminal();
     if is_strict {
-        Ok(plan.strict())
+        ClientPlan::new_strict(system, *place, TURNS, is_typed)
     } else {
-        Ok(plan)
+        ClientPlan::new(system, *place, TURNS, is_typed)
     }
 }
 
@@ -196,9 +199,11 @@ fn run_stored_in<T: Threads + Wait + Clock + Net + Sync>(
     }
     let client = plan.place().client;
     let path = store_path(rt, dir, "client", client.0)?;
-    match open_client_store(rt, &path, client) {
-        Ok(store) => run_filed(rt, threads, plan, hosts, &path, store),
-        Err(status) => Err(status),
+    let choice = choice_of(rt, &path)?;
+    check_owner(rt, choice, plan.system(), Owner::Client(client))?;
+    match open_client_store(rt, choice, client) {
+        Ok(store) => run_filed(rt, threads, plan, hosts, choice, store),
+        Err(error) => Err(report_file(rt, Hints::Always, &path, error)),
     }
 }
 
@@ -208,25 +213,28 @@ fn run_filed<T: Threads + Wait + Clock + Net + Sync>(
     threads: &T,
     plan: &ClientPlan<'_>,
     hosts: &mut Vec<Host<FiledStore>>,
-    path: &str,
+    choice: StoreChoice<'_>,
     store: FiledStore,
 ) -> Result<(), Status> {
-    let (ran, store) = run_kept(rt, threads, plan, hosts, store);
-    let closed = close_store(rt, path, store);
+    let (ran, store) = run_kept(rt, threads, plan, hosts, choice, store);
+    let closed = close_store(rt, choice.path().unwrap_or(""), store);
     match ran {
         Ok(()) => closed,
         Err(status) => Err(status),
     }
 }
 
-// The same over a store in any place, which is returned.
+// The same over a store in any place, which knows its owner from then on and is returned.
 fn run_kept<S: Alter + Drop + Send, T: Threads + Wait + Clock + Net + Sync>(
     rt: &HostRuntime,
     threads: &T,
     plan: &ClientPlan<'_>,
     hosts: &mut Vec<Host<Store<S>>>,
+    choice: StoreChoice<'_>,
     mut store: Store<S>,
 ) -> (Result<(), Status>, Store<S>) {
+    let owner = Owner::Client(plan.place().client);
+    note_owner(rt, choice, plan.system(), owner);
     let ran = run_together(rt, threads, hosts, plan, &mut store);
     (ran, store)
 }
@@ -242,7 +250,9 @@ fn add_stored<T: Net>(
     hosts: &mut Vec<Host<FiledStore>>,
 ) -> Result<(), Status> {
     let path = store_path(rt, dir, "node", place.number)?;
-    add_filed(rt, net, system, place, serving, &path, hosts)
+    let choice = choice_of(rt, &path)?;
+    check_owner(rt, choice, system, Owner::Node(place.number))?;
+    add_filed(rt, net, system, place, serving, choice, hosts)
 }
 
 // Adds the node over the store in this file. A function that names the files' type does one thing alone: the prover takes too
@@ -253,29 +263,35 @@ fn add_filed<T: Net>(
     system: &System,
     place: &NodePlace,
     serving: Serving,
-    path: &str,
+    choice: StoreChoice<'_>,
     hosts: &mut Vec<Host<FiledStore>>,
 ) -> Result<(), Status> {
-    match open_node_store(rt, path) {
-        Ok(opened) => add_opened(rt, net, system, place, serving, opened, path, hosts),
-        Err(status) => Err(status),
+    match open_node_store(rt, choice) {
+        Ok(store) => add_opened(rt, net, system, place, serving, choice, store, hosts),
+        Err(error) => {
+            let path = choice.path().unwrap_or("");
+            Err(report_file(rt, Hints::Always, path, error))
+        }
     }
 }
 
-// Adds the node over the store that was opened in this file, and goes on with what it holds if it is old.
+// Adds the node over the store that was opened by this choice, and goes on with what it holds if it is old.
 fn add_opened<S: Alter + Drop + Send, T: Net>(
     rt: &HostRuntime,
     net: &T,
     system: &System,
     place: &NodePlace,
     serving: Serving,
-    opened: (Store<S>, bool),
-    path: &str,
+    choice: StoreChoice<'_>,
+    store: Store<S>,
     hosts: &mut Vec<Host<Store<S>>>,
 ) -> Result<(), Status> {
-    let (store, is_old) = opened;
-    let serving = if is_old { serving.going_on() } else { serving };
-    let Ok(path) = String::from_str(rt.alloc(), path) else {
+    note_owner(rt, choice, system, Owner::Node(place.number));
+    let serving = match choice {
+        StoreChoice::Old(_) => serving.going_on(),
+        StoreChoice::New(_) | StoreChoice::None => serving,
+    };
+    let Ok(path) = String::from_str(rt.alloc(), choice.path().unwrap_or("")) else {
         return Err(report_plainly(rt, RuntimeError::from(OutOfMemory)));
     };
     add_host(rt, net, system, place, serving, store, Some(path), hosts)

@@ -2,12 +2,14 @@
 
 use crate::ending::End;
 use mio::net::TcpListener;
+use scoop_admission::{AdmittingLink, Strangers};
 use scoop_command_line::{LogChoice, NodeOptions};
 use scoop_errors::PartyError;
 use scoop_journal::JournalFile;
 use scoop_keeper::Keeper;
 use scoop_link::Link;
 use scoop_message::{ClientId, OutOfMemory};
+use scoop_pacing::{SlowNotes, SystemTimes};
 use scoop_report::report;
 use scoop_runtime::{NodePlan, RuntimeError, Serving, node_run};
 use scoop_status::{About, Log};
@@ -15,10 +17,11 @@ use scoop_status_server::{Server, show};
 use scoop_system::System;
 use scoop_watch::{
     LogLevel, RefusesForged, Settings, Watch, WatchedKeeper, WatchedLink, WatchedOutput,
+    WatchedStrangers,
 };
 use std::alloc::Global;
 use std::hash::RandomState;
-use std::io::{BufWriter, Stderr, Stdout};
+use std::io::{BufWriter, Stderr, Stdout, Write};
 use std::net::SocketAddr;
 use std::sync::Wait;
 use std::thread::Threads;
@@ -84,23 +87,26 @@ fn listen(rt: &HostRuntime, address: SocketAddr) -> io::Result<Server> {
 
 // The watch of the node that is shown so. States are copied only if there is a status that shows them, or a log that needs
 // them.
-fn watch_of(alloc: Global, shown: &Shown<'_>) -> Result<Watch, OutOfMemory> {
-    let clients = clients_of(alloc, shown.about.system)?;
+fn watch_of(alloc: Global, shown: &Shown<'_>) -> Watch {
     let settings = Settings {
         log: shown.log,
         shows_states: shown.status.is_some(),
-        clients,
     };
-    Ok(Watch::new(alloc, settings))
+    Watch::new(alloc, settings)
 }
 
-// The clients that the system's file names.
-fn clients_of(alloc: Global, system: &System) -> Result<Vec<ClientId>, OutOfMemory> {
+/// The clients that the system's file names.
+pub(crate) fn clients_of(alloc: Global, system: &System) -> Result<Vec<ClientId>, OutOfMemory> {
     let mut clients = Vec::new(alloc);
     for place in system.clients() {
         clients.push(place.client).map_err(OutOfMemory::from)?;
     }
     Ok(clients)
+}
+
+// The clients of the system whose node is shown so.
+fn clients_shown(alloc: Global, shown: &Shown<'_>) -> Result<Vec<ClientId>, OutOfMemory> {
+    clients_of(alloc, shown.about.system)
 }
 
 // A node under its watch, before it runs.
@@ -109,6 +115,7 @@ struct WatchedNode<'s, 'w, K: Keeper<Global>, L: Link, T> {
     plan: &'s NodePlan,
     serving: &'s Serving,
     watch: &'w Watch,
+    clients: Vec<ClientId>,
     keeper: WatchedKeeper<'w, K, T>,
     link: WatchedLink<'w, L>,
 }
@@ -144,18 +151,23 @@ where
             plan,
             serving,
             watch,
+            clients,
             keeper,
             link,
         } = self;
         let output = BufWriter::new(alloc, output).map_err(|_| OutOfMemory)?;
         let mut output = WatchedOutput::new(output, threads, watch);
-        match node_run(
+        let notes = SlowNotes::new(notes, SystemTimes::new(threads));
+        let strangers = WatchedStrangers::new(threads, watch);
+        match run_admitting(
             threads,
             alloc,
             plan,
             serving,
             keeper,
             link,
+            clients,
+            strangers,
             notes,
             &mut output,
         ) {
@@ -165,8 +177,33 @@ where
     }
 }
 
-/// Runs the node over this keeper and link, with its watch over both, and returns the keeper. The server of its status, if it
-/// has one, and its log run beside it.
+// Runs a node that hears these clients alone.
+fn run_admitting<K, L, S, E, W, T>(
+    threads: &T,
+    alloc: Global,
+    plan: &NodePlan,
+    serving: &Serving,
+    keeper: K,
+    link: L,
+    clients: Vec<ClientId>,
+    strangers: S,
+    notes: E,
+    output: &mut W,
+) -> Result<K, RuntimeError>
+where
+    K: Keeper<Global> + Send,
+    L: Link,
+    S: Strangers,
+    E: Write + Drop,
+    W: Write,
+    T: Threads + Wait + Clock + Sync,
+{
+    let link = AdmittingLink::new(link, clients, strangers);
+    node_run(threads, alloc, plan, serving, keeper, link, notes, output)
+}
+
+/// Runs the node over this keeper and link, with its watch over both, and returns the keeper. It hears only the clients of its
+/// file. The server of its status, if it has one, and its log run beside it.
 pub(crate) fn run_watched<K, L, T>(
     rt: &HostRuntime,
     threads: &T,
@@ -180,11 +217,13 @@ where
     L: Link + RefusesForged + Send,
     T: Threads + Wait + Clock + Sync,
 {
-    let watch = watch_of(rt.alloc(), served.shown)?;
+    let clients = clients_shown(rt.alloc(), served.shown)?;
+    let watch = watch_of(rt.alloc(), served.shown);
     let node = WatchedNode {
         plan: served.plan,
         serving: served.serving,
         watch: &watch,
+        clients,
         keeper: WatchedKeeper::new(keeper, threads, &watch),
         link: WatchedLink::new(link, &watch),
     };

@@ -2,8 +2,8 @@
 //!
 //! A [`Watch`] is shared by the node's threads and the one that shows it. A [`WatchedKeeper`] stands over the node's keeper: it
 //! passes every call on, copies each stored state onto the board, and counts what was heard and run. A [`WatchedLink`] counts
-//! datagrams, and a [`WatchedOutput`] the openings of the node. None of them changes what it passes on, and nobody who reads a
-//! watch can change the node.
+//! datagrams, [`WatchedStrangers`] count frames of unknown clients, and a [`WatchedOutput`] the openings of the node. None of
+//! them changes what it passes on, and nobody who reads a watch can change the node.
 //!
 //! ```
 //! let watch = Watch::new(alloc, settings);
@@ -25,6 +25,7 @@ mod watch;
 mod watched_keeper;
 mod watched_link;
 mod watched_output;
+mod watched_strangers;
 
 pub use event::{Event, Level, LogLevel};
 pub use event_list::{EventList, MAX_EVENTS};
@@ -34,3 +35,4 @@ pub use watch::{Settings, Watch};
 pub use watched_keeper::WatchedKeeper;
 pub use watched_link::WatchedLink;
 pub use watched_output::WatchedOutput;
+pub use watched_strangers::WatchedStrangers;

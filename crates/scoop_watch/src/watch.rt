@@ -22,8 +22,6 @@ pub struct Settings {
     pub log: LogLevel,
     /// Whether states are copied onto the board. A log that tells cuts needs them too.
     pub shows_states: bool,
-    /// The clients that the system's file names.
-    pub clients: Vec<ClientId>,
 }
 
 /// The board of a node, the counts of its link, and whether the node has ended. All threads share it. Contracts see its
@@ -122,14 +120,12 @@ impl Watch {
 
     /// Notes that a handler heard a message.
     pub(crate) fn hear<R: Wait>(&self, rt: &R, message: &Message, heard: &Heard) {
-        let client = message.client();
-        let is_stranger = !self.settings.clients.contains(&client);
-        let mut board = self.board.lock(rt);
-        let board = &mut *board;
-        if is_stranger {
-            board.tally.meet_stranger(client, message.handler());
-        }
-        board.hear(message, heard, self.settings.log);
+        self.board.lock(rt).hear(message, heard, self.settings.log);
+    }
+
+    /// Notes a frame of a client that the file doesn't name, which no handler heard.
+    pub(crate) fn meet_stranger<R: Wait>(&self, rt: &R, client: ClientId, handler: HandlerId) {
+        self.board.lock(rt).tally.meet_stranger(client, handler);
     }
 
     /// Notes that an entry has run.

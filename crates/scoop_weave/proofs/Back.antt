@@ -6,7 +6,7 @@ use Rattle.scoop_weave.proofs.Names.{subst, if◌then◌else◌, Ok, list_any, o
 use Rattle.scoop_weave.proofs.Names.{client_of, is_for_handler, handler_decides, client_decides, has, core_of, hear, Task, ready, job_out, ran_of, ClientState}
 use Rattle.scoop_weave.proofs.Names.{due, heard, Command, Event, World, Site, Party, number_of, is_party, sent_at, site_of, party_of, Placement, Newcomer}
 use Rattle.scoop_weave.proofs.Names.{opening, newest_block, commanded_world, with_sent, heard_world, heard_party, with_party, with_site, begun_site}
-use Rattle.scoop_weave.proofs.Names.{finished_site, restarted_party, reopened, reopened_world, MayOpen, IsReached, by_test, key_found, all_found, clients_know}
+use Rattle.scoop_weave.proofs.Names.{finished_site, restarted_party, reopened, reopened_world, MayOpen, IsReached, by_test, key_found, none_due}
 use Rattle.scoop_weave.proofs.Names.{LocalHandler, after_hearing, after_begin, after_finish, leaves, PlacedHandler, System, its_number, id_in, placed_in}
 use Rattle.scoop_weave.proofs.Names.{client_in, with_local, with_placed, with_client, after_reopening, after_step, after_restart, new_system, LocalMove, Heard}
 use Rattle.scoop_weave.proofs.Names.{Began, Finished, NodeReopened, Commanded, Sent, ClientHeard, ClientRestarted, HeardIn, Moves, HandlerMoves, AtHandler}
@@ -17,7 +17,7 @@ use Rattle.scoop_model.proofs.Events.{Changes, steps_kept}
 use Rattle.scoop_weave.specs.Weave.{IsOfWeave}
 use Rattle.scoop_client.specs.Commands as client
 use Rattle.std.proofs.lemmas.Bool.{or_parts}
-use Rattle.scoop_weave.proofs.Lists.{find_through, found_has}
+use Rattle.scoop_weave.proofs.Lists.{find_through}
 use Rattle.scoop_weave.proofs.Worlds.{client_itself}
 use Rattle.scoop_weave.proofs.Executing.{begun_world, run_world, any_through, reopened_same}
 use Rattle.scoop_weave.proofs.Driving.{takes_world, sent_world, restarted_world}
@@ -72,6 +72,13 @@ module _ (ps : List Placement) (ns : List Newcomer) (opens : MayOpen ps ns) wher
     more : (m : LocalMove) (u : System) (x : World) → HeardIn (sent_by ms) m → Moves m v u → x ≡ world_by (ms ++ m ∷ []) u → Woven x
     more m u x sent r is = record { moves = ms ++ m ∷ []; now = u; weave = longer [] ms m (new_system ps ns) v u weave sent r; is = is }
 
+    -- no move is made
+    unmoved : (x : World) → x ≡ w → Woven x
+    unmoved x same = record { moves = ms; now = v; weave = weave; is = same }
+
+    sent_none : with_sent w None ≡ w
+    sent_none = ap (λ sent. let x : World = record w { sent = sent } in x) (append-nil w.sent)
+
     commands : (c : ClientId) (p : Party) (x : Command) (d : ClientState) → party_of c w ≡ Some p → client.command p.client x ≡ Ok d
         → Woven (commanded_world w p x d)
     commands c p x d at is =
@@ -84,10 +91,9 @@ module _ (ps : List Placement) (ns : List Newcomer) (opens : MayOpen ps ns) wher
     sends : (c : ClientId) (p : Party) (h : HandlerId) (s : Site) → party_of c w ≡ Some p → site_of h w ≡ Some s → Woven (with_sent w (due p.client h))
     sends c p h s at here =
         let t = party_from ms v c p at in
-        let knows : p.client.handlers ≡ map number_of w.sites =
-        all_found (λ (p : Party). p.client.handlers ≡ map number_of w.sites) (is_party c) w.parties p (clients_know w reached) at in
-        let named : has t.it.client.handlers h ≡ true = ap (λ (q : Party). has q.client.handlers h) t.is ∙ ap (λ hs. has hs h) knows
-        ∙ found_has number_of same_handler h w.sites s here in
+        by_test (λ _. Woven (with_sent w (due p.client h))) (has p.client.handlers h)
+        (λ known.
+        let named : has t.it.client.handlers h ≡ true = ap (λ (q : Party). has q.client.handlers h) t.is ∙ known in
         more (Sent c h (due t.it.client h)) v (with_sent w (due p.client h)) tt
         (record {
           client = t.it;
@@ -97,7 +103,8 @@ module _ (ps : List Placement) (ns : List Newcomer) (opens : MayOpen ps ns) wher
           after =
               sym (client_itself ms v reached c t.it t.found);
         })
-        (ap (λ (q : Party). with_sent w (due q.client h)) (sym t.is) ∙ sent_world ms v c h t.it t.found (due t.it.client h))
+        (ap (λ (q : Party). with_sent w (due q.client h)) (sym t.is) ∙ sent_world ms v c h t.it t.found (due t.it.client h)))
+        (λ unknown. unmoved (with_sent w (due p.client h)) (ap (with_sent w) (none_due w reached c p at h unknown) ∙ sent_none))
 
     hears : (i : ℕ) (m : Message) (s : Site) → sent_at i w ≡ Some m → is_for_handler m ≡ true → site_of (handler_of m) w ≡ Some s
         → Woven (heard_world w s (hear s.core.state m))

@@ -180,39 +180,39 @@ logged = grind (arith, block, is_block, one_one)
 
 -- ---- the steps can be made
 
-abbrev joined : List Placement → Newcomer → LocalClient
-joined ps c = new_client (map (λ (p : Placement). p.handler) ps) c
+abbrev joining : Newcomer
+joining = joins (1 ∷ 2 ∷ []) 7
 
 -- this step can be made, and then these
 can : {A B : Type 0} → A → B → A × B
 can one more = (one, more)
 
-first_can : AllCan (joined cells (joins 7)).client first_steps
+first_can : AllCan (new_client joining).client first_steps
 first_can =
     can (welcome 1 1 one_one) (can (welcome 2 1 two_one) (can (_, refl)
     (can (locked 1 1 one_one) (can (locked 2 1 two_one) (can (opened 1 1 one_one) (can (opened 2 1 two_one)
     (can (unlocked 1 1 one_one) (can (unlocked 2 1 two_one) (can (_, refl) (can (_, refl) (can logged tt)))))))))))
 
-next_can : AllCan (restarted cells (joins 7) first_steps).client next_steps
+next_can : AllCan (restarted joining first_steps).client next_steps
 next_can = can (welcome 1 2 one_two) (can (welcome 2 2 two_two) (can (_, refl) (can (locked 2 2 two_two) (can (opened 2 2 two_two) tt))))
 
-client_life : (ps : List Placement) (c : Newcomer) (first next : List Step) → AllCan (joined ps c).client first
-    → ((driven (joined ps c) first).stored == 2 ^ 32 - 1) ≡ false → AllCan (restarted ps c first).client next
-    → IsClientLife ps (restarting_client ps c first next)
-client_life ps c first next begins room goes_on = (begins, room, (goes_on, refl))
+client_life : (c : Newcomer) (first next : List Step) → AllCan (new_client c).client first
+    → ((driven (new_client c) first).stored == 2 ^ 32 - 1) ≡ false → AllCan (restarted c first).client next
+    → IsClientLife (restarting_client c first next)
+client_life c first next begins room goes_on = (begins, room, (goes_on, refl))
 
 -- ---- all of it
 
 none_twice : NoRepeats {A = ℕ} []
 none_twice i j x e f = absurd (cc)
 
-one_of_each : (turns : List ℕ) (n : NodeLife) (c : ClientLife) → IsNodeLife (words_in n.placed) n → IsClientLife n.placed c
+one_of_each : (turns : List ℕ) (n : NodeLife) (c : ClientLife) → IsNodeLife (words_in n.placed) n → IsClientLife c
     → HeardAfterSent [] (map (λ x. x.1) (order_of turns n c)) → Runs (n ∷ []) (c ∷ []) (order_of turns n c)
 one_of_each turns n c node client sent = record {
   apart = once_more (λ (n : NodeLife). n.number) [] n none_twice tt;
   each_node = subst (λ ps. IsNodeLife (words_in ps) n × ⊤) all (node, tt);
-  each_client = subst (λ ps. IsClientLife ps c × ⊤) all (client, tt);
-  whole = subst (λ ps. IsOrder (moves_of_node n ∷ moves_of_client ps c ∷ []) (order_of turns n c)) all (turns_order turns (moves_of_node n) (moves_of_client n.placed c));
+  each_client = (client, tt);
+  whole = turns_order turns (moves_of_node n) (moves_of_client c);
   sent = sent;
 }
   where
@@ -223,5 +223,5 @@ pub runs : Runs (node ∷ []) (party ∷ []) order
 runs = one_of_each turns node party
     (node_life 1 cells opening first_events next_events (omega arith) (refl, (refl, tt))
     (record { stored = inl refl; opens = refl }, (record { stored = inr refl; opens = refl }, tt)) refl refl)
-    (client_life cells (joins 7) first_steps next_steps first_can refl next_can)
+    (client_life joining first_steps next_steps first_can refl next_can)
     (all_sent [] [] (map (λ x. x.1) order) refl refl)

@@ -30,7 +30,7 @@ pub opens_same : (ps : List Placement) (ns : List Newcomer) → opening ps ns �
 opens_same ps ns =
     same_world _ _ _ _ _ _ _ _ _ _
     (sym (map-map (site_by []) new_placed ps))
-    (sym (map-map (party_by []) (new_client (map (λ (p : Placement). p.handler) ps)) ns))
+    (sym (map-map (party_by []) new_client ns))
     refl refl refl
 
 module _ (ps : List Placement) (ns : List Newcomer) (opens : MayOpen ps ns) where

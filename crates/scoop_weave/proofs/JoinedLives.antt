@@ -199,18 +199,18 @@ module _ (nodes : List NodeLife) (clients : List ClientLife) (opens : MayOpen (p
 
     data Party (j : ℕ) : Type 0 where
       of_node : (n : NodeLife) → slice_get nodes j ≡ Some n → own j order ≡ moves_of_node n → Party j
-      of_client : (k : ℕ) (c : ClientLife) → j ≡ length nodes + k → slice_get clients k ≡ Some c → own j order ≡ moves_of_client ps c → Party j
+      of_client : (k : ℕ) (c : ClientLife) → j ≡ length nodes + k → slice_get clients k ≡ Some c → own j order ≡ moves_of_client c → Party j
       of_nobody : own j order ≡ [] → Party j
 
-    abbrev past_nodes : (j k : ℕ) → j ≡ length nodes + k → own j order ≡ party_at (map (moves_of_client ps) clients) k
-    past_nodes j k e = runs.whole.whole j ∙ past_front moves_of_node nodes (map (moves_of_client ps) clients) k j e
+    abbrev past_nodes : (j k : ℕ) → j ≡ length nodes + k → own j order ≡ party_at (map moves_of_client clients) k
+    past_nodes j k e = runs.whole.whole j ∙ past_front moves_of_node nodes (map moves_of_client clients) k j e
 
     client_party : (j k : ℕ) → j ≡ length nodes + k → Place clients k → Party j
-    client_party j k e (within c f) = of_client k c e f (past_nodes j k e ∙ there (moves_of_client ps) clients k c f)
-    client_party j k e (past l f) = of_nobody (past_nodes j k e ∙ nobody_there (moves_of_client ps) clients l k f)
+    client_party j k e (within c f) = of_client k c e f (past_nodes j k e ∙ there moves_of_client clients k c f)
+    client_party j k e (past l f) = of_nobody (past_nodes j k e ∙ nobody_there moves_of_client clients l k f)
 
     any_party : (j : ℕ) → Place nodes j → Party j
-    any_party j (within n e) = of_node n e (runs.whole.whole j ∙ in_front moves_of_node nodes (map (moves_of_client ps) clients) j n e)
+    any_party j (within n e) = of_node n e (runs.whole.whole j ∙ in_front moves_of_node nodes (map moves_of_client clients) j n e)
     any_party j (past k e) = client_party j k e (place_of clients k)
 
     abbrev AllOf : (LocalMove → Type 0) → ℕ → Type 0
@@ -219,7 +219,7 @@ module _ (nodes : List NodeLife) (clients : List ClientLife) (opens : MayOpen (p
     by_party :
         (P : LocalMove → Type 0) (j : ℕ)
         → ((n : NodeLife) (m : LocalMove) → slice_get nodes j ≡ Some n → is_of n.number (names n) m ≡ true → P m)
-        → ((k : ℕ) (c : ClientLife) (m : LocalMove) → j ≡ length nodes + k → slice_get clients k ≡ Some c → IsClients (id_in (newly ps c)) m → P m)
+        → ((k : ℕ) (c : ClientLife) (m : LocalMove) → j ≡ length nodes + k → slice_get clients k ≡ Some c → IsClients (id_in (newly c)) m → P m)
         → AllOf P j
     by_party P j at_node at_client = through (any_party j (place_of nodes j))
       where
@@ -229,8 +229,8 @@ module _ (nodes : List NodeLife) (clients : List ClientLife) (opens : MayOpen (p
             (all_more_of (λ m. is_of n.number (names n) m ≡ true) P (λ m. at_node n m e) (moves_of_node n) (all_at Facts nodes j n e each_node).goes.own)
         through (of_client k c e f o) =
             subst (AllByRecursion P) (sym o)
-            (all_more_of (IsClients (id_in (newly ps c))) P (λ m. at_client k c m e f) (moves_of_client ps c)
-            (lives_run (newly ps c) c.first c.more c.now (all_at (IsClientLife ps) clients k c f runs.each_client)).own)
+            (all_more_of (IsClients (id_in (newly c))) P (λ m. at_client k c m e f) (moves_of_client c)
+            (lives_run (newly c) c.first c.more c.now (all_at IsClientLife clients k c f runs.each_client)).own)
         through (of_nobody o) = subst (AllByRecursion P) (sym o) tt
 
     -- ---- a node's own moves
@@ -254,13 +254,13 @@ module _ (nodes : List NodeLife) (clients : List ClientLife) (opens : MayOpen (p
         filtered (is_of n.number (names n)) i order
         (all_through P order
         (λ j. by_party (P j) j (λ k m f own. nodes_test i j n k m e f own)
-        (λ k c m f g own. not_of (id_in (newly ps c)) n.number (names n) m own ∙ sym (number_test j i (apart_places i j k n e f)))))
-        ∙ (runs.whole.whole i ∙ in_front moves_of_node nodes (map (moves_of_client ps) clients) i n e)
+        (λ k c m f g own. not_of (id_in (newly c)) n.number (names n) m own ∙ sym (number_test j i (apart_places i j k n e f)))))
+        ∙ (runs.whole.whole i ∙ in_front moves_of_node nodes (map moves_of_client clients) i n e)
 
     -- ---- a client's own moves
 
-    clients_test : (k l : ℕ) (c d : ClientLife) (m : LocalMove) → slice_get clients k ≡ Some c → slice_get clients l ≡ Some d → IsClients (id_in (newly ps d)) m
-        → is_by (id_in (newly ps c)) m ≡ (l == k)
+    clients_test : (k l : ℕ) (c d : ClientLife) (m : LocalMove) → slice_get clients k ≡ Some c → slice_get clients l ≡ Some d → IsClients (id_in (newly d)) m
+        → is_by (id_in (newly c)) m ≡ (l == k)
     clients_test k l c d m e f own =
         let id : ClientLife → ClientId = λ (x : ClientLife). x.joined.id in
         let ids_at : (i : ℕ) (x : ClientLife) → slice_get clients i ≡ Some x → slice_get (map (λ (n : Newcomer). n.id) ns) i ≡ Some (id x) =
@@ -279,16 +279,16 @@ module _ (nodes : List NodeLife) (clients : List ClientLife) (opens : MayOpen (p
     shifted : (a l k : ℕ) → (l == k) ≡ (a + l == a + k)
     shifted a l k = grind (arith, Decides-eqb, number_test, true≢false)
 
-    client_filtered : (k : ℕ) (c : ClientLife) → slice_get clients k ≡ Some c → moves_by (id_in (newly ps c)) moves ≡ moves_of_client ps c
+    client_filtered : (k : ℕ) (c : ClientLife) → slice_get clients k ≡ Some c → moves_by (id_in (newly c)) moves ≡ moves_of_client c
     client_filtered k c e =
         let i = length nodes + k in
-        let P : ℕ → LocalMove → Type 0 = λ j m. is_by (id_in (newly ps c)) m ≡ (j == i) in
-        filtered (is_by (id_in (newly ps c))) i order
+        let P : ℕ → LocalMove → Type 0 = λ j m. is_by (id_in (newly c)) m ≡ (j == i) in
+        filtered (is_by (id_in (newly c))) i order
         (all_through P order
         (λ j. by_party (P j) j
-        (λ n m f own. no_client n.number (names n) (id_in (newly ps c)) m own ∙ sym (number_test j i (λ same. apart_places j i k n f refl (sym same))))
+        (λ n m f own. no_client n.number (names n) (id_in (newly c)) m own ∙ sym (number_test j i (λ same. apart_places j i k n f refl (sym same))))
         (λ l d m f g own. clients_test k l c d m e g own ∙ (shifted (length nodes) l k ∙ ap (λ x. x == i) (sym f)))))
-        ∙ (past_nodes i k refl ∙ there (moves_of_client ps) clients k c e)
+        ∙ (past_nodes i k refl ∙ there moves_of_client clients k c e)
 
     -- ---- members
 
@@ -334,18 +334,18 @@ module _ (nodes : List NodeLife) (clients : List ClientLife) (opens : MayOpen (p
 
     -- ---- all together
 
-    clients_run : (xs : List ClientLife) → AllByRecursion (λ (c : ClientLife). ClientRuns (newly ps c) (moves_by (id_in (newly ps c)) moves) c.now) xs
-        → EachClient moves (map (new_client (map (λ (p : Placement). p.handler) ps)) (newcomers_of xs)) (map (λ (c : ClientLife). c.now) xs)
+    clients_run : (xs : List ClientLife) → AllByRecursion (λ (c : ClientLife). ClientRuns (newly c) (moves_by (id_in (newly c)) moves) c.now) xs
+        → EachClient moves (map new_client (newcomers_of xs)) (map (λ (c : ClientLife). c.now) xs)
     clients_run [] all = tt
     clients_run (c ∷ xs) all = (all.0, clients_run xs all.1)
 
     node_runs : (i : ℕ) (n : NodeLife) → slice_get nodes i ≡ Some n → IsNode moves (as_node n)
     node_runs i n e = grind (arith, all_at, each_node, stand_open, node_filtered)
 
-    client_runs : (k : ℕ) (c : ClientLife) → slice_get clients k ≡ Some c → ClientRuns (newly ps c) (moves_by (id_in (newly ps c)) moves) c.now
+    client_runs : (k : ℕ) (c : ClientLife) → slice_get clients k ≡ Some c → ClientRuns (newly c) (moves_by (id_in (newly c)) moves) c.now
     client_runs k c e =
-        subst (λ ms. ClientRuns (newly ps c) ms c.now) (sym (client_filtered k c e))
-        (lives_run (newly ps c) c.first c.more c.now (all_at (IsClientLife ps) clients k c e runs.each_client)).runs
+        subst (λ ms. ClientRuns (newly c) ms c.now) (sym (client_filtered k c e))
+        (lives_run (newly c) c.first c.more c.now (all_at IsClientLife clients k c e runs.each_client)).runs
 
     woven : IsWovenOfNodes ps ns moves (system_of nodes clients)
     woven = record {
@@ -354,7 +354,7 @@ module _ (nodes : List NodeLife) (clients : List ClientLife) (opens : MayOpen (p
       after = flat_map-map (λ (n : Node). n.now) as_node nodes;
       each = all_mapped as_node (λ n. IsNode moves (as_node n)) (IsNode moves) (λ n is. is) nodes
           (by_place (λ (n : NodeLife). IsNode moves (as_node n)) nodes node_runs);
-      clients = clients_run clients (by_place (λ (c : ClientLife). ClientRuns (newly ps c) (moves_by (id_in (newly ps c)) moves) c.now) clients client_runs);
+      clients = clients_run clients (by_place (λ (c : ClientLife). ClientRuns (newly c) (moves_by (id_in (newly c)) moves) c.now) clients client_runs);
       sent = runs.sent;
       members = members;
     }

@@ -42,7 +42,8 @@ pub use Rattle.scoop_handler.proofs.Basics.{all_append}
 pub use Rattle.scoop_model.specs.declared.event.Event.{Event}
 pub use Rattle.scoop_client.specs.Hearing.{heard}
 pub use Rattle.scoop_model.specs.declared.event.Event.TheVariants.{Take}
-pub use Rattle.scoop_model.proofs.Knowing.Runs.{clients_know}
+pub use Rattle.scoop_model.proofs.Knowing.Owing.{none_due}
+pub use Rattle.scoop_model.proofs.Knowing.Runs.{KnowsSites, clients_know}
 pub use Rattle.scoop_book.specs.declared.event.Event.TheVariants.{Hear, Begin, Finish}
 pub use Rattle.scoop_book.specs.Moves.{Replays, handler_at}
 pub use Rattle.scoop_driver.specs.Steps.{AllCan}

@@ -1,7 +1,7 @@
 -- The world of moves, once one more is made.
 use Rattle.scoop_weave.proofs.Names.{true, ◌≡◌, false, List, [], ◌∷◌, ◌++◌, map, Some, refl, sym, ap, ◌∙◌, subst, append-nil, option_map, map-map, Block}
 use Rattle.scoop_weave.proofs.Names.{HandlerId, ClientId, Message, same_handler, same_client, handler_decides, client_decides, has, World, is_party, Site}
-use Rattle.scoop_weave.proofs.Names.{Party, BlockLog, number_of, is_site, site_of, party_of, joined, IsReached, NoRepeats, SiteFits, all_found, clients_know}
+use Rattle.scoop_weave.proofs.Names.{Party, BlockLog, number_of, is_site, site_of, party_of, joined, IsReached, NoRepeats, SiteFits, all_found, KnowsSites, clients_know}
 use Rattle.scoop_weave.proofs.Names.{reached_ordered, PlacedHandler, LocalClient, System, IsStored, its_number, id_in, placed_in, client_in, newer_placed}
 use Rattle.scoop_weave.proofs.Names.{with_placed, with_client, LocalMove, sent_in, sent_by, opened_in, opened_here, ran_here, accepted_here, logs_more, logs_by}
 use Rattle.scoop_weave.proofs.Names.{joint_by, site_by, party_by, world_by}
@@ -56,9 +56,9 @@ module _ (past : List LocalMove) (v : System) (reached : IsReached (world_by pas
       × (placed_in h v ≡ Some s)
   receiver_there c d h here named =
       let w = world_by past v in
-      let all : d.client.handlers ≡ map number_of w.sites = all_found (λ (p : Party). p.client.handlers ≡ map number_of w.sites) (is_party c) w.parties
-      (party_by past d) (clients_know w reached) (party_there past v c d here) in
-      has_found its_number same_handler h v.handlers (ap (λ hs. has hs h) (sym (all ∙ map-map number_of (site_by past) v.handlers)) ∙ named)
+      let all : KnowsSites w (party_by past d) = all_found (KnowsSites w) (is_party c) w.parties (party_by past d) (clients_know w reached)
+      (party_there past v c d here) in
+      has_found its_number same_handler h v.handlers (ap (λ hs. has hs h) (sym (map-map number_of (site_by past) v.handlers)) ∙ all h named)
 
 -- ---- one move more
 

@@ -164,7 +164,7 @@ module _ (ps : List Placement) (ns : List Newcomer) (opens : MayOpen ps ns) wher
       let new : Fits (new_system ps ns) = record {
         numbers = map-map its_number new_placed ps;
         nodes = map-map (λ (s : PlacedHandler). s.node) new_placed ps;
-        ids = map-map id_in (new_client (map (λ (p : Placement). p.handler) ps)) ns;
+        ids = map-map id_in new_client ns;
         stored = stored_open ps;
       } in
       weaves [] ms (new_system ps ns) now new woven.handlers woven.clients woven.sent woven.members

@@ -75,13 +75,13 @@ reopening_node n ps hs first next = record {
 -- ---- what steps make of a client
 
 -- the client as it restarts after these steps
-abbrev pub restarted : List Placement → Newcomer → List Step → LocalClient
-restarted ps c steps = after_restart (driven (new_client (map (λ p. p.handler) ps) c) steps)
+abbrev pub restarted : Newcomer → List Step → LocalClient
+restarted c steps = after_restart (driven (new_client c) steps)
 
 -- a client that restarts once
-abbrev pub restarting_client : List Placement → Newcomer → (first next : List Step) → ClientLife
-restarting_client ps c first next =
-    record { joined = c; first = first; more = next ∷ []; now = driven (restarted ps c first) next }
+abbrev pub restarting_client : Newcomer → (first next : List Step) → ClientLife
+restarting_client c first next =
+    record { joined = c; first = first; more = next ∷ []; now = driven (restarted c first) next }
 
 -- ---- one order of two parties' moves
 
@@ -92,7 +92,7 @@ by_turns (n ∷ ns) i j xs ys = map (λ x. (i, x)) (take n xs) ++ by_turns ns j 
 
 -- the client's moves and the node's by turns, the client's first
 abbrev pub order_of : List ℕ → NodeLife → ClientLife → List (ℕ × LocalMove)
-order_of turns n c = by_turns turns 1 0 (moves_of_client n.placed c) (moves_of_node n)
+order_of turns n c = by_turns turns 1 0 (moves_of_client c) (moves_of_node n)
 
 -- ---- the node
 
@@ -158,7 +158,7 @@ next_steps =
     ∷ takes (Locked (handler 2) next_block) ∷ takes (Opened (handler 2) next_block) ∷ []
 
 abbrev pub party : ClientLife
-party = restarting_client cells (joins 7) first_steps next_steps
+party = restarting_client (joins (1 ∷ 2 ∷ []) 7) first_steps next_steps
 
 -- ---- all of it
 

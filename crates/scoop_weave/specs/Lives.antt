@@ -43,21 +43,21 @@ newcomers_of clients = map (λ c. c.joined) clients
 abbrev pub words_in : List Placement → HandlerId → List ℕ
 words_in ps h = unwrap_or (option_map (λ p. p.words) (find (λ p. same_handler p.handler h) ps)) []
 
--- a client as it opens: each knows all handlers
-abbrev pub newly : List Placement → ClientLife → LocalClient
-newly ps c = new_client (map (λ p. p.handler) ps) c.joined
+-- a client as it opens
+abbrev pub newly : ClientLife → LocalClient
+newly c = new_client c.joined
 
 -- ---- what each did
 
 abbrev pub moves_of_node : NodeLife → List LocalMove
 moves_of_node n = node.moves_of n.number n.first n.more
 
-abbrev pub moves_of_client : List Placement → ClientLife → List LocalMove
-moves_of_client ps c = client.moves_of (newly ps c) c.first c.more
+abbrev pub moves_of_client : ClientLife → List LocalMove
+moves_of_client c = client.moves_of (newly c) c.first c.more
 
 -- all nodes, and then all clients
 abbrev pub parties_of : List NodeLife → List ClientLife → List (List LocalMove)
-parties_of nodes clients = map moves_of_node nodes ++ map (moves_of_client (placements_of nodes)) clients
+parties_of nodes clients = map moves_of_node nodes ++ map moves_of_client clients
 
 -- ---- as they are now
 
@@ -77,14 +77,14 @@ pub record IsNodeLife (words : HandlerId → List ℕ) (n : NodeLife) : Type 0 w
   pub opens : node.AllOpenFirst n.placed n.opening
   pub lives : node.Lives words n.opening n.first n.more n.now
 
-abbrev pub IsClientLife : List Placement → ClientLife → Type 0
-IsClientLife ps c = client.Lives (newly ps c) c.first c.more c.now
+abbrev pub IsClientLife : ClientLife → Type 0
+IsClientLife c = client.Lives (newly c) c.first c.more c.now
 
 -- Each node's histories replay and each client's steps can be made. The order has all that they did, each in its own
 -- order, and each message that is heard was sent before.
 pub record Runs (nodes : List NodeLife) (clients : List ClientLife) (order : List (ℕ × LocalMove)) : Type 0 where
   pub apart : NoRepeats (map (λ n. n.number) nodes)
   pub each_node : AllByRecursion (IsNodeLife (words_in (placements_of nodes))) nodes
-  pub each_client : AllByRecursion (IsClientLife (placements_of nodes)) clients
+  pub each_client : AllByRecursion IsClientLife clients
   pub whole : IsOrder (parties_of nodes clients) order
   pub sent : HeardAfterSent [] (map (λ x. x.1) order)

@@ -96,9 +96,9 @@ abbrev pub new_placed : Placement → PlacedHandler
 new_placed p =
     record { node = p.node; placed = p.words; local = opening_handler p.handler p.class p.words (Some (new_state p.handler p.words)) }
 
-abbrev pub new_client : List HandlerId → Newcomer → LocalClient
-new_client hs n = record { client = greeting n.id (n.stored + 1) hs 0 n.batch; stored = n.stored + 1 }
+abbrev pub new_client : Newcomer → LocalClient
+new_client n = record { client = greeting n.id (n.stored + 1) n.handlers 0 n.batch; stored = n.stored + 1 }
 
 abbrev pub new_system : List Placement → List Newcomer → System
 new_system placements newcomers =
-    record { handlers = map new_placed placements; clients = map (new_client (map (λ p. p.handler) placements)) newcomers }
+    record { handlers = map new_placed placements; clients = map new_client newcomers }

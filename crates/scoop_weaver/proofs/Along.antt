@@ -3,6 +3,7 @@ use Rattle.std.proofs.Common.{arith, ◌≡◌, ◌⊎◌, inl, inr, ℕ, zero, 
 use Rattle.std.proofs.Common.{Option, Some, None, append_assoc}
 use Rattle.std.specs.Prelude.{◌↔◌, Contains, IfSome, option_to_list, slice_index}
 use Rattle.std.specs.List.{AllByRecursion, AllZip}
+use Rattle.std.specs.Option.{option_map}
 use Rattle.std.proofs.lemmas.List.{map-append}
 use Rattle.std.proofs.lemmas.List.Elements.{Contains-append_left, Contains-append_right, Contains-append_cases}
 use Rattle.std.proofs.lemmas.Option.{slice_get-map, slice_get_read, get_or_from_slice_get}
@@ -13,8 +14,9 @@ use Rattle.scoop_weaver.specs.declared.trail.Passage.{Passage}
 use Rattle.scoop_weaver.specs.Post.{message_at, Grows}
 use Rattle.scoop_weaver.specs.Trails.{traffic_at, traffic_along, IsNumbered, HasTraffic, HaveTraffic, HasOrder, WasSent, IsReadyBy, step_at, trail_len, parties_along, AreFlags}
 use Rattle.scoop_weaver.specs.Trails.{IsTrailRun, AllNumbered}
-use Rattle.scoop_weaver.specs.Weaving.{IsRun, IsWoven, left}
-use Rattle.scoop_weaver.proofs.Taking.{run_more, all_woven, nothing_run, left_less}
+use Rattle.scoop_message.specs.Lists.{NoRepeats}
+use Rattle.scoop_weaver.specs.Weaving.{IsReady, IsRun, IsUnexplained, IsWoven, left, next_at}
+use Rattle.scoop_weaver.proofs.Taking.{run_more, all_woven, nothing_run, left_less, unexplained}
 
 -- ---- numbers
 
@@ -115,15 +117,13 @@ len_along : (post : List Message) (xs : List Passage) → length (traffic_along 
 len_along post [] = refl
 len_along post (x ∷ xs) = ap suc (len_along post xs)
 
+at_along : (post : List Message) (trails : List (List Passage)) (p k : ℕ)
+    → slice_get (party_at (parties_along post trails) p) k ≡ option_map (traffic_at post) (slice_get (party_at trails p) k)
+at_along post trails p k = ap (λ ts. slice_get ts k) (party_along post trails p) ∙ slice_get-map (traffic_at post) (party_at trails p) k
+
 next_along : (post : List Message) (trails : List (List Passage)) (p k : ℕ) (x : Passage) → slice_get (party_at trails p) k ≡ Some x
     → slice_get (party_at (parties_along post trails) p) k ≡ Some (traffic_at post x)
-next_along post trails p k x e =
-    ap (λ ts. slice_get ts k) (party_along post trails p)
-    ∙ (slice_get-map (traffic_at post) (party_at trails p) k ∙ ap (λ (o : Option Passage). mapped o) e)
-  where
-    mapped : Option Passage → Option Traffic
-    mapped None = None
-    mapped (Some y) = Some (traffic_at post y)
+next_along post trails p k x e = at_along post trails p k ∙ ap (option_map (traffic_at post)) e
 
 numbered_at : (post : List Message) (trails : List (List Passage)) (p k : ℕ) (x : Passage) → AllNumbered post trails → slice_get (party_at trails p) k ≡ Some x
     → IsNumbered post x
@@ -144,6 +144,11 @@ heard_was_sent : (post : List Message) (flags : List Bool) (sent : List Message)
 heard_was_sent post flags sent zero f h was = tt
 heard_was_sent post flags sent (suc n) f h was =
     let t = there post n h in subst (λ o. IfSome o (Contains sent)) (sym t.1) (f.only n t.0 was t.1)
+
+sent_was_flagged : (post : List Message) (flags : List Bool) (sent : List Message) (n : ℕ) → AreFlags post flags sent → n ≤ length post
+    → IfSome (message_at post n) (Contains sent) → WasSent flags n
+sent_was_flagged post flags sent zero f h has = tt
+sent_was_flagged post flags sent (suc n) f h has = let t = there post n h in f.all n t.0 t.1 (subst (λ o. IfSome o (Contains sent)) t.1 has)
 
 in_none : (m : Message) → Contains [] m → ⊥
 in_none m c = let h = c.1 in omega arith
@@ -170,12 +175,35 @@ added sent o m = ((λ c. apart (Contains-append_cases sent (option_to_list o) m 
     joined (inl c) = Contains-append_left sent (option_to_list o) m c
     joined (inr e) = Contains-append_right sent (option_to_list o) m (option_in o m e)
 
+-- the flag of this number, if there is one, is set, and no other one changes
+pub record Notes (flags next : List Bool) (number : ℕ) : Type 0 where
+  pub only : (n : ℕ) → WasSent next n → WasSent flags n ⊎ (n ≡ number)
+  pub keeps : (n : ℕ) → WasSent flags n → WasSent next n
+  pub noted : number ≤ length flags → WasSent next number
+  pub count : length next ≡ length flags
+
 flags_more :
-    (post : List Message) (flags next : List Bool) (sent : List Message) (number : ℕ) → AreFlags post flags sent
-    → ((n : ℕ) → WasSent next n → WasSent flags n ⊎ (n ≡ number)) → AreFlags post next (sent ++ option_to_list (message_at post number))
-flags_more post flags next sent number f noted =
-    record { only = λ n m was is. either n m is (noted (suc n) was) }
+    (post : List Message) (flags next : List Bool) (sent : List Message) (number : ℕ) → number ≤ length post → AreFlags post flags sent
+    → Notes flags next number → AreFlags post next (sent ++ option_to_list (message_at post number))
+flags_more post flags next sent number within f notes =
+    record {
+      once = f.once;
+      count = notes.count ∙ f.count;
+      only = λ n m was is. either n m is (notes.only (suc n) was);
+      all = λ n m is has. back n m is (Contains-append_cases sent (option_to_list (message_at post number)) m has);
+    }
   where
+    own : (k n : ℕ) (m : Message) → k ≤ length post → slice_get post n ≡ Some m → message_at post k ≡ Some m → k ≡ suc n
+    own zero n m h is e = absurd (cc)
+    own (suc k) n m h is e = ap suc (f.once k n m e is)
+
+    back : (n : ℕ) (m : Message) → slice_get post n ≡ Some m → Contains sent m ⊎ Contains (option_to_list (message_at post number)) m
+        → get_or next n false ≡ true
+    back n m is (inl has) = notes.keeps (suc n) (f.all n m is has)
+    back n m is (inr has) =
+        subst (WasSent next) (own number n m within is (in_option (message_at post number) m has))
+        (notes.noted (subst (λ k. number ≤ k) (sym f.count) within))
+
     either : (n : ℕ) (m : Message) → slice_get post n ≡ Some m → WasSent flags (suc n) ⊎ (suc n ≡ number)
         → Contains (sent ++ option_to_list (message_at post number)) m
     either n m is (inl was) = Contains-append_left sent (option_to_list (message_at post number)) m (f.only n m was is)
@@ -186,7 +214,7 @@ flags_more post flags next sent number f noted =
 run_on :
     (post : List Message) (trails : List (List Passage)) (places turns : List ℕ) (flags next : List Bool) (p : ℕ) (x : Passage) → AllNumbered post trails
     → p < length trails → slice_get (party_at trails p) (slice_index places p) ≡ Some x → WasSent flags x.heard
-    → ((n : ℕ) → WasSent next n → WasSent flags n ⊎ (n ≡ x.sent))
+    → Notes flags next x.sent
     → IsTrailRun post trails places turns flags → IsTrailRun post trails (set places p (slice_index places p + 1)) (turns ++ p ∷ []) next
 run_on post trails places turns flags next p x all within step ready noted r =
     let t : Traffic = traffic_at post x in
@@ -200,7 +228,7 @@ run_on post trails places turns flags next p x all within step ready noted r =
           run_more (parties_along post trails) places r.order r.sent more p t r.run (subst (λ k. p < k) (sym (count_along post trails)) within)
           (next_along post trails p (slice_index places p) x step)
           (heard_was_sent post flags r.sent x.heard r.flagged n.heard ready) (λ m. added r.sent t.sent m);
-      flagged = flags_more post flags next r.sent x.sent r.flagged noted;
+      flagged = flags_more post flags next r.sent x.sent n.sent r.flagged noted;
     }
 
 less_left : (trails : List (List Passage)) (places : List ℕ) (p : ℕ) (x : Passage) → p < length places
@@ -213,7 +241,7 @@ less_left trails places p x within step =
 pub run_from :
     (post : List Message) (trails : List (List Passage)) (places turns : List ℕ) (flags next : List Bool) (p k : ℕ) (x : Passage) → slice_index places p ≡ k
     → AllNumbered post trails → p < length trails → slice_get (party_at trails p) k ≡ Some x → WasSent flags x.heard
-    → ((n : ℕ) → WasSent next n → WasSent flags n ⊎ (n ≡ x.sent))
+    → Notes flags next x.sent
     → IsTrailRun post trails places turns flags → IsTrailRun post trails (set places p (k + 1)) (turns ++ p ∷ []) next
 run_from post trails places turns flags next p k x is all within step ready noted r =
     subst (λ j. IsTrailRun post trails (set places p (j + 1)) (turns ++ p ∷ []) next) is
@@ -255,14 +283,15 @@ zeros_len trails places is = ap (λ ks. length ks) is ∙ zeros_count trails
 
 pub run_at_first :
     (post : List Message) (trails : List (List Passage)) (places : List ℕ) (flags : List Bool) → places ≡ map (λ t. 0) trails
-    → ((n : ℕ) → WasSent flags (n + 1) → ⊥) → IsTrailRun post trails places [] flags
-run_at_first post trails places flags is none =
+    → ((n : ℕ) → WasSent flags (n + 1) → ⊥) → length flags ≡ length post → NoRepeats post → IsTrailRun post trails places [] flags
+run_at_first post trails places flags is none count once =
     record {
       order = [];
       turns_are = refl;
       sent = [];
       run = nothing_run (parties_along post trails) places (is ∙ zeros_along post trails);
-      flagged = record { only = λ n m was e. absurd (none n (later n was)) };
+      flagged =
+          record { once = once; count = count; only = λ n m was e. absurd (none n (later n was)); all = λ n m e has. absurd (in_none m has) };
     }
   where
     later : (n : ℕ) → get_or flags n false ≡ true → WasSent flags (n + 1)
@@ -284,6 +313,34 @@ order_found post trails places turns flags none r =
           ap (λ ts. length ts) (party_along post trails p) ∙ len_along post (party_at trails p) in
           subst (λ k. k ≤ slice_index places p) (sym same) (none p small));
     }
+
+-- no move can be taken
+stuck_along :
+    (post : List Message) (trails : List (List Passage)) (places : List ℕ) (flags : List Bool) (sent : List Message) → AllNumbered post trails
+    → AreFlags post flags sent → ((p : ℕ) → p < length trails → IsReadyBy flags (step_at trails places p) → ⊥)
+    → (p : ℕ) → p < length (parties_along post trails) → IsReady sent (next_at (parties_along post trails) places p) → ⊥
+stuck_along post trails places flags sent all f stuck p within ready =
+    by (step_at trails places p) refl (subst (IsReady sent) (at_along post trails p (slice_index places p)) ready)
+  where
+    small : p < length trails
+    small = subst (λ k. p < k) (count_along post trails) within
+
+    by : (o : Option Passage) → step_at trails places p ≡ o → IsReady sent (option_map (traffic_at post) o) → ⊥
+    by None e none = none
+    by (Some x) e has =
+        stuck p small
+        (subst (IsReadyBy flags) (sym e)
+        (sent_was_flagged post flags sent x.heard f (numbered_at post trails p (slice_index places p) x all e).heard has))
+
+pub unexplained_along :
+    (post : List Message) (trails : List (List Passage)) (places turns : List ℕ) (flags : List Bool) (p : ℕ) → AllNumbered post trails
+    → IsTrailRun post trails places turns flags → ((q : ℕ) → q < length trails → IsReadyBy flags (step_at trails places q) → ⊥) → p < length trails
+    → slice_index places p < trail_len trails p → IsUnexplained (parties_along post trails) p (slice_index places p)
+unexplained_along post trails places turns flags p all r stuck within some =
+    let parties = parties_along post trails in
+    let same : length (party_at parties p) ≡ trail_len trails p = ap (λ ts. length ts) (party_along post trails p) ∙ len_along post (party_at trails p) in
+    unexplained parties places r.order r.sent r.run (stuck_along post trails places flags r.sent all r.flagged stuck) p
+    (subst (λ k. p < k) (sym (count_along post trails)) within) (subst (λ k. slice_index places p < k) (sym same) some)
 
 -- trails that have this traffic
 pub have_is : (post : List Message) (trails : List (List Passage)) (parties : List (List Traffic)) → HaveTraffic post trails parties

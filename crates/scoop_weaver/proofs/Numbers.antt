@@ -1,7 +1,7 @@
 -- The numbers of messages: places among keys.
-use Rattle.std.proofs.Common.{◌≡◌, ℕ, zero, suc, ◌+◌, ◌-◌, true, Bool, List, [], ◌∷◌, ◌++◌, map, slice_get, Option, Some, None, refl, sym, ap, ◌∙◌, subst, append-nil, arith}
+use Rattle.std.proofs.Common.{◌≡◌, ℕ, zero, suc, ◌+◌, ◌-◌, true, false, true≢false, Bool, List, [], ◌∷◌, ◌++◌, map, slice_get, Option, Some, None, refl, sym, ap, ◌∙◌, subst, append-nil, arith}
 use Rattle.std.specs.Prelude.{if◌then◌else◌}
-use Rattle.std.specs.List.{list_any}
+use Rattle.std.specs.List.{AllByRecursion, IsDistinct, list_any}
 use Rattle.std.specs.Option.{option_map}
 use Rattle.std.proofs.lemmas.List.{map-append}
 use Rattle.std.proofs.lemmas.Option.{slice_get-map}
@@ -20,6 +20,27 @@ keys_grow ks new now x is told =
     (by_test (λ b. Grows (messages_of ks) (messages_of (if b then ks else ks ++ x ∷ []))) (list_any (on_key.eq-value.it x) ks)
     (λ _. record { more = []; is = sym (append-nil (messages_of ks)) })
     (λ _. record { more = x.0 ∷ []; is = map-append (λ (k : Key). k.0) ks (x ∷ []) })))
+
+-- ---- a message has one number
+
+not_later : (k : Key) (ks : List Key) (j : ℕ) (m : Message) → AllByRecursion (λ y. on_key.eq-value.it k y ≡ false) ks → k.0 ≡ m
+    → slice_get (messages_of ks) j ≡ Some m → ⊥
+not_later k [] j m all same e = cc
+not_later k (y ∷ ys) zero m all same e =
+    let here : y.0 ≡ m = cc in
+    true≢false (sym ((message_decides k.0 y.0).1 (same ∙ sym here)) ∙ all.0)
+not_later k (y ∷ ys) (suc j) m all same e = not_later k ys j m all.1 same e
+
+pub once : (ks : List Key) → IsDistinct on_key.eq-value.it ks → (i j : ℕ) (m : Message) → slice_get (messages_of ks) i ≡ Some m
+    → slice_get (messages_of ks) j ≡ Some m → i ≡ j
+unfolding IsDistinct
+once [] d i j m e f = absurd (cc)
+once (k ∷ ks) d zero zero m e f = refl
+once (k ∷ ks) d zero (suc j) m e f = absurd (not_later k ks j m d.0 (let here : k.0 ≡ m = cc in here) f)
+once (k ∷ ks) d (suc i) zero m e f = absurd (not_later k ks i m d.0 (let here : k.0 ≡ m = cc in here) e)
+once (k ∷ ks) d (suc i) (suc j) m e f = ap suc (once ks d.1 i j m e f)
+
+-- ---- looked up
 
 -- the message of a number is that of the key at its place
 pub message_there : (ks : List Key) (i : ℕ) (k : Key) → slice_get ks i ≡ Some k → message_at (messages_of ks) (i + 1) ≡ Some k.0

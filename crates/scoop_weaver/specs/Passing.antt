@@ -57,7 +57,7 @@ traffic_by nodes clients = map (λ ms. map traffic_of ms) (parties_of nodes clie
 pub record AreLives (nodes : List NodeLife) (clients : List ClientLife) : Type 0 where
   pub apart : NoRepeats (map (λ n. n.number) nodes)
   pub each_node : AllByRecursion (IsNodeLife (words_in (placements_of nodes))) nodes
-  pub each_client : AllByRecursion (IsClientLife (placements_of nodes)) clients
+  pub each_client : AllByRecursion IsClientLife clients
 
 -- the order has the nodes' and the clients' own moves, and these are a world
 pub record IsOfWorld (nodes : List NodeLife) (clients : List ClientLife) (order : List (ℕ × Traffic)) : Type 0 where

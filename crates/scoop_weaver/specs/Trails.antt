@@ -2,6 +2,7 @@
 use Rattle.std.specs.Prelude.{◌≡◌, ◌≤◌, ℕ, ⊤, Bool, true, false, List, [], length, map, slice_get, slice_index, Contains, Option, Some, None}
 use Rattle.std.proofs.Common.{zero, suc, get_or}
 use Rattle.std.specs.List.{AllByRecursion, AllZip}
+use Rattle.scoop_message.specs.Lists.{NoRepeats}
 use Rattle.scoop_message.specs.declared.message.Message.{Message}
 use Rattle.scoop_weaver.specs.declared.traffic.Traffic.{Traffic}
 use Rattle.scoop_weaver.specs.declared.trail.Passage.{Passage}
@@ -57,9 +58,12 @@ trail_len trails p = length (party_at trails p)
 abbrev pub parties_along : List Message → List (List Passage) → List (List Traffic)
 parties_along post trails = map (traffic_along post) trails
 
--- the flags are those of messages that were sent
+-- there is a flag for each message, which says whether it was sent
 pub record AreFlags (post : List Message) (flags : List Bool) (sent : List Message) : Type 0 where
+  pub once : NoRepeats post
+  pub count : length flags ≡ length post
   pub only : (n : ℕ) (m : Message) → get_or flags n false ≡ true → slice_get post n ≡ Some m → Contains sent m
+  pub all : (n : ℕ) (m : Message) → slice_get post n ≡ Some m → Contains sent m → get_or flags n false ≡ true
 
 -- that many moves of each party were taken, with these turns, and they sent the messages of these flags
 pub record IsTrailRun (post : List Message) (trails : List (List Passage)) (places : List ℕ) (turns : List ℕ) (flags : List Bool) : Type 0 where

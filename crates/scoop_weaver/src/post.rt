@@ -1,6 +1,7 @@
 //! The messages of a run, each with a number.
 
 ghost use Rattle.std.specs.Prelude.{◌≡◌, ◌≤◌, [], IfOk, OnOk, length};
+ghost use Rattle.scoop_message.specs.Lists.{NoRepeats};
 ghost use Rattle.scoop_weaver.specs.Post.{Grows, NamesIt, message_at};
 
 use crate::key::Key;
@@ -39,7 +40,8 @@ impl<A: Allocator + Copy> Post<A> {
 impl<A: Allocator> Post<A> {
     /// How many messages there are.
     pub fn len(&self) -> usize
-        ensures { result ≡ length self.now }
+        ensures value { result ≡ length self.now }
+        ensures once { NoRepeats self.now }
     {
         self.messages.len()
     }

@@ -5,7 +5,7 @@ ghost use Rattle.std.specs.Prelude.{OnOk, ◌⊎◌, ◌+◌, []};
 ghost use Rattle.scoop_message.specs.declared.message.Message.{Message as Told};
 ghost use Rattle.scoop_weaver.specs.declared.traffic.Traffic.{Traffic as Move};
 ghost use Rattle.scoop_weaver.specs.Trails.{AllNumbered, HasOrder, HaveTraffic, IsReadyBy, IsTrailRun, WasSent, parties_along, step_at, trail_len};
-ghost use Rattle.scoop_weaver.specs.Weaving.{left};
+ghost use Rattle.scoop_weaver.specs.Weaving.{IsNoWeave, left};
 
 use crate::error::NoWeave;
 use crate::post::Post;
@@ -70,7 +70,10 @@ fn first_left<A: Allocator>(trails: &[Trail<A>], places: &[usize]) -> Option<usi
 
 // Notes that the message of this number is sent, if it is one.
 fn note_sent<A: Allocator>(sent: &mut Vec<bool, A>, number: u32)
-    ensures { (n : ℕ) → WasSent sent.new.items n → (WasSent sent.old.items n) ⊎ (n ≡ number) }
+    ensures only { (n : ℕ) → WasSent sent.new.items n → (WasSent sent.old.items n) ⊎ (n ≡ number) }
+    ensures keeps { (n : ℕ) → WasSent sent.old.items n → WasSent sent.new.items n }
+    ensures noted { number ≤ length sent.old.items → WasSent sent.new.items number }
+    ensures count { length sent.new.items ≡ length sent.old.items }
 {
     if number == 0 {
         return;
@@ -125,7 +128,8 @@ fn first_places<A: Allocator + Copy>(
 
 // A flag for each message: none was sent yet.
 fn none_sent<A: Allocator + Copy>(alloc: A, count: usize) -> Result<Vec<bool, A>, AllocError>
-    ensures { IfOk result (λ flags. (n : ℕ) → WasSent flags.items (n + 1) → ⊥) }
+    ensures none { IfOk result (λ flags. (n : ℕ) → WasSent flags.items (n + 1) → ⊥) }
+    ensures count { IfOk result (λ flags. length flags.items ≡ count) }
 {
     (0..count).map(|_| false).collect(alloc)
 }
@@ -178,8 +182,11 @@ fn ending<A: Allocator>(
     sent: &mut Vec<bool, A>,
 ) -> Result<Vec<u32, A>, NoWeave>
     requires count { length places.now ≡ length trails.now }
+    requires stuck { (p : ℕ) → p < length trails.now → IsReadyBy sent.old.items (step_at trails.now places.now p) → ⊥ }
     ensures woven { (post : List Told) → AllNumbered post trails.now → IsTrailRun post trails.now places.now order.items sent.old.items
         → IfOk result (λ turns. HasOrder (parties_along post trails.now) turns.items) }
+    ensures unexplained { (post : List Told) → AllNumbered post trails.now → IsTrailRun post trails.now places.now order.items sent.old.items
+        → IfErr result (IsNoWeave (parties_along post trails.now)) }
 {
     match first_left(trails, places) {
         None => Ok(order),
@@ -194,13 +201,14 @@ fn ending<A: Allocator>(
 /// was sent before. The post has the trails' messages. It does what [`weave`](crate::weave) does, with four bytes for each
 /// move of the order.
 ///
-/// `Unsent` if there is no order. If it can, it names a move that hears what no party sends at all.
+/// `Unsent` as `weave` says it. If it can, it names a move that hears what no party sends at all.
 pub fn weave_trails<A: Allocator + Copy>(
     alloc: A,
     post: &Post<A>,
     trails: &[Trail<A>],
 ) -> Result<Vec<u32, A>, NoWeave>
-    ensures { (parties : List (List Move)) → HaveTraffic post.now trails.now parties → IfOk result (λ turns. HasOrder parties turns.items) }
+    ensures woven { (parties : List (List Move)) → HaveTraffic post.now trails.now parties → IfOk result (λ turns. HasOrder parties turns.items) }
+    ensures unexplained { (parties : List (List Move)) → HaveTraffic post.now trails.now parties → IfErr result (IsNoWeave parties) }
 {
     let mut order = Vec::new(alloc);
     let Ok(mut sent) = none_sent(alloc, post.len()) else {

@@ -24,15 +24,15 @@ use Rattle.scoop_model.proofs.Basics.{by_test}
 
 -- a client before any place has its next incarnation, and a client from there on its old one
 pub record Joined (hs : List HandlerId) (before : MemoryRecord) (cs : List (ClientId × ℕ)) (i : ℕ) (ps : List Party) (k : MemoryRecord) : Type 0 where
-  pub parties : ps ≡ map (new_party hs) (newcomers_of (incarnation_at before) (take i cs))
-  pub joining : AllByRecursion IsJoining (newcomers_of (incarnation_at before) (take i cs))
+  pub parties : ps ≡ map new_party (newcomers_of hs (incarnation_at before) (take i cs))
+  pub joining : AllByRecursion IsJoining (newcomers_of hs (incarnation_at before) (take i cs))
   pub next : (j : ℕ) (c : ClientId × ℕ) → j < i → slice_get cs j ≡ Some c → incarnation_at k c.0.0 ≡ Some (next_of (incarnation_at before c.0.0))
   pub left : (j : ℕ) (c : ClientId × ℕ) → i ≤ j → slice_get cs j ≡ Some c → incarnation_at k c.0.0 ≡ incarnation_at before c.0.0
   pub states : k.states ≡ before.states
 
 -- a client as it joins, by its stored incarnation
-abbrev joins_with : ClientId × ℕ → Option ℕ → Newcomer
-joins_with c o = record { id = c.0; batch = c.1; stored = unwrap_or o 0 }
+abbrev joins_with : List HandlerId → ClientId × ℕ → Option ℕ → Newcomer
+joins_with hs c o = record { id = c.0; batch = c.1; stored = unwrap_or o 0; handlers = hs }
 
 same_number : (a b : ClientId) → a.0 ≡ b.0 → a ≡ b
 same_number a b e = let make : ℕ → ClientId = λ n. record { 0 = n } in ap make e
@@ -45,21 +45,21 @@ number_at cs j c at = slice_get-map (λ (x : ClientId × ℕ). x.0) cs j ∙ ap 
 pub joined_more : (hs : List HandlerId) (before : MemoryRecord) (cs : List (ClientId × ℕ)) (i : ℕ) (ps : List Party) (k l : MemoryRecord) (c : ClientId × ℕ)
     (p : Party)
     → Joined hs before cs i ps k → NoRepeats (map (λ (x : ClientId × ℕ). x.0) cs) → slice_get cs i ≡ Some c → take (i + 1) cs ≡ take i cs ++ c ∷ []
-    → p ≡ new_party hs (newcomer_of (incarnation_at k) c) → IsJoining (newcomer_of (incarnation_at k) c)
+    → p ≡ new_party (newcomer_of hs (incarnation_at k) c) → IsJoining (newcomer_of hs (incarnation_at k) c)
     → Sets (incarnation_at k) (incarnation_at l) c.0.0 (next_of (incarnation_at k c.0.0)) → l.states ≡ k.states
     → Joined hs before cs (i + 1) (ps ++ p ∷ []) l
 joined_more hs before cs i ps k l c p so apart at longer is may sets states =
     let s = incarnation_at before in
     let same : incarnation_at k c.0.0 ≡ s c.0.0 = so.left i c (omega arith) at in
-    let newcomer : newcomer_of (incarnation_at k) c ≡ newcomer_of s c = ap (joins_with c) same in
-    let all : newcomers_of s (take (i + 1) cs) ≡ newcomers_of s (take i cs) ++ newcomer_of s c ∷ [] =
-    ap (newcomers_of s) longer ∙ map-append (newcomer_of s) (take i cs) (c ∷ []) in
+    let newcomer : newcomer_of hs (incarnation_at k) c ≡ newcomer_of hs s c = ap (joins_with hs c) same in
+    let all : newcomers_of hs s (take (i + 1) cs) ≡ newcomers_of hs s (take i cs) ++ newcomer_of hs s c ∷ [] =
+    ap (newcomers_of hs s) longer ∙ map-append (newcomer_of hs s) (take i cs) (c ∷ []) in
     let off : (j : ℕ) (d : ClientId × ℕ) → slice_get cs j ≡ Some d → (j ≡ i → ⊥) → d.0.0 ≡ c.0.0 → ⊥ =
     λ j d there other e. other (apart j i c.0 (number_at cs j d there ∙ ap Some (same_number d.0 c.0 e)) (number_at cs i c at)) in
     record {
-      parties = ap (λ xs. xs ++ p ∷ []) so.parties ∙ ap (λ x. map (new_party hs) (newcomers_of s (take i cs)) ++ x ∷ []) (is ∙ ap (new_party hs) newcomer)
-          ∙ sym (map-append (new_party hs) (newcomers_of s (take i cs)) (newcomer_of s c ∷ [])) ∙ ap (map (new_party hs)) (sym all);
-      joining = subst (AllByRecursion IsJoining) (sym all) (all_more IsJoining (newcomers_of s (take i cs)) (newcomer_of s c) so.joining
+      parties = ap (λ xs. xs ++ p ∷ []) so.parties ∙ ap (λ x. map new_party (newcomers_of hs s (take i cs)) ++ x ∷ []) (is ∙ ap new_party newcomer)
+          ∙ sym (map-append new_party (newcomers_of hs s (take i cs)) (newcomer_of hs s c ∷ [])) ∙ ap (map new_party) (sym all);
+      joining = subst (AllByRecursion IsJoining) (sym all) (all_more IsJoining (newcomers_of hs s (take i cs)) (newcomer_of hs s c) so.joining
           (subst IsJoining newcomer may));
       next = λ j d within there.
           by_test (λ t. (j == i) ≡ t → incarnation_at l d.0.0 ≡ Some (next_of (s d.0.0))) (j == i)
@@ -78,7 +78,7 @@ joined_more hs before cs i ps k l c p so apart at longer is may sets states =
 -- the keeper has the incarnation of each, once all have joined
 pub all_stored : (hs : List HandlerId) (s : ℕ → Option ℕ) (k : MemoryRecord) (cs : List (ClientId × ℕ))
     → ((j : ℕ) (c : ClientId × ℕ) → slice_get cs j ≡ Some c → incarnation_at k c.0.0 ≡ Some (next_of (s c.0.0)))
-    → AllByRecursion (HasIncarnation k) (map (new_party hs) (newcomers_of s cs))
+    → AllByRecursion (HasIncarnation k) (map new_party (newcomers_of hs s cs))
 all_stored hs s k [] each = tt
 all_stored hs s k (c ∷ cs) each = (record { incarnation = each zero c refl }, all_stored hs s k cs (λ j d at. each (suc j) d at))
 

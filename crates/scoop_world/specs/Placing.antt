@@ -2,6 +2,7 @@
 use Rattle.std.specs.Prelude.{ℕ, ◌≤◌, List, Option, unwrap_or, map}
 use Rattle.scoop_message.specs.declared.limits.TheConstants.{MAX_ENTRIES}
 use Rattle.scoop_message.specs.declared.name.ClientId.{ClientId}
+use Rattle.scoop_message.specs.declared.name.HandlerId.{HandlerId}
 use Rattle.scoop_model.specs.Step.{Placement, Newcomer}
 use Rattle.scoop_world.specs.declared.placing.Placement.{Placement as Placed}
 
@@ -16,9 +17,9 @@ placement_of words p = record { node = p.node; handler = p.handler; class = p.cl
 abbrev pub placements_of : {B : Type 0} → (B → List ℕ) → List (Placed B) → List Placement
 placements_of words ps = map (placement_of words) ps
 
--- a client with its batch, and its stored incarnation
-abbrev pub newcomer_of : (ℕ → Option ℕ) → ClientId × ℕ → Newcomer
-newcomer_of stored c = record { id = c.0; batch = c.1; stored = unwrap_or (stored c.0.0) 0 }
+-- a client that knows these handlers, with its batch and its stored incarnation
+abbrev pub newcomer_of : List HandlerId → (ℕ → Option ℕ) → ClientId × ℕ → Newcomer
+newcomer_of hs stored c = record { id = c.0; batch = c.1; stored = unwrap_or (stored c.0.0) 0; handlers = hs }
 
-abbrev pub newcomers_of : (ℕ → Option ℕ) → List (ClientId × ℕ) → List Newcomer
-newcomers_of stored cs = map (newcomer_of stored) cs
+abbrev pub newcomers_of : List HandlerId → (ℕ → Option ℕ) → List (ClientId × ℕ) → List Newcomer
+newcomers_of hs stored cs = map (newcomer_of hs stored) cs

@@ -6,7 +6,7 @@ ghost use Rattle.scoop_keeper.specs.Memory.{incarnation_at};
 ghost use Rattle.scoop_model.specs.Step.{opening};
 ghost use Rattle.scoop_world.specs.Placing.{IsBatched, newcomers_of, placements_of};
 ghost use Rattle.scoop_model.specs.Opening.{IsJoining};
-ghost use Rattle.scoop_world.specs.OpenRefusal.{IsUnopened, MayPlace};
+ghost use Rattle.scoop_world.specs.OpenRefusal.{IsUnopened, MayPlace, handlers_of};
 ghost use Rattle.scoop_rules.specs.Paper.{configuration_of, empty_configuration};
 ghost use Rattle.scoop_model.specs.World.{inc_of};
 ghost use Rattle.scoop_model.specs.Safe.{Safe};
@@ -43,11 +43,12 @@ impl<B: Behaviour, A: Allocator + Copy> World<B, A> {
         mut keeper: MemoryKeeper<A>,
     ) -> Result<World<B, A>, WorldOpenError>
         requires { AllByRecursion IsBatched clients.now }
-        ensures opens { IfOk result (λ w. w ≡ opening (placements_of B.words placements.items) (newcomers_of (incarnation_at keeper) clients.now)) }
+        ensures opens { IfOk result (λ w. w ≡ opening (placements_of B.words placements.items)
+            (newcomers_of (handlers_of placements.items) (incarnation_at keeper) clients.now)) }
         ensures safe { IfOk result Safe }
         ensures empty { IfOk result (λ w. configuration_of w ≡ empty_configuration (inc_of w)) }
         ensures placed { OnOk result (MayPlace B.class placements.items clients.now) }
-        ensures joining { OnOk result (AllByRecursion IsJoining (newcomers_of (incarnation_at keeper) clients.now)) }
+        ensures joining { OnOk result (AllByRecursion IsJoining (newcomers_of (handlers_of placements.items) (incarnation_at keeper) clients.now)) }
         ensures refused { IfErr result (IsUnopened B.class placements.items clients.now (incarnation_at keeper)) }
     {
         if let Some(error) = refusal(&placements, clients) {

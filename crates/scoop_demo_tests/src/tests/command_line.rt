@@ -68,7 +68,7 @@ const WRONG: [Case; 12] = [
 ];
 
 // Each help says what the command is for, its input, its output and its statuses, with an example.
-const HELP: [Case; 9] = [
+const HELP: [Case; 10] = [
     (
         &["scoop", "--help"],
         &[
@@ -78,6 +78,7 @@ const HELP: [Case; 9] = [
             "frame",
             "demo",
             "check",
+            "key",
             "node",
             "client",
         ],
@@ -139,6 +140,16 @@ const HELP: [Case; 9] = [
             "Statuses: 0; 1 ",
             "Example: scoop check examples/bank.toml",
             "Usage: scoop check <FILE>",
+        ],
+    ),
+    (
+        &["scoop", "key", "--help"],
+        &[
+            "Writes 32 bytes of the operating system's random source",
+            "Output: none.",
+            "Statuses: 0; 1 ",
+            "Example: scoop key bank.key",
+            "Usage: scoop key <FILE>",
         ],
     ),
     (

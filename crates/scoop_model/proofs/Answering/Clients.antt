@@ -18,7 +18,7 @@ use Rattle.scoop_client.specs.Commands as client
 -- ---- what a client owes is no answer
 
 due_tells : (w : World) (c : ClientState) (h : HandlerId) (m : Message) → Sends c h m → TellsAnswer w m
-due_tells w c h m sends_hello = tt
+due_tells w c h m (sends_hello left) = tt
 due_tells w c h m s = tt
 
 pub sends_answering : (w : World) → Answering w → (p : Party) (h : HandlerId) → Answering (with_sent w (due p.client h))

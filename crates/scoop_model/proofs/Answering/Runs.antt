@@ -1,5 +1,5 @@
 -- Whatever happens, the answers are right.
-use Rattle.scoop_model.proofs.Names.{◌≡◌, ℕ, List, map, Some, refl, arith, AllByRecursion, client_of, Message, all_found, all_made, RightAnswers, AcceptsRight}
+use Rattle.scoop_model.proofs.Names.{◌≡◌, ℕ, List, Some, refl, arith, AllByRecursion, client_of, Message, all_found, all_made, RightAnswers, AcceptsRight}
 use Rattle.scoop_model.proofs.Names.{Placement, Newcomer, new_site, new_party, opening, World, is_party, sent_at}
 use Rattle.scoop_model.proofs.Events.{Changes}
 use Rattle.scoop_model.proofs.Order.{PartyFits, Ordered, all_more_of}
@@ -38,7 +38,7 @@ pub opens_answering : (ps : List Placement) (ns : List Newcomer) → Answering (
 opens_answering ps ns = record {
   messages = tt;
   sites = all_made new_site SiteAnswers (λ p. record { words = refl; answers = tt; kept = tt }) ps;
-  parties = all_made (new_party (map (λ p. p.handler) ps)) (PartyAnswers (opening ps ns)) (λ n. record { accepted = tt; once = no_repeats }) ns;
+  parties = all_made new_party (PartyAnswers (opening ps ns)) (λ n. record { accepted = tt; once = no_repeats }) ns;
 }
 
 -- ---- what this says of a world

@@ -6,7 +6,7 @@ use Rattle.scoop_model.proofs.Names.{has, is_empty, without, fresh, ReservationS
 use Rattle.scoop_model.proofs.Names.{with_windows, with_reservation, phase_of, Command, Idle, World, Site}
 use Rattle.scoop_model.proofs.Order.{is_gone_one, none_in_empty}
 use Rattle.scoop_model.proofs.Logging.{Greets}
-use Rattle.scoop_model.proofs.Knowing.Facts.{HasGreeted, IsKnown, Names, ClientKnown}
+use Rattle.scoop_model.proofs.Knowing.Facts.{HasGreeted, Known, IsKnown, Names, ClientKnown}
 use Rattle.scoop_model.proofs.Moves.{Sends, sends_hello, sends_lock, sends_open, sends_unlock, sends_back, sends_log, Notices, passes_over, is_greeted}
 use Rattle.scoop_model.proofs.Moves.{steps_on, is_over, Takes, takes_reserve, takes_give_up, takes}
 
@@ -15,11 +15,11 @@ pub step_block : (r : ReservationState) (m : Message) (s : ReservationState) (st
 step_block r m s st (steps_over n) = refl
 step_block r m s st row = refl
 
-module _ (hs : List HandlerId) (ss : List Site) where
+module _ (hs : Known) (ss : List Site) where
   -- ---- what a client owes
 
   pub due_names : (c : ClientState) (h : HandlerId) → ClientKnown hs ss c → (m : Message) → Sends c h m → Names hs ss m
-  due_names c h k m sends_hello = λ b e. absurd (cc)
+  due_names c h k m (sends_hello left) = λ b e. absurd (cc)
   due_names c h k m (sends_lock r held at low) = λ b e. subst (IsKnown hs ss) (same_Some r.block b e) (k.block r held)
   due_names c h k m (sends_open r held at is) = λ b e. subst (IsKnown hs ss) (same_Some r.block b e) (k.block r held)
   due_names c h k m (sends_unlock r held at is) = λ b e. subst (IsKnown hs ss) (same_Some r.block b e) (k.block r held)
@@ -37,12 +37,12 @@ module _ (hs : List HandlerId) (ss : List Site) where
   windows_known c windows waits k = record { handlers = k.handlers; greeted = k.greeted; block = k.block }
 
   -- one more handler has welcomed the client
-  welcomed_known : (c : ClientState) (h : HandlerId) → ClientKnown hs ss c → HasGreeted ss h c.id c.inc → (x : HandlerId) → has hs x ≡ true
+  welcomed_known : (c : ClientState) (h : HandlerId) → ClientKnown hs ss c → HasGreeted ss h c.id c.inc → (x : HandlerId) → has (hs c.id) x ≡ true
       → has (without h c.unwelcomed) x ≡ false → HasGreeted ss x c.id c.inc
   welcomed_known c h k now x e f = grind (arith, is_gone_one)
 
 -- the client stays known by what it hears
-pub hears_known_by : (hs : List HandlerId) (w : World) (c : ClientState) (m : Message) (d : ClientState) → Notices c m d → Greets w m → ClientKnown hs w.sites c
+pub hears_known_by : (hs : Known) (w : World) (c : ClientState) (m : Message) (d : ClientState) → Notices c m d → Greets w m → ClientKnown hs w.sites c
     → ClientKnown hs w.sites d
 hears_known_by hs w c m d (passes_over n) g k = k
 hears_known_by hs w c m d (is_greeted h) g k = record { handlers = k.handlers; greeted = welcomed_known hs w.sites c h k g; block = k.block }
@@ -56,10 +56,10 @@ hears_known_by hs w c m d row g k = windows_known hs w.sites c _ _ k
 pub none_left : (c : ClientState) → phase_of c ≡ Idle → is_empty c.unwelcomed ≡ true
 none_left c e = grind arith
 
-takes_known : (hs : List HandlerId) (ss : List Site) (c : ClientState) (x : Command) (d : ClientState) → Takes c x d → ClientKnown hs ss c → ClientKnown hs ss d
+takes_known : (hs : Known) (ss : List Site) (c : ClientState) (x : Command) (d : ClientState) → Takes c x d → ClientKnown hs ss c → ClientKnown hs ss d
 takes_known hs ss c x d (takes_reserve ks at_idle begins) k = grind (arith, same_Some, fresh, next_block, none_in_empty, none_left)
 takes_known hs ss c x d (takes_give_up r held at) k = in_block hs ss c r (at_stage r GivingBack (asked r.handlers r.left)) k held refl
 takes_known hs ss c x d t k = windows_known hs ss c d.windows d.waits k
 
-pub command_known : (hs : List HandlerId) (ss : List Site) (c d : ClientState) → ClientKnown hs ss c → (x : Command) → command c x ≡ Ok d → ClientKnown hs ss d
+pub command_known : (hs : Known) (ss : List Site) (c d : ClientState) → ClientKnown hs ss c → (x : Command) → command c x ≡ Ok d → ClientKnown hs ss d
 command_known hs ss c d k x e = takes_known hs ss c x d (takes c d x e) k

@@ -1,24 +1,25 @@
--- Whatever happens, where a message names a block, every handler knows the block's incarnation. A client begins a block only
--- once every handler has welcomed it, and a handler's Welcome tells that its mark has reached the incarnation. Marks only go on,
+-- Whatever happens, where a message names a block, every handler that its client knows knows the block's incarnation. A client
+-- begins a block only once all of these have welcomed it, and a handler's Welcome tells that its mark has reached the incarnation. Marks only go on,
 -- so what a handler knew it knows later too; a message names its client's block, or that of the message that it replies to.
-use Rattle.scoop_model.proofs.Names.{◌≡◌, List, map, Some, refl, sym, ap, ◌∙◌, subst, true≢false, same_Some, AllByRecursion, client_of, handler_of, Message}
-use Rattle.scoop_model.proofs.Names.{HandlerId, MarksGrow-after, all_found, MarksGrow-refl, grows-row, replies-row, row, MarksGrow, Hearing, hear, HasEntries}
-use Rattle.scoop_model.proofs.Names.{ran_of, has, due, heard, all_made, IsReached, Run, heard_party, restarted_party, heard_world, heard_site, begun_site}
+use Rattle.scoop_model.proofs.Names.{◌≡◌, List, map, Some, refl, sym, ap, ◌∙◌, subst, true, true≢false, same_Some, AllByRecursion, client_of, handler_of, Message}
+use Rattle.scoop_model.proofs.Names.{ClientId, HandlerId, id_found, id_of, MayOpen, MarksGrow-after, all_found, MarksGrow-refl, grows-row, replies-row, row, MarksGrow, Hearing, hear, HasEntries}
+use Rattle.scoop_model.proofs.Names.{ran_of, has, due, heard, all_mapped, IsReached, Run, heard_party, restarted_party, heard_world, heard_site, begun_site}
 use Rattle.scoop_model.proofs.Names.{finished_site, reopened, Placement, Newcomer, new_party, opening, World, Party, set_party, Site, number_of, site_of}
 use Rattle.scoop_model.proofs.Names.{set_site, is_party, sent_at, own_site, heard_place}
 use Rattle.scoop_model.specs.Named.{IsMarked, NamesKnown}
 use Rattle.scoop_model.proofs.Events.{Changes, both_kept, steps_kept}
 use Rattle.scoop_model.proofs.Order.{Ordered, all_more_of, all_pushed, all_set_party, granted_anew, granted_set}
 use Rattle.scoop_model.proofs.Sound.{Sound, sent_all}
-use Rattle.scoop_model.proofs.Logging.{Greets, found_has}
+use Rattle.scoop_model.proofs.Logging.{Greets}
 use Rattle.scoop_model.proofs.Logging.Greetings.{Greetings}
 use Rattle.scoop_model.proofs.Ready.Runs.{Kept, facts, all_kept, opens_kept}
 use Rattle.scoop_model.proofs.Reaching.{sites_placed}
-use Rattle.scoop_model.proofs.Knowing.Facts.{Names, PartyKnown, Knowing, Remember, names_more, party_more}
+use Rattle.scoop_model.proofs.Knowing.Facts.{Known, Names, PartyKnown, Knowing, Remember, names_more, party_more}
+use Rattle.scoop_model.proofs.Knowing.Joining.{known_by, each_knows, known_placed}
 use Rattle.scoop_model.proofs.Knowing.Clients.{command_known, due_names, hears_known_by}
 use Rattle.scoop_model.proofs.Moves.{sends, hears}
 
-module _ (hs : List HandlerId) where
+module _ (hs : Known) where
   -- the sites go on, and these messages are sent by now
   sites_known : (w v : World) → Knowing hs w → Remember w.sites v.sites → v.parties ≡ w.parties → AllByRecursion (Names hs v.sites) v.sent → Knowing hs v
   sites_known w v i more same messages = record {
@@ -92,51 +93,63 @@ module _ (hs : List HandlerId) where
         sites_known w v i more refl (old_names w v i more));
   }
 
-  parties_open : (ss : List Site) (ns : List Newcomer) → AllByRecursion (PartyKnown hs ss) (map (new_party hs) ns)
-  parties_open ss = all_made (new_party hs) (PartyKnown hs ss) (λ n. record {
-    handlers = refl;
-    greeted = λ h e f. absurd (true≢false (sym e ∙ f));
+  parties_open : (ss : List Site) (ns : List Newcomer) → AllByRecursion (λ n. hs n.id ≡ n.handlers) ns → AllByRecursion (PartyKnown hs ss) (map new_party ns)
+  parties_open ss = all_mapped new_party (λ n. hs n.id ≡ n.handlers) (PartyKnown hs ss) (λ n own. record {
+    handlers = sym own;
+    greeted = λ h e f. absurd (true≢false (sym e ∙ (ap (λ ks. has ks h) own ∙ f)));
     block = λ r e. absurd (cc);
   })
 
   -- known, beside all that every event keeps
-  abbrev All : World → Type 0
+  abbrev pub All : World → Type 0
   All w = Kept w × Knowing hs w
 
-  still_kept : (w : World) → All w → Changes All w
+  pub still_kept : (w : World) → All w → Changes All w
   still_kept w i = let f = facts w i.0 in both_kept Kept (Knowing hs) w (all_kept w i.0) (knowing_kept w f.ordered f.sound f.greetings i.1)
 
 -- ---- what it shows
 
--- the handlers of the world are those that were placed
-names_shown : (hs : List HandlerId) (w : World) → map number_of w.sites ≡ hs → (m : Message) → Names hs w.sites m → NamesKnown w m
-names_shown hs w numbers m n = record {
+-- each client of the world knows its own handlers
+names_shown : (hs : Known) (w : World) → AllByRecursion (PartyKnown hs w.sites) w.parties → (m : Message) → Names hs w.sites m → NamesKnown w m
+names_shown hs w parties m n = record {
   known = λ b e. record {
-    marked = λ h s found.
-        let g = n b e h (ap (λ ks. has ks h) (sym numbers) ∙ found_has number_of h w.sites s found) in
+    marked = λ p h s at named found.
+        let k = all_found (PartyKnown hs w.sites) (is_party b.client) w.parties p parties at in
+        let g = n b e h (ap (λ ks. has ks h) (ap hs (sym (id_found b.client w p at)) ∙ sym k.handlers) ∙ named) in
         let one : g.site ≡ s = same_Some g.site s (sym g.found ∙ found) in
         subst (λ (x : Site). IsMarked b x.core.state.marks) one (record { mark = g.reached.mark; found = g.reached.found; inc = g.reached.upto.inc });
   };
 }
 
-pub opens_knowing : (ps : List Placement) (ns : List Newcomer) → Knowing (map (λ (p : Placement). p.handler) ps) (opening ps ns)
-opens_knowing ps ns = record { messages = tt; parties = parties_open (map (λ (p : Placement). p.handler) ps) (opening ps ns).sites ns }
+pub opens_knowing : (ps : List Placement) (ns : List Newcomer) → MayOpen ps ns → Knowing (known_by ns) (opening ps ns)
+opens_knowing ps ns may = record { messages = tt; parties = parties_open (known_by ns) (opening ps ns).sites ns (each_knows ns may.clients_apart) }
+
+pub opens_all : (ps : List Placement) (ns : List Newcomer) → MayOpen ps ns → All (known_by ns) (opening ps ns)
+opens_all ps ns may = (opens_kept ps ns may, opens_knowing ps ns may)
 
 -- the facts about incarnations in a world that is reached
-reached_knowing : (w : World) (r : IsReached w) → Knowing (map (λ (p : Placement). p.handler) r.placements) w
+reached_knowing : (w : World) (r : IsReached w) → Knowing (known_by r.newcomers) w
 reached_knowing w r =
-    let hs = map (λ (p : Placement). p.handler) r.placements in
+    let hs = known_by r.newcomers in
     (subst (All hs) (ap (λ (x : Run). x.0) r.leads) (steps_kept (All hs) (still_kept hs) (opening r.placements r.newcomers) r.events
-    (opens_kept r.placements r.newcomers r.opens, opens_knowing r.placements r.newcomers))).1
+    (opens_all r.placements r.newcomers r.opens))).1
 
 pub names_known : (w : World) → IsReached w → AllByRecursion (NamesKnown w) w.sent
 names_known w r =
-    let hs = map (λ (p : Placement). p.handler) r.placements in
-    all_more_of (Names hs w.sites) (NamesKnown w) (names_shown hs w (sites_placed w r)) w.sent (reached_knowing w r).messages
+    let hs = known_by r.newcomers in
+    let k = reached_knowing w r in
+    all_more_of (Names hs w.sites) (NamesKnown w) (names_shown hs w k.parties) w.sent k.messages
 
--- each client knows the handlers that were placed
-pub clients_know : (w : World) (r : IsReached w) → AllByRecursion (λ p. p.client.handlers ≡ map number_of w.sites) w.parties
+-- the handlers that a client knows are handlers of the world
+pub known_there : (w : World) (r : IsReached w) (c : ClientId) (h : HandlerId) → has (known_by r.newcomers c) h ≡ true → has (map number_of w.sites) h ≡ true
+known_there w r c h e =
+    ap (λ ks. has ks h) (sites_placed w r) ∙ known_placed (map (λ (p : Placement). p.handler) r.placements) r.newcomers r.opens.knowing c h e
+
+-- a client knows only handlers of the world
+abbrev pub KnowsSites : World → Party → Type 0
+KnowsSites w p = (h : HandlerId) → has p.client.handlers h ≡ true → has (map number_of w.sites) h ≡ true
+
+pub clients_know : (w : World) → IsReached w → AllByRecursion (KnowsSites w) w.parties
 clients_know w r =
-    let hs = map (λ (p : Placement). p.handler) r.placements in
-    all_more_of (PartyKnown hs w.sites) (λ p. p.client.handlers ≡ map number_of w.sites) (λ p k. k.handlers ∙ sym (sites_placed w r)) w.parties
-    (reached_knowing w r).parties
+    all_more_of (PartyKnown (known_by r.newcomers) w.sites) (KnowsSites w)
+    (λ p k h e. known_there w r (id_of p) h (ap (λ ks. has ks h) (sym k.handlers) ∙ e)) w.parties (reached_knowing w r).parties

@@ -74,7 +74,7 @@ inc_set w c p q at same le d =
     (λ apart. omega arith)
 
 due_greets : (w : World) (c : ClientId) (p : Party) (h : HandlerId) → party_of c w ≡ Some p → (m : Message) → Sends p.client h m → Greets w m
-due_greets w c p h at m sends_hello = let is = inc_there w c p at in omega (arith, is)
+due_greets w c p h at m (sends_hello left) = let is = inc_there w c p at in omega (arith, is)
 due_greets w c p h at m s = tt
 
 -- one client's incarnation grows, or stays, and nothing is sent

@@ -1,7 +1,7 @@
 -- Every event keeps what clients logged, and nothing is logged in a world that opens.
 use Rattle.scoop_model.proofs.Names.{◌≡◌, ℕ, List, map, Some, refl, true≢false, IsFalse, client_of, is_for_handler, Message, Log, all_found, replies-row, row}
 use Rattle.scoop_model.proofs.Names.{hear, HasEntries, all_made, heard_world, with_site, begun_site, finished_site, reopened_world, Placement, Newcomer}
-use Rattle.scoop_model.proofs.Names.{new_party, opening, World, Site, is_party, sent_at, [], ◌∷◌, arith, find, inl, none-some, ClientId, HandlerId}
+use Rattle.scoop_model.proofs.Names.{new_party, opening, World, Site, is_party, sent_at, [], ◌∷◌, arith, find, inl, none-some, ClientId}
 use Rattle.scoop_model.proofs.Names.{ReservationState, heard, newest_block, heard_party, restarted_party, new_site, logs_after, Party}
 use Rattle.scoop_model.proofs.Events.{Changes}
 use Rattle.scoop_model.proofs.Order.{PartyFits, Ordered, all_pushed, handlers_after, goes_on, keeps_hearing}
@@ -45,7 +45,7 @@ pub opens_logging : (ps : List Placement) (ns : List Newcomer) → Logging (open
 opens_logging ps ns = record {
   messages = tt;
   logs = λ b h. refl;
-  parties = all_made (new_party (map (λ p. p.handler) ps)) (PartyLogs (opening ps ns)) (λ n. record { block = λ r e. absurd (cc) }) ns;
+  parties = all_made new_party (PartyLogs (opening ps ns)) (λ n. record { block = λ r e. absurd (cc) }) ns;
 }
 
 -- ---- the invariant about openings, which a world that opens has, since nothing has opened there
@@ -73,15 +73,15 @@ openings_kept w o sound l i = record {
 
 -- no client has a block
 pub none_reserved :
-    (c : ClientId) (hs : List HandlerId) (ns : List Newcomer) (p : Party) → find (is_party c) (map (new_party hs) ns) ≡ Some p → (r : ReservationState)
+    (c : ClientId) (ns : List Newcomer) (p : Party) → find (is_party c) (map new_party ns) ≡ Some p → (r : ReservationState)
     → p.client.reservation ≡ Some r → ⊥
-none_reserved c hs [] p e r held = cc
-none_reserved c hs (n ∷ ns) p e r held = grind (arith, none-some, none_reserved c hs ns p)
+none_reserved c [] p e r held = cc
+none_reserved c (n ∷ ns) p e r held = grind (arith, none-some, none_reserved c ns p)
 
 pub opens_openings : (ps : List Placement) (ns : List Newcomer) → Openings (opening ps ns)
 opens_openings ps ns = record {
   messages = tt;
   logs = λ b h. inl refl;
   sites = all_made new_site (SiteOpened (opening ps ns)) (λ p. record { named = λ b e. absurd (cc); marks = tt }) ps;
-  parties = λ c p at r held. absurd (none_reserved c (map (λ y. y.handler) ps) ns p at r held);
+  parties = λ c p at r held. absurd (none_reserved c ns p at r held);
 }

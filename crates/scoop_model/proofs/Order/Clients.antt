@@ -27,7 +27,7 @@ pub none_in_empty : (hs : List HandlerId) (x : HandlerId) → is_empty hs ≡ tr
 none_in_empty [] x e = refl
 none_in_empty (y ∷ ys) x e = absurd (let l = eqb-true (length (y ∷ ys)) 0 e in omega (arith, l))
 
-and_first : (t u : Bool) → (t && u) ≡ true → t ≡ true
+pub and_first : (t u : Bool) → (t && u) ≡ true → t ≡ true
 and_first true u e = refl
 and_first false u e = absurd (true≢false (sym e))
 

@@ -1,5 +1,5 @@
 -- Every world that a list of events leads to is in order.
-use Rattle.scoop_model.proofs.Names.{◌≡◌, List, [], map, refl, sym, true, true≢false, AllByRecursion, client_of, Block, all_found, all_made, steps}
+use Rattle.scoop_model.proofs.Names.{◌≡◌, List, [], refl, sym, true, true≢false, AllByRecursion, client_of, Block, all_found, all_made, steps}
 use Rattle.scoop_model.proofs.Names.{IsSubsequence, nothing, InOrder, Placement, Newcomer, new_site, new_party, opening, World, Site, is_party, has_block}
 use Rattle.scoop_model.proofs.Names.{Event, NoRepeats, hear, Note, OpenedNote as Opened, newly_opened, joined}
 use Rattle.scoop_model.proofs.Events.{Changes, steps_kept}
@@ -54,7 +54,7 @@ opens_ordered ps ns = record {
     next = λ b held e. absurd (true≢false (sym e));
     left = nothing;
   }) ps;
-  parties = all_made (new_party (map (λ p. p.handler) ps)) (PartyFits (opening ps ns)) (λ n. record {
+  parties = all_made new_party (PartyFits (opening ps ns)) (λ n. record {
     stored = refl;
     newest = λ b ks own e. absurd (cc);
     reservation = λ r e. absurd (cc);

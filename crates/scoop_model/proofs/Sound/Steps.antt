@@ -1,7 +1,7 @@
 -- Every event keeps what is true of handlers, messages and clients, and it is true of a world that opens. Hearing, beginning and
 -- finishing keep a handler sound, and a restart gives it its stored state, which is its own. A client's batch stays what it was, so
 -- the Log that it owes carries entries, and a reply carries none.
-use Rattle.scoop_model.proofs.Names.{◌≡◌, ℕ, List, map, Some, refl, sym, arith, slice_get, true≢false, IsFalse, AllByRecursion, client_of, handler_of}
+use Rattle.scoop_model.proofs.Names.{◌≡◌, ℕ, List, Some, refl, sym, arith, slice_get, true≢false, IsFalse, AllByRecursion, client_of, handler_of}
 use Rattle.scoop_model.proofs.Names.{is_for_handler, Message, Log, Block, HandlerId, job-first, IsCore-begun, IsCore-finished, all_found, all_at, replies-row}
 use Rattle.scoop_model.proofs.Names.{IsCore-hear, row, IsCore, hear, HasEntries, AreWords, IsState, new_state, due, heard, all_mapped, MayOpen, IsPlaced}
 use Rattle.scoop_model.proofs.Names.{IsJoining, heard_party, restarted_party, heard_site, begun_site, finished_site, reopened, Placement, Newcomer, new_site}
@@ -102,6 +102,6 @@ opens_sound ps ns may = record {
       (λ p placed. record { state = new_state_is p.handler p.words placed.words; words = placed.class; job = λ out. absurd (true≢false (sym out)) })
       ps may.placed;
   messages = tt;
-  parties = all_mapped (new_party (map (λ p. p.handler) ps)) IsJoining PartySound (λ n joining. record { some = joining.some; limit = joining.limit })
+  parties = all_mapped new_party IsJoining PartySound (λ n joining. record { some = joining.some; limit = joining.limit })
       ns may.joining;
 }

@@ -36,7 +36,7 @@ module _ (w : World) (o : Ordered w) (l : Logging w) (openings : Openings w) (i 
   due_stands b m s same = absurd (true≢false (sym same))
 
   due_no_lock : (m : Message) → Sends p.client h m → (x : HandlerId) (b : Block) → m ≡ Locked x b → ⊥
-  due_no_lock m sends_hello x b is = cc
+  due_no_lock m (sends_hello left) x b is = cc
   due_no_lock m s x b is = cc
 
   pub sends_standing : Standing sent_on

@@ -1,5 +1,5 @@
 -- Whatever happens, a block of the common list stands at each of its handlers.
-use Rattle.scoop_model.proofs.Names.{List, map, refl, sym, true≢false, inl, client_of, all_found, heard, newest_block, heard_party, restarted_party, Placement}
+use Rattle.scoop_model.proofs.Names.{List, refl, sym, true≢false, inl, client_of, all_found, heard, newest_block, heard_party, restarted_party, Placement}
 use Rattle.scoop_model.proofs.Names.{Newcomer, opening, logs_after, World, is_party}
 use Rattle.scoop_model.proofs.Events.{Changes}
 use Rattle.scoop_model.proofs.Order.{handlers_after, PartyFits, Ordered, goes_on, keeps_hearing}
@@ -39,5 +39,5 @@ opens_standing ps ns = record {
   locked = tt;
   opened = λ b e. absurd (true≢false (sym e));
   joint = λ b e. absurd (true≢false (sym e));
-  parties = λ c p at r held. absurd (none_reserved c (map (λ y. y.handler) ps) ns p at r held);
+  parties = λ c p at r held. absurd (none_reserved c ns p at r held);
 }

@@ -24,7 +24,7 @@ use Rattle.scoop_model.proofs.Moves.{Sends, sends_hello, sends}
 
 -- a client's message goes to a handler
 sends_to_handler : (c : ClientState) (h : HandlerId) (m : Message) → Sends c h m → is_for_handler m ≡ true
-sends_to_handler c h m sends_hello = refl
+sends_to_handler c h m (sends_hello left) = refl
 sends_to_handler c h m s = refl
 
 pub due_goes : (c : ClientState) (h : HandlerId) (m : Message) → due c h ≡ Some m → is_for_handler m ≡ true

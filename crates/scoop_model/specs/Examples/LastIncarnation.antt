@@ -4,10 +4,10 @@ use Rattle.scoop_model.specs.declared.event.Event.TheVariants.{ClientRestart}
 use Rattle.scoop_model.specs.declared.error.WorldError.TheVariants.{IncarnationsSpent}
 use Rattle.scoop_model.specs.World.{World}
 use Rattle.scoop_model.specs.Step.{step, opening}
-use Rattle.scoop_model.specs.Examples.Parties.{client, cell, placed}
+use Rattle.scoop_model.specs.Examples.Parties.{client, handler, cell, placed}
 
 abbrev pub world : World
-world = opening (placed cell 0 1 ∷ []) (record { id = client 7; batch = 1; stored = 4294967294 } ∷ [])
+world = opening (placed cell 0 1 ∷ []) (record { id = client 7; batch = 1; stored = 4294967294; handlers = handler 1 ∷ [] } ∷ [])
 
 pub record LastIncarnation : Type 0 where
   pub opens : map (λ p. p.client.inc) world.parties ≡ 4294967295 ∷ []

@@ -47,23 +47,23 @@ block c inc num = record { client = client c; inc = inc; num = num }
 abbrev pub placed : ClassTable → ℕ → ℕ → Placement
 placed class word h = record { node = 1; handler = handler h; class = class; words = word ∷ [] }
 
--- a client of batch 1 that was never here
-abbrev pub joins : ℕ → Newcomer
-joins c = record { id = client c; batch = 1; stored = 0 }
+-- a client of batch 1 that was never here, and knows these handlers
+abbrev pub joins : List ℕ → ℕ → Newcomer
+joins hs c = record { id = client c; batch = 1; stored = 0; handlers = map handler hs }
 
 -- handlers with a cell of 0 each, and clients
 abbrev pub cells : List ℕ → List ℕ → World
-cells hs cs = opening (map (placed cell 0) hs) (map joins cs)
+cells hs cs = opening (map (placed cell 0) hs) (map (joins hs) cs)
 
 abbrev pub CellsMayOpen : List ℕ → List ℕ → Type 0
-CellsMayOpen hs cs = MayOpen (map (placed cell 0) hs) (map joins cs)
+CellsMayOpen hs cs = MayOpen (map (placed cell 0) hs) (map (joins hs) cs)
 
 -- handler 1 with a counter of 0, and clients
 abbrev pub counting : List ℕ → World
-counting cs = opening (placed counter 0 1 ∷ []) (map joins cs)
+counting cs = opening (placed counter 0 1 ∷ []) (map (joins (1 ∷ [])) cs)
 
 abbrev pub CounterMayOpen : List ℕ → Type 0
-CounterMayOpen cs = MayOpen (placed counter 0 1 ∷ []) (map joins cs)
+CounterMayOpen cs = MayOpen (placed counter 0 1 ∷ []) (map (joins (1 ∷ [])) cs)
 
 -- one client sends what it owes, as the i-th message, which is taken, and so is the reply
 abbrev pub trip : ℕ → ℕ × ℕ → List Event

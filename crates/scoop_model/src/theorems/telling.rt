@@ -17,8 +17,8 @@ pub fn welcome_has_greeted()
     ensures { (w : World) → IsReached w → AllByRecursion (TellsGreeted w) w.sent }
 {}
 
-/// If a message that was ever sent names a block, every handler has a mark of the block's client. That mark's
-/// incarnation isn't below the block's.
+/// If a message that was ever sent names a block, every handler that the block's client knows has a mark of that
+/// client. That mark's incarnation isn't below the block's.
 pub fn named_incarnations_known()
     ensures { (w : World) → IsReached w → AllByRecursion (NamesKnown w) w.sent }
 {}

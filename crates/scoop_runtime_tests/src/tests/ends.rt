@@ -74,14 +74,28 @@ fn ask_planned(
 // The plan of client 7.
 fn plan_in(system: &System) -> Option<ClientPlan<'_>> {
     let place = *system.client(ClientId(7))?;
-    ClientPlan::new(system, place, TURNS, false).ok()
+    match ClientPlan::new(system, place, TURNS, false) {
+        Ok(plan) => Some(plan),
+        Err(_) => None,
+    }
+}
+
+// The same for one that ends after the first refusal.
+fn strict_plan_in(system: &System) -> Option<ClientPlan<'_>> {
+    let place = *system.client(ClientId(7))?;
+    match ClientPlan::new_strict(system, place, TURNS, false) {
+        Ok(plan) => Some(plan),
+        Err(_) => None,
+    }
 }
 
 #[test]
 fn a_client_that_nobody_welcomes_names_the_handler(rt: HostRuntime) -> Result<(), Fail> {
     let alloc = rt.alloc();
     let system = System::read(alloc, CELL)?;
-    let plan = plan_in(&system).ok_or("no plan")?;
+    let Some(plan) = plan_in(&system) else {
+        return Err(Fail::from("no plan"));
+    };
     let (ended, output) = ask_planned(alloc, &plan, &[], b"reserve 1\n").ok_or("no client")?;
     let progress = Progress {
         is_ready: false,
@@ -99,7 +113,9 @@ fn a_client_that_nobody_welcomes_names_the_handler(rt: HostRuntime) -> Result<()
 fn a_client_that_nobody_answers_names_the_handler(rt: HostRuntime) -> Result<(), Fail> {
     let alloc = rt.alloc();
     let system = System::read(alloc, CELL)?;
-    let plan = plan_in(&system).ok_or("no plan")?;
+    let Some(plan) = plan_in(&system) else {
+        return Err(Fail::from("no plan"));
+    };
     let (ended, output) = ask_planned(alloc, &plan, &[WELCOME], b"reserve 1\n").ok_or("no client")?;
     let progress = Progress {
         is_ready: true,
@@ -117,7 +133,9 @@ fn a_client_that_nobody_answers_names_the_handler(rt: HostRuntime) -> Result<(),
 fn a_strict_client_ends_after_its_first_refusal(rt: HostRuntime) -> Result<(), Fail> {
     let alloc = rt.alloc();
     let system = System::read(alloc, CELL)?;
-    let plan = plan_in(&system).ok_or("no plan")?;
+    let Some(plan) = plan_in(&system) else {
+        return Err(Fail::from("no plan"));
+    };
     let lines = b"# two ends\nend\nend\n";
     let (ended, output) = ask_planned(alloc, &plan, &[WELCOME], lines).ok_or("no client")?;
     let mut progress = Progress {
@@ -129,7 +147,10 @@ fn a_strict_client_ends_after_its_first_refusal(rt: HostRuntime) -> Result<(), F
     let error = RuntimeError::SomeRefused(2, 2);
     assert_eq!(rt; ended, Err(ClientStop { error, progress }));
     assert!(rt; output.as_slice() == "refused NoBlock\nrefused NoBlock\n".as_bytes());
-    let (ended, output) = ask_planned(alloc, &plan.strict(), &[WELCOME], lines).ok_or("no client")?;
+    let Some(strict) = strict_plan_in(&system) else {
+        return Err(Fail::from("no plan"));
+    };
+    let (ended, output) = ask_planned(alloc, &strict, &[WELCOME], lines).ok_or("no client")?;
     progress.answered = Some(2);
     let error = RuntimeError::Refused(2);
     assert_eq!(rt; ended, Err(ClientStop { error, progress }));

@@ -132,7 +132,9 @@ impl Pair {
 
     // Runs the first client, cuts its block if that is asked, and runs the second one.
     fn live(&mut self, alloc: Global, system: &System, run: &Run) -> Option<()> {
-        let seven = plan_of(system, 7, run.turns, run.is_strict)?;
+        let Some(seven) = plan_of(system, 7, run.turns, run.is_strict) else {
+            return None;
+        };
         let keeper = &mut MemoryKeeper::new(alloc);
         let link = DeafLink::new(&mut self.seven, run.gap, &mut self.asked);
         let told = ask_planned(alloc, &seven, keeper, link, &mut TextLines::new(run.lines));
@@ -156,7 +158,9 @@ impl Pair {
             )
             .ok()?;
         }
-        let eight = plan_of(system, 8, TURNS, false)?;
+        let Some(eight) = plan_of(system, 8, TURNS, false) else {
+            return None;
+        };
         let keeper = &mut MemoryKeeper::new(alloc);
         let mut asked = Asked::new();
         let link = DeafLink::new(&mut self.eight, Gap::NONE, &mut asked);
@@ -169,8 +173,15 @@ impl Pair {
 // The plan of a client.
 fn plan_of(system: &System, number: u32, turns: u64, is_strict: bool) -> Option<ClientPlan<'_>> {
     let place = *system.client(ClientId(number))?;
-    let plan = ClientPlan::new(system, place, turns, false).ok()?;
-    Some(if is_strict { plan.strict() } else { plan })
+    let made = if is_strict {
+        ClientPlan::new_strict(system, place, turns, false)
+    } else {
+        ClientPlan::new(system, place, turns, false)
+    };
+    match made {
+        Ok(plan) => Some(plan),
+        Err(_) => None,
+    }
 }
 
 // Serves the node in a thread, and runs both clients beside it.

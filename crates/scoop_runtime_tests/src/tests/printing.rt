@@ -199,6 +199,8 @@ fn a_clients_errors_name_what_they_are_about(rt: HostRuntime) {
     advises(&rt, unanswered, at, "killed inside a block");
     let line = RuntimeError::Line(4, LineFault::NotANumber(ShownWord::of(b"ten")));
     advises(&rt, line, About::Nothing, "whole decimal number");
+    let unused = RuntimeError::NotUsed(4, HandlerId(2));
+    advises(&rt, unused, About::Nothing, "the client's handlers");
     let refused = RuntimeError::Refused(4);
     advises(&rt, refused, About::Nothing, "without --strict");
 }

@@ -4,6 +4,7 @@ mod faults;
 mod formulas;
 mod lines;
 mod names;
+mod using;
 
 use scoop_classes::DemoClass;
 use scoop_message::{ClientId, HandlerId};

@@ -1,6 +1,7 @@
 //! The lines of a log, and how many there may be.
 
 use super::{heard, state, watch};
+use scoop_admission::Strangers;
 use scoop_handler::{Note, Reason};
 use scoop_keeper::{FailingKeeper, Keeper, MemoryKeeper};
 use scoop_link::{Link, TapeLink};
@@ -8,7 +9,7 @@ use scoop_message::limits::BUFFER_LEN;
 use scoop_message::{ClientId, HandlerId, Message};
 use scoop_seal::{Key, SealedLink};
 use scoop_status::{Budget, Log};
-use scoop_watch::{LogLevel, Watch, WatchedKeeper, WatchedLink};
+use scoop_watch::{LogLevel, Watch, WatchedKeeper, WatchedLink, WatchedStrangers};
 use std::alloc::Global;
 use std::sync::Wait;
 use std::test::Fail;
@@ -54,12 +55,12 @@ fn receive_forged(alloc: Global, watch: &Watch) -> Result<(), Fail> {
 
 #[test]
 fn trouble_is_told_in_one_form(rt: HostRuntime) -> Result<(), Fail> {
-    let watch = watch(rt.alloc(), LogLevel::Warn)?;
+    let watch = watch(rt.alloc(), LogLevel::Warn);
     let failing = FailingKeeper::new(MemoryKeeper::new(rt.alloc()), 0);
     let mut keeper = WatchedKeeper::new(failing, &rt, &watch);
-    let hello = Message::Hello(HANDLER, ClientId(99), 1);
-    keeper.note_heard(&hello, &heard(Note::Dropped(Reason::Stale)))?;
-    keeper.note_heard(&hello, &heard(Note::Dropped(Reason::Stale)))?;
+    let mut strangers = WatchedStrangers::new(&rt, &watch);
+    strangers.meet(ClientId(99), HANDLER);
+    strangers.meet(ClientId(99), HANDLER);
     assert!(rt; keeper.put_handler(&state(rt.alloc(), &[5])?).is_err());
     receive_forged(rt.alloc(), &watch)?;
     // a second call tells nothing again
@@ -81,7 +82,7 @@ fn other_events_are_told_at_their_levels(rt: HostRuntime) -> Result<(), Fail> {
         LogLevel::Info,
         LogLevel::Debug,
     ] {
-        let watch = watch(rt.alloc(), level)?;
+        let watch = watch(rt.alloc(), level);
         let mut keeper = WatchedKeeper::new(MemoryKeeper::new(rt.alloc()), &rt, &watch);
         keeper.put_handler(&state(rt.alloc(), &[5])?)?;
         let hello = Message::Hello(HANDLER, ClientId(7), 2);
@@ -105,7 +106,7 @@ fn other_events_are_told_at_their_levels(rt: HostRuntime) -> Result<(), Fail> {
 
 #[test]
 fn a_flood_of_lines_is_left_out(rt: HostRuntime) -> Result<(), Fail> {
-    let watch = watch(rt.alloc(), LogLevel::Debug)?;
+    let watch = watch(rt.alloc(), LogLevel::Debug);
     let mut keeper = WatchedKeeper::new(MemoryKeeper::new(rt.alloc()), &rt, &watch);
     let hello = Message::Hello(HANDLER, ClientId(7), 2);
     let mut written = Vec::new(rt.alloc());

@@ -161,7 +161,7 @@ fn asked<R: Wait + Clock + Abort + Net<Stream = TcpStream>>(
 #[test]
 fn each_request_gets_its_answer_in_time(rt: HostRuntime) -> Result<(), Fail> {
     let system = System::read(rt.alloc(), SYSTEM)?;
-    let watch: Watch = watch(rt.alloc(), LogLevel::Off)?;
+    let watch: Watch = watch(rt.alloc(), LogLevel::Off);
     let mut served = serve(&rt)?;
     answers_each(&rt, rt.alloc(), &system, &watch, &mut served)
 }
@@ -209,7 +209,7 @@ fn leaves_room<R: Wait + Clock + Abort + Net<Stream = TcpStream>>(
 #[test]
 fn silent_connections_leave_room(rt: HostRuntime) -> Result<(), Fail> {
     let system = System::read(rt.alloc(), SYSTEM)?;
-    let watch: Watch = watch(rt.alloc(), LogLevel::Off)?;
+    let watch: Watch = watch(rt.alloc(), LogLevel::Off);
     let mut served = serve(&rt)?;
     let mut silent = Vec::new(rt.alloc());
     leaves_room(&rt, rt.alloc(), &system, &watch, &mut served, &mut silent)

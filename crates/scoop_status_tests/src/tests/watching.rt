@@ -1,6 +1,7 @@
 //! What passes through the watchers, and what they count.
 
 use super::{heard, state, watch};
+use scoop_admission::Strangers;
 use scoop_handler::{HandlerState, Note, Reason};
 use scoop_keeper::{FailingKeeper, Keeper, KeeperError, MemoryKeeper};
 use scoop_link::{Link, Party, TapeLink};
@@ -8,7 +9,8 @@ use scoop_message::limits::BUFFER_LEN;
 use scoop_message::{ClientId, HandlerId, Message};
 use scoop_seal::{Key, SealedLink};
 use scoop_watch::{
-    Event, EventList, Level, LogLevel, MAX_EVENTS, Watch, WatchedKeeper, WatchedLink, WatchedOutput,
+    Event, EventList, Level, LogLevel, MAX_EVENTS, Watch, WatchedKeeper, WatchedLink,
+    WatchedOutput, WatchedStrangers,
 };
 use std::alloc::Global;
 use std::io::Write;
@@ -66,7 +68,7 @@ fn puts_both<R: Wait + Abort>(
 
 #[test]
 fn a_put_is_passed_on_and_shown(rt: HostRuntime) -> Result<(), Fail> {
-    let watch = watch(rt.alloc(), LogLevel::Off)?;
+    let watch = watch(rt.alloc(), LogLevel::Off);
     let first = state(rt.alloc(), &[5])?;
     let second = state(rt.alloc(), &[6])?;
     let mut keeper = WatchedKeeper::new(MemoryKeeper::new(rt.alloc()), &rt, &watch);
@@ -91,7 +93,7 @@ fn loads<R: Wait + Abort>(
 
 #[test]
 fn a_loaded_state_is_shown(rt: HostRuntime) -> Result<(), Fail> {
-    let watch = watch(rt.alloc(), LogLevel::Off)?;
+    let watch = watch(rt.alloc(), LogLevel::Off);
     let stored = state(rt.alloc(), &[5])?;
     let mut under = MemoryKeeper::new(rt.alloc());
     under.put_handler(&stored)?;
@@ -101,7 +103,7 @@ fn a_loaded_state_is_shown(rt: HostRuntime) -> Result<(), Fail> {
 
 #[test]
 fn a_refused_put_is_counted_and_not_shown(rt: HostRuntime) -> Result<(), Fail> {
-    let watch = watch(rt.alloc(), LogLevel::Warn)?;
+    let watch = watch(rt.alloc(), LogLevel::Warn);
     let failing = FailingKeeper::new(MemoryKeeper::new(rt.alloc()), 0);
     let mut keeper = WatchedKeeper::new(failing, &rt, &watch);
     let state = state(rt.alloc(), &[5])?;
@@ -117,7 +119,7 @@ fn a_refused_put_is_counted_and_not_shown(rt: HostRuntime) -> Result<(), Fail> {
 
 #[test]
 fn a_greeting_tells_client_and_cut(rt: HostRuntime) -> Result<(), Fail> {
-    let watch = watch(rt.alloc(), LogLevel::Info)?;
+    let watch = watch(rt.alloc(), LogLevel::Info);
     let mut keeper = WatchedKeeper::new(MemoryKeeper::new(rt.alloc()), &rt, &watch);
     keeper.put_handler(&state(rt.alloc(), &[5])?)?;
     let hello = Message::Hello(HANDLER, ClientId(7), 2);
@@ -140,9 +142,12 @@ fn a_greeting_tells_client_and_cut(rt: HostRuntime) -> Result<(), Fail> {
 
 #[test]
 fn strangers_drops_and_runs_are_counted(rt: HostRuntime) -> Result<(), Fail> {
-    let watch = watch(rt.alloc(), LogLevel::Warn)?;
+    let watch = watch(rt.alloc(), LogLevel::Warn);
     let mut keeper = WatchedKeeper::new(MemoryKeeper::new(rt.alloc()), &rt, &watch);
-    let hello = Message::Hello(HANDLER, ClientId(99), 1);
+    let mut strangers = WatchedStrangers::new(&rt, &watch);
+    strangers.meet(ClientId(99), HANDLER);
+    strangers.meet(ClientId(99), HANDLER);
+    let hello = Message::Hello(HANDLER, ClientId(7), 1);
     keeper.note_heard(&hello, &heard(Note::Dropped(Reason::TooManyClients)))?;
     keeper.note_heard(&hello, &heard(Note::Took(4)))?;
     keeper.note_finished(HANDLER)?;
@@ -160,7 +165,7 @@ fn strangers_drops_and_runs_are_counted(rt: HostRuntime) -> Result<(), Fail> {
 
 #[test]
 fn datagrams_are_passed_on_and_counted(rt: HostRuntime) -> Result<(), Fail> {
-    let watch = watch(rt.alloc(), LogLevel::Off)?;
+    let watch = watch(rt.alloc(), LogLevel::Off);
     let mut tape = TapeLink::new(rt.alloc(), 1)?;
     tape.feed(b"forged")?;
     let sealed = SealedLink::new(tape, Key::new([5; 32]));
@@ -179,7 +184,7 @@ fn datagrams_are_passed_on_and_counted(rt: HostRuntime) -> Result<(), Fail> {
 
 #[test]
 fn lines_of_the_output_tell_openings(rt: HostRuntime) -> Result<(), Fail> {
-    let watch = watch(rt.alloc(), LogLevel::Info)?;
+    let watch = watch(rt.alloc(), LogLevel::Info);
     let mut written = Vec::new(rt.alloc());
     let mut output = WatchedOutput::new(&mut written, &rt, &watch);
     writeln!(output, "node {} at 127.0.0.1:1: handlers 1", 1)?;

@@ -1,7 +1,7 @@
 //! A `reserve` line, with its conditions.
 
 ghost use Rattle.std.specs.Prelude.{◌≡◌, ◌≤◌, length};
-ghost use Rattle.scoop_system.specs.declared.named_handlers.TheConstants.{MAX_NAMED};
+ghost use Rattle.scoop_system.specs.declared.line.reserve.TheConstants.{MAX_NAMED};
 ghost use Rattle.scoop_system.specs.declared.line.words.Border.TheVariants.{When};
 ghost use Rattle.scoop_lines.specs.Words.{words_of};
 ghost use Rattle.scoop_lines.specs.Reading.{each_of};
@@ -13,10 +13,13 @@ use super::fault::LineFault;
 use super::number::read_handler;
 use super::when::read_when;
 use super::words::{Border, behind, count_before, is_border};
-use crate::named_handlers::{MAX_NAMED, NamedHandlers};
+use crate::named_handlers::NamedHandlers;
 use crate::system::System;
 use scoop_lines::next_word;
 use scoop_message::HandlerId;
+
+/// Handlers that one line may name: one more than a block may have, so that a client itself refuses too many.
+pub const MAX_NAMED: usize = 9;
 
 // Up to nine handlers, and conditions after `when` if that word is there.
 pub(super) fn read_reserve(system: &System, line: &[u8]) -> Result<ClientLine, LineFault>

@@ -25,7 +25,8 @@ pub(super) fn print_classes<W: Write>(classes: &[OwnClass], writer: &mut W) -> i
     }
 }
 
-fn print_class<W: Write>(class: &OwnClass, writer: &mut W) -> io::Result<()>
+/// Writes a class: a line of its name and its number of words, and a line for each operation.
+pub fn print_class<W: Write>(class: &OwnClass, writer: &mut W) -> io::Result<()>
     ensures { OnOk result (Appends (W.contents writer.old) (W.contents writer.new) (class_text class.now)) }
 {
     let name = class.name();

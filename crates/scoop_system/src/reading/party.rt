@@ -13,6 +13,7 @@ ghost use Rattle.scoop_system.specs.Stop.{IfFault};
 
 use super::place::{at, place_at};
 use super::stop::Stop;
+use super::used::used_at;
 use super::value::{
     address_at, entry, handler_name_at, in_range, key_fault, list_at, number_at, status_at,
     text_at, words_at,
@@ -315,13 +316,14 @@ pub(super) fn read_clients(
     alloc: Global,
     file: &Value,
     nodes: &[NodePlace],
+    handlers: &[HandlerPlace],
 ) -> Result<Vec<ClientPlace>, Stop>
-    ensures ok { IfOk result (λ clients. clients_of nodes.now (view file.now) ≡ Ok clients.items) }
-    ensures fault { IfErr result (λ e. IfFault e (λ fault. clients_of nodes.now (view file.now) ≡ Err fault)) }
+    ensures ok { IfOk result (λ clients. clients_of nodes.now handlers.now (view file.now) ≡ Ok clients.items) }
+    ensures fault { IfErr result (λ e. IfFault e (λ fault. clients_of nodes.now handlers.now (view file.now) ≡ Err fault)) }
 {
     let values = at(Place::File, list_at(file, Key::Client, MAX_CLIENTS))?;
     let mut clients = Vec::new(alloc);
-    match add_clients(&mut clients, nodes, values) {
+    match add_clients(&mut clients, nodes, handlers, values) {
         Ok(()) => Ok(clients),
         Err(stop) => Err(stop),
     }
@@ -331,14 +333,19 @@ pub(super) fn read_clients(
 fn add_clients(
     clients: &mut Vec<ClientPlace>,
     nodes: &[NodePlace],
+    handlers: &[HandlerPlace],
     values: &[Value],
 ) -> Result<(), Stop>
-    ensures ok { IfOk result (λ _. clients_from nodes.now clients.old.items (map view values.now) ≡ Ok clients.new.items) }
-    ensures fault { IfErr result (λ e. IfFault e (λ fault. clients_from nodes.now clients.old.items (map view values.now) ≡ Err fault)) }
+    ensures ok { IfOk result (λ _. clients_from nodes.now handlers.now clients.old.items (map view values.now) ≡ Ok clients.new.items) }
+    ensures fault { IfErr result (λ e. IfFault e (λ fault.
+        clients_from nodes.now handlers.now clients.old.items (map view values.now) ≡ Err fault)) }
 {
     for value in values {
         let place = place_at(value, Key::Client, clients.len() + 1);
-        match at(place, read_client(value, nodes, clients.as_slice())) {
+        match at(
+            place,
+            read_client(value, nodes, handlers, clients.as_slice()),
+        ) {
             Ok(client) => clients.push(client)?,
             Err(fault) => return Err(Stop::Fault(fault)),
         }
@@ -350,16 +357,19 @@ fn add_clients(
 fn read_client(
     value: &Value,
     nodes: &[NodePlace],
+    handlers: &[HandlerPlace],
     done: &[ClientPlace],
 ) -> Result<ClientPlace, Wrong>
-    ensures { result ≡ client_of nodes.now done.now (view value.now) }
+    ensures { result ≡ client_of nodes.now handlers.now done.now (view value.now) }
 {
-    if let Some(wrong) = key_fault(value, &[Key::Number, Key::Address, Key::Batch]) {
+    let known = [Key::Number, Key::Address, Key::Batch, Key::Handlers];
+    if let Some(wrong) = key_fault(value, &known) {
         return Err(wrong);
     }
     let number = read_number(value)?;
     let address = address_at(value)?;
     let batch = batch_at(value)?;
+    let used = used_at(value, handlers)?;
     if has_client(done, number) {
         return Err(Wrong::Twice);
     }
@@ -370,6 +380,7 @@ fn read_client(
         client: ClientId(number),
         address,
         batch,
+        handlers: used,
     })
 }
 

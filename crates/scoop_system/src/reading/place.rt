@@ -28,7 +28,13 @@ pub(super) fn check_keys(file: &Value) -> Result<(), Fault>
     ensures ok { IfOk result (λ _. key_fault file_keys (view file.now) ≡ None) }
     ensures fault { IfErr result (λ fault. at Place.File (unless (key_fault file_keys (view file.now)) (Ok (view file.now))) ≡ Err fault) }
 {
-    let known = [Key::Class, Key::Node, Key::Handler, Key::Client];
+    let known = [
+        Key::System,
+        Key::Class,
+        Key::Node,
+        Key::Handler,
+        Key::Client,
+    ];
     match key_fault(file, &known) {
         Some(wrong) => Err(Fault {
             place: Place::File,

@@ -28,7 +28,7 @@ pub(super) fn entry(value: &Value, key: Key) -> Option<&Value>
 }
 
 // A whole number from 0 on.
-fn whole(value: &Value) -> Option<u64>
+pub(super) fn whole(value: &Value) -> Option<u64>
     ensures { result ≡ whole_of (view value.now) }
 {
     match value.as_integer() {

@@ -24,8 +24,8 @@ fn join<A: Allocator + Copy>(
     keeper: &mut MemoryKeeper<A>,
 ) -> Result<Party<A>, WorldOpenError>
     requires { IsBatched client.now }
-    ensures party { IfOk result (λ p. p ≡ new_party handlers.now (newcomer_of (incarnation_at keeper.old) client.now)) }
-    ensures joining { OnOk result (IsJoining (newcomer_of (incarnation_at keeper.old) client.now)) }
+    ensures party { IfOk result (λ p. p ≡ new_party (newcomer_of handlers.now (incarnation_at keeper.old) client.now)) }
+    ensures joining { OnOk result (IsJoining (newcomer_of handlers.now (incarnation_at keeper.old) client.now)) }
     ensures stored { OnOk result
         (Sets (incarnation_at keeper.old) (incarnation_at keeper.new) client.now.0.0 (next_of (incarnation_at keeper.old client.now.0.0))) }
     ensures states { keeper.new.states ≡ keeper.old.states }
@@ -50,8 +50,8 @@ pub(crate) fn join_all<A: Allocator + Copy>(
 ) -> Result<Vec<Party<A>, A>, WorldOpenError>
     requires batched { All IsBatched clients.now }
     requires apart { NoRepeats (map (λ c. c.0) clients.now) }
-    ensures parties { IfOk result (λ ps. ps.items ≡ map (new_party handlers.now) (newcomers_of (incarnation_at keeper.old) clients.now)) }
-    ensures joining { OnOk result (AllByRecursion IsJoining (newcomers_of (incarnation_at keeper.old) clients.now)) }
+    ensures parties { IfOk result (λ ps. ps.items ≡ map new_party (newcomers_of handlers.now (incarnation_at keeper.old) clients.now)) }
+    ensures joining { OnOk result (AllByRecursion IsJoining (newcomers_of handlers.now (incarnation_at keeper.old) clients.now)) }
     ensures stored { IfOk result (λ ps. AllByRecursion (HasIncarnation keeper.new) ps.items) }
     ensures states { keeper.new.states ≡ keeper.old.states }
     ensures refused { IfErr result (λ e. (e ≡ WorldOpenError.OutOfMemory) ⊎ ((e ≡ WorldOpenError.IncarnationsSpent)

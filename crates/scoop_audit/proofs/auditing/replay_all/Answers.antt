@@ -6,7 +6,7 @@ use Rattle.scoop_audit.proofs.auditing.replay_all.Goals as goal
 pub loop-member-preserved : goal.loop-member-preserved
 loop-member-preserved c =
     λ none.
-    members_next c.args.system.now c.args.known.now (map (λ (j : Journal). j.bytes.now) c.args.journals.now) c.loop-member.replayed.post
+    members_next c.args.system.now (map (λ (j : Journal). j.bytes.now) c.args.journals.now) c.loop-member.replayed.post
     c.replay.new.replayed.post c.args.members.now c.loop-member.member-index _ c.bytes_of-bytes.result.now c.loop-member.replayed.trails.items
     c.replay.new.replayed.trails.items c.loop-member-test.true c.in-Ok.ensures.grows (c.loop-member.invariant none) c.bytes_of-bytes.ensures
     c.in-Ok.ensures.adds

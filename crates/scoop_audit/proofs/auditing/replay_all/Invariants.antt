@@ -6,4 +6,4 @@ use Rattle.scoop_audit.proofs.auditing.replay_all.Given as goal
 abbrev pub invariant-loop-member : goal.invariant-loop-member
 invariant-loop-member l =
     l.fn.replayed.trails.items ≡ []
-    → TellMembers l.system l.known (map (λ j. j.bytes.now) l.journals) l.replayed.post (take l.member-index l.members) l.replayed.trails.items
+    → TellMembers l.system (map (λ j. j.bytes.now) l.journals) l.replayed.post (take l.member-index l.members) l.replayed.trails.items

@@ -3,6 +3,7 @@ use Rattle.scoop_journal.specs.declared.line.Line.TheVariants.{ClientLife}
 use Rattle.scoop_journal.specs.Journal.{ended}
 use Rattle.scoop_audit.specs.Client.{ClientUpTo}
 use Rattle.scoop_audit.proofs.Clients.{life_told, step_told}
+use Rattle.scoop_audit.proofs.Stops.{step_stops}
 use Rattle.scoop_audit.proofs.client.take_line.Goals as goal
 
 pub returns-in-ClientLife-clause-told : goal.returns-in-ClientLife-clause-told
@@ -18,11 +19,12 @@ returns-in-ClientLife-clause-told c bytes rest first sent up =
     (subst (λ l. ClientUpTo id batch c.args.last bytes (ended l ++ rest) first c.args.replay.now sent c.args.post.now) life up))
     c.in_ok-begin_life.ensures.inc none.2
 
-pub returns : goal.returns
-returns c =
-    record {
-      grows = c.in_ok-take.ensures.grows;
-      told = λ bytes rest first sent up.
-          step_told c.args.joined.now.id c.args.joined.now.batch c.args.last c.args.line.now bytes rest first c.args.replay.now c.take.new.replay sent
-          c.args.post.now c.take.new.post up (omega (arith, c.if-inc-last.false, c.inc.ensures)) c.in_ok-take.ensures.steps;
-    }
+pub returns-in-Ok-clause-told : goal.returns-in-Ok-clause-told
+returns-in-Ok-clause-told c bytes rest first sent up =
+    step_told c.args.joined.now.id c.args.joined.now.batch c.args.last c.args.line.now bytes rest first c.args.replay.now c.take.new.replay sent
+    c.args.post.now c.take.new.post up (omega (arith, c.if-inc-last.false, c.inc.ensures)) c.in-Ok.ensures.steps
+
+pub returns-in-Err-clause-stops : goal.returns-in-Err-clause-stops
+returns-in-Err-clause-stops c bytes rest first sent up =
+    step_stops c.args.joined.now.id c.args.joined.now.batch c.args.last c.args.line.now bytes rest first c.args.replay.now sent c.args.post.now c.in-Err.trouble
+    c.in-Err.ensures.wrong up

@@ -8,4 +8,4 @@ loop-place-preserved c =
     let ls = c.args.node.now.handlers in
     let n = c.loop-place.place in
     opened_more bytes c.next.new.self.rest.now ls n c.in-Ok-Some.line (omega (arith, c.loop-place-test.true, c.count-place-end.ensures))
-    (subst (λ r. OpenedTo bytes r ls n) (rw c.in-Ok-Some.field-0-is at c.in-Ok-Some.ensures) c.loop-place.invariant) c.in-Ok.ensures
+    (subst (λ r. OpenedTo bytes r ls n) (rw c.in-Ok-Some.field-0-is at c.in-Ok-Some.ensures.next) c.loop-place.invariant) c.in-Ok.ensures.opens

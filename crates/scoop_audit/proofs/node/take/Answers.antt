@@ -1,12 +1,12 @@
-use Rattle.std.proofs.Common.{◌++◌, subst}
-use Rattle.scoop_journal.specs.Journal.{ended}
-use Rattle.scoop_audit.specs.Node.{NodeUpTo}
-use Rattle.scoop_audit.proofs.Nodes.{life_begun}
+use Rattle.scoop_audit.proofs.Stops.{begun_stops, begun_told}
 use Rattle.scoop_audit.proofs.node.take.Goals as goal
 
-pub returns-in_ok-begin_life-in-NodeLife-clause-told : goal.returns-in_ok-begin_life-in-NodeLife-clause-told
-returns-in_ok-begin_life-in-NodeLife-clause-told c bytes first sent up =
-    let after = c.args.cursor.now.rest.now in
-    life_begun first c.args.node.now c.begin_life.new.node sent c.args.post.now c.begin_life.new.post c.in-NodeLife.number bytes after
-    c.begin_life.new.cursor.rest.now c.in_ok-begin_life-in-NodeLife.ensures.begins
-    (subst (λ l. NodeUpTo bytes (ended l ++ after) first c.args.node.now sent c.args.post.now) c.in-NodeLife.is up)
+pub returns-in-NodeLife-clause-told : goal.returns-in-NodeLife-clause-told
+returns-in-NodeLife-clause-told c bytes first sent =
+    begun_told first c.args.node.now sent c.args.post.now bytes c.begin_life.new.node c.begin_life.new.post c.begin_life.result c.args.line.now
+    c.in-NodeLife.number c.args.cursor.now.rest.now c.begin_life.new.cursor.rest.now c.in-NodeLife.is c.begin_life.ensures.begins
+
+pub returns-in-NodeLife-clause-stops : goal.returns-in-NodeLife-clause-stops
+returns-in-NodeLife-clause-stops c bytes first sent =
+    begun_stops first c.args.node.now sent c.args.post.now bytes c.begin_life.result c.args.line.now c.in-NodeLife.number c.args.cursor.now.rest.now
+    c.in-NodeLife.is c.begin_life.ensures.stops

@@ -8,9 +8,9 @@ loop-place-preserved c =
     let i = c.loop-place.place in
     let old = c.loop-place.members in
     let new = c.give.new.members in (
-      given_who i _ old new c.in-Ok.ensures ∙ c.loop-place.invariant.0,
+      given_who i _ old new c.in-Ok.ensures.given ∙ c.loop-place.invariant.0,
       λ own.
-          journals_own (λ (j : Journal). j.bytes.now) c.args.journals.now i _ old new c.loop-place-test.true (c.loop-place.invariant.1 own) c.in-Ok.ensures,
+          journals_own (λ (j : Journal). j.bytes.now) c.args.journals.now i _ old new c.loop-place-test.true (c.loop-place.invariant.1 own) c.in-Ok.ensures.given,
       λ none.
-          journals_more (λ (j : Journal). j.bytes.now) c.args.journals.now i _ old new c.loop-place-test.true (c.loop-place.invariant.2 none) c.in-Ok.ensures,
+          journals_more (λ (j : Journal). j.bytes.now) c.args.journals.now i _ old new c.loop-place-test.true (c.loop-place.invariant.2 none) c.in-Ok.ensures.given,
     )

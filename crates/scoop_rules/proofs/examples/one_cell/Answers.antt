@@ -14,6 +14,6 @@ returns c = record {
   opened = refl;
   ran = refl;
   moves = refl;
-  by_rules = runs_by_rules (map (placed cell 0) (1 ∷ [])) (map joins (7 ∷ [])) events one_cell_opens;
+  by_rules = runs_by_rules (map (placed cell 0) (1 ∷ [])) (map (joins (1 ∷ [])) (7 ∷ [])) events one_cell_opens;
   queues = refl;
 }

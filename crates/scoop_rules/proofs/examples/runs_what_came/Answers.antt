@@ -16,7 +16,7 @@ returns c = record {
   too_late = refl;
   moves = refl;
   gone = refl;
-  by_rules = runs_by_rules (map (placed cell 0) (1 ∷ [])) (map joins (7 ∷ [])) all_events one_cell_opens;
+  by_rules = runs_by_rules (map (placed cell 0) (1 ∷ [])) (map (joins (1 ∷ [])) (7 ∷ [])) all_events one_cell_opens;
   gone_replayed = refl;
   ran_replayed = refl;
 }

@@ -1,4 +1,4 @@
-use Rattle.scoop_runtime.proofs.Driven.{drives_both, drives_nothing}
+use Rattle.scoop_session.proofs.Driven.{drives_both, drives_nothing}
 use Rattle.scoop_runtime.proofs.client.obey_lines.Goals as goal
 
 pub loop-init : goal.loop-init

@@ -1,5 +1,5 @@
 -- The session has gone on so far.
-use Rattle.scoop_runtime.specs.Obeying.{Drives}
+use Rattle.scoop_session.specs.Obeying.{Drives}
 use Rattle.scoop_runtime.proofs.client.obey_lines.Given as goal
 
 abbrev pub invariant-loop : goal.invariant-loop

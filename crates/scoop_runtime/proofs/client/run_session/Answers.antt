@@ -1,4 +1,4 @@
-use Rattle.scoop_runtime.proofs.Driven.{drives_turned_then}
+use Rattle.scoop_session.proofs.Driven.{drives_turned_then}
 use Rattle.scoop_runtime.proofs.client.run_session.Goals as goal
 
 -- after the greeting the lines were obeyed

@@ -1,6 +1,6 @@
 use Rattle.scoop_runtime.proofs.ClientLives.{lives_none, lives_once}
 use Rattle.scoop_runtime.proofs.Cut.{cuts_then}
-use Rattle.scoop_runtime.proofs.Driven.{drives_turned}
+use Rattle.scoop_session.proofs.Driven.{drives_turned}
 use Rattle.scoop_runtime.proofs.cutting.greet_anew.Goals as goal
 
 pub returns-in-Ok-clause-cuts : goal.returns-in-Ok-clause-cuts

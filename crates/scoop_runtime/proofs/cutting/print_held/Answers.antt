@@ -1,8 +1,8 @@
 use Rattle.std.proofs.Common.{◌++◌}
 use Rattle.std.specs.Prelude.{codes}
 use Rattle.scoop_runtime.specs.Cutting.{freeing_text}
-use Rattle.scoop_runtime.specs.Texts.{numbers_text}
-use Rattle.scoop_runtime.proofs.Writing.{appends_behind}
+use Rattle.scoop_links.specs.Texts.{numbers_text}
+use Rattle.scoop_links.proofs.Writing.{appends_behind}
 use Rattle.scoop_runtime.proofs.cutting.print_held.Goals as goal
 
 -- the handlers after the first words, and what frees them after the handlers

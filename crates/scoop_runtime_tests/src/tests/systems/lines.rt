@@ -115,8 +115,11 @@ fn each_fault_of_a_line(rt: HostRuntime) -> Result<(), Fail> {
 }
 
 #[test]
-fn ten_handlers_are_too_many(rt: HostRuntime) -> Result<(), Fail> {
-    assert_eq!(rt; NamedHandlers::of(&[HandlerId(1); 10]), Err(TooManyNamed));
-    assert_eq!(rt; NamedHandlers::of(&[HandlerId(1); 9])?.as_slice().len(), 9);
+fn more_handlers_than_a_system_has_are_too_many(rt: HostRuntime) -> Result<(), Fail> {
+    assert_eq!(rt; NamedHandlers::of(&[HandlerId(1); 65]), Err(TooManyNamed));
+    assert_eq!(rt;
+        NamedHandlers::of(&[HandlerId(1); 64])?.as_slice().len(),
+        64
+    );
     Ok(())
 }

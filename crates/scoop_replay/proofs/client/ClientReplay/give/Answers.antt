@@ -9,3 +9,8 @@ pub step-requires : goal.step-requires
 step-requires c =
     subst (λ (v : ClientValue). Can v.client (Gave c.args.command.now)) c.self.view_is
     (can_give c.self.inside.client c.args.command.now c.in-Ok.ensures)
+
+pub returns-in-Ok-step-clause-can : goal.returns-in-Ok-step-clause-can
+returns-in-Ok-step-clause-can c =
+    subst (λ (v : ClientValue). Can v.client (Gave c.args.command.now)) c.self.view_is
+    (can_give c.self.inside.client c.args.command.now c.in-Ok.ensures)

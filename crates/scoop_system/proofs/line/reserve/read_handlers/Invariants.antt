@@ -1,5 +1,5 @@
 use Rattle.std.proofs.Common.{◌≡◌, ◌≤◌, ◌+◌, length, take}
-use Rattle.scoop_system.specs.declared.named_handlers.TheConstants.{MAX_NAMED}
+use Rattle.scoop_system.specs.declared.line.reserve.TheConstants.{MAX_NAMED}
 use Rattle.scoop_lines.specs.Words.{words_of}
 use Rattle.scoop_system.specs.declared.line.words.Border.TheVariants.{When}
 use Rattle.scoop_system.specs.Words.{before}

@@ -5,4 +5,5 @@ use Rattle.scoop_system.proofs.reading.party.add_clients.Given as goal
 
 abbrev pub invariant-loop-value : goal.invariant-loop-value
 invariant-loop-value l =
-    clients_from l.nodes l.fn.clients.items (map view l.values) ≡ clients_from l.nodes l.clients.items (map view (drop l.value-index l.values))
+    clients_from l.nodes l.handlers l.fn.clients.items (map view l.values)
+    ≡ clients_from l.nodes l.handlers l.clients.items (map view (drop l.value-index l.values))

@@ -44,7 +44,7 @@ returns-clause-stored g c =
     let i = c.loop-client.client-index in
     let s = incarnation_at c.args.keeper.now in
     let k = c.loop-client.keeper in
-    subst (AllByRecursion (HasIncarnation k)) (ap (λ xs. map (new_party hs) (newcomers_of s xs)) (sym (take_all i cs c.loop-client-test.false))
+    subst (AllByRecursion (HasIncarnation k)) (ap (λ xs. map new_party (newcomers_of hs s xs)) (sym (take_all i cs c.loop-client-test.false))
     ∙ sym so.parties)
     (all_stored hs s k cs (λ j d at. let within = slice_get_within cs j d at in so.next j d (omega (arith, within, c.loop-client-test.false)) at))
 

@@ -4,6 +4,7 @@ use Rattle.std.specs.List.{AllByRecursion}
 use Rattle.scoop_keeper.specs.Memory.{incarnation_at}
 use Rattle.scoop_model.specs.Reach.{IsReached}
 use Rattle.scoop_model.specs.Step.{new_party}
+use Rattle.scoop_model.specs.Opening.{IsJoining}
 use Rattle.scoop_world.specs.Placing.{newcomers_of, placements_of, IsBatched}
 use Rattle.scoop_world.specs.OpenRefusal.{MayPlace, handlers_of}
 use Rattle.scoop_world.specs.Kept.{HasState}
@@ -48,11 +49,12 @@ invariant_of-result g c =
     let hs = c.in_ok-handlers.handlers.items in
     let may : MayPlace g.B.Behaviour.class ps cs = subst (λ xs. MayPlace g.B.Behaviour.class xs cs) c.deref.ensures.value c.in_default.ensures.none in
     let named : hs ≡ handlers_of ps = c.in_ok-handlers.ensures ∙ ap handlers_of c.deref-2.ensures.value in
-    let joined : c.in-Ok.parties.items ≡ map (new_party hs) (newcomers_of stored cs) =
-    c.in-Ok.ensures.parties ∙ ap (λ ks. map (new_party ks) (newcomers_of stored cs)) c.deref-3.ensures.value in
+    let joined : c.in-Ok.parties.items ≡ map new_party (newcomers_of hs stored cs) =
+    c.in-Ok.ensures.parties ∙ ap (λ ks. map new_party (newcomers_of ks stored cs)) c.deref-3.ensures.value in
     let opened = opened_is words ps cs stored c.in_ok-sites.sites.items hs c.in-Ok.parties.items c.in_ok-sites.ensures.sites named joined in
-    subst IsReached (sym (c.new.ensures ∙ opened)) (reached_opening (placements_of words ps) (newcomers_of stored cs)
-    (may_open words g.B.Behaviour.class ps cs stored may c.in_ok-sites.ensures.placed c.in-Ok.ensures.joining))
+    subst IsReached (sym (c.new.ensures ∙ opened)) (reached_opening (placements_of words ps) (newcomers_of (handlers_of ps) stored cs)
+    (may_open words g.B.Behaviour.class ps cs stored may c.in_ok-sites.ensures.placed
+    (subst (λ ks. AllByRecursion IsJoining (newcomers_of ks stored cs)) (c.deref-3.ensures.value ∙ named) c.in-Ok.ensures.joining)))
 
 pub returns-clause-opens : goal.returns-clause-opens
 returns-clause-opens g c =
@@ -61,9 +63,15 @@ returns-clause-opens g c =
     let stored = incarnation_at c.args.keeper in
     let hs = c.in_ok-handlers.handlers.items in
     let named : hs ≡ handlers_of ps = c.in_ok-handlers.ensures ∙ ap handlers_of c.deref-2.ensures.value in
-    let joined : c.in-Ok.parties.items ≡ map (new_party hs) (newcomers_of stored cs) =
-    c.in-Ok.ensures.parties ∙ ap (λ ks. map (new_party ks) (newcomers_of stored cs)) c.deref-3.ensures.value in
+    let joined : c.in-Ok.parties.items ≡ map new_party (newcomers_of hs stored cs) =
+    c.in-Ok.ensures.parties ∙ ap (λ ks. map new_party (newcomers_of ks stored cs)) c.deref-3.ensures.value in
     c.new.ensures ∙ opened_is g.B.Behaviour.words ps cs stored c.in_ok-sites.sites.items hs c.in-Ok.parties.items c.in_ok-sites.ensures.sites named joined
+
+-- each client that joined knows all handlers
+pub returns-clause-joining : goal.returns-clause-joining
+returns-clause-joining g c =
+    subst (λ hs. AllByRecursion IsJoining (newcomers_of hs (incarnation_at c.args.keeper) c.args.clients.now))
+    (c.deref-3.ensures.value ∙ c.in_ok-handlers.ensures ∙ ap handlers_of c.deref-2.ensures.value) c.in-Ok.ensures.joining
 
 pub returns-clause-safe : goal.returns-clause-safe
 returns-clause-safe g c =
@@ -73,20 +81,17 @@ returns-clause-safe g c =
     let words = g.B.Behaviour.words in
     let may : MayPlace g.B.Behaviour.class ps cs = subst (λ xs. MayPlace g.B.Behaviour.class xs cs) c.deref.ensures.value c.in_default.ensures.none in
     reached_safe c.new.result
-    (subst IsReached (sym (returns-clause-opens g c)) (reached_opening (placements_of words ps) (newcomers_of stored cs)
-    (may_open words g.B.Behaviour.class ps cs stored may c.in_ok-sites.ensures.placed c.in-Ok.ensures.joining)))
+    (subst IsReached (sym (returns-clause-opens g c)) (reached_opening (placements_of words ps) (newcomers_of (handlers_of ps) stored cs)
+    (may_open words g.B.Behaviour.class ps cs stored may c.in_ok-sites.ensures.placed (returns-clause-joining g c))))
 
 pub returns-clause-empty : goal.returns-clause-empty
 returns-clause-empty g c =
     let ps = placements_of g.B.Behaviour.words c.args.placements.items in
-    let ns = newcomers_of (incarnation_at c.args.keeper) c.args.clients.now in
+    let ns = newcomers_of (handlers_of c.args.placements.items) (incarnation_at c.args.keeper) c.args.clients.now in
     subst (λ w. configuration_of w ≡ empty_configuration (inc_of w)) (sym (returns-clause-opens g c)) (opens_empty ps ns)
 
 pub returns-clause-placed : goal.returns-clause-placed
 returns-clause-placed g c = subst (λ xs. MayPlace g.B.Behaviour.class xs c.args.clients.now) c.deref.ensures.value c.in_default.ensures.none
-
-pub returns-clause-joining : goal.returns-clause-joining
-returns-clause-joining g c = c.in-Ok.ensures.joining
 
 pub join_all-requires-clause-batched : goal.join_all-requires-clause-batched
 join_all-requires-clause-batched g c = λ k d within. all_by_place IsBatched c.args.clients.now c.requires k d within

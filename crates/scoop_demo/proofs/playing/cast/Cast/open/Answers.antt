@@ -8,7 +8,7 @@ returns-then-is_err-clause-err c parties stored w = of_memory
 pub returns-in-Ok-clause-opens : goal.returns-in-Ok-clause-opens
 returns-in-Ok-clause-opens c parties stored w =
     opens_with _ _ _ _ parties stored w (rw (c.replace-placements.ensures.value, c.deref.ensures.value) at c.in-Ok.ensures.placed)
-    (rw (c.replace-keeper.ensures.value, c.deref.ensures.value) at c.in-Ok.ensures.joining)
+    (rw (c.replace-placements.ensures.value, c.replace-keeper.ensures.value, c.deref.ensures.value) at c.in-Ok.ensures.joining)
 
 pub returns-in-Err-clause-err : goal.returns-in-Err-clause-err
 returns-in-Err-clause-err c parties stored w =

@@ -1,0 +1,12 @@
+use Rattle.std.proofs.Common.{◌∙◌}
+use Rattle.scoop_admission.proofs.Taking.{so_far-more}
+use Rattle.scoop_admission.proofs.admitting_link.AdmittingLinkLink.receive.Goals as goal
+
+pub loop-preserved : goal.loop-preserved
+loop-preserved g c =
+    let taken = rw c.in-Ok-Strange.field-0-is at c.in-Ok-Strange.ensures.taken in
+    record {
+      so_far = so_far-more _ _ _ _ _ _ _ _ _ c.loop.invariant.clients c.loop.invariant.so_far taken;
+      clients = c.in-Ok-Strange.ensures.clients ∙ c.loop.invariant.clients;
+      inner = c.in-Ok-Strange.ensures.faults ∙ c.loop.invariant.inner;
+    }

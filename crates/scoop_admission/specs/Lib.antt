@@ -1,0 +1,2 @@
+pub mod Admission
+pub use Rattle.scoop_link.specs.Link

@@ -1,0 +1,2 @@
+mod News
+pub mod Writing

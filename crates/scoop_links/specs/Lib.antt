@@ -1,0 +1,4 @@
+pub mod Forwarding
+pub mod News
+pub mod Texts
+pub mod Waiting

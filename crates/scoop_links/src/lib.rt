@@ -1,0 +1,27 @@
+//! Links of a running node or client, each around another link.
+//!
+//! [`PatientLink`] tolerates failed calls, [`NewsLink`] drops stale replies, and [`WaitingLink`] reports the handlers that
+//! a client waits for. [`client_link`] puts them around a client's link. [`LentLink`] is a link that one life of a client
+//! borrows. [`print_numbers`] writes the numbers of handlers, as the reports do.
+//!
+//! ```
+//! // failed calls are noted in `faults`, and the handlers that the client waits for in `waits`
+//! let mut link = client_link(alloc, link, waits, faults, &known)?;
+//! let client = Client::begin(alloc, client, incarnation, &known)?;
+//! let driver = Driver::new(client, LentLink::new(&mut link), TURNS);
+//! ```
+#![tactic(auto)]
+
+mod client_links;
+mod lent_link;
+mod news_link;
+mod numbers;
+mod patient_link;
+mod waiting_link;
+
+pub use client_links::client_link;
+pub use lent_link::LentLink;
+pub use news_link::{NewsLink, Talk};
+pub use numbers::print_numbers;
+pub use patient_link::PatientLink;
+pub use waiting_link::{Awaited, WaitingLink};

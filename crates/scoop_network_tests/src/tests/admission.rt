@@ -1,0 +1,33 @@
+//! Links that drop the frames of unknown clients.
+
+use super::{feeds, gets, tape};
+use scoop_admission::{AdmittingLink, NoReport};
+use scoop_message::ClientId;
+use std::test::Fail;
+
+// The greeting of a client: its frame in version 1.
+fn hello(client: u8) -> [u8; 26] {
+    let mut frame = [0; 26];
+    frame[..4].copy_from_slice(&[0x53, 0x51, 1, 1]);
+    frame[7] = 1;
+    frame[11] = client;
+    frame[15] = 1;
+    frame
+}
+
+#[test]
+fn only_known_clients_pass(rt: HostRuntime) -> Result<(), Fail> {
+    let mut tape = tape(&rt, rt.alloc(), 0);
+    for client in [99, 7, 98] {
+        feeds(&rt, &mut tape, &hello(client));
+    }
+    feeds(&rt, &mut tape, b"no frame");
+    let clients = vec![in rt.alloc(); ClientId(7), ClientId(8)]?;
+    let mut link = AdmittingLink::new(tape, clients, NoReport);
+    gets(&rt, &mut link, Some(26), 11, 7);
+    assert_eq!(rt; link.refused(), 1);
+    gets(&rt, &mut link, Some(8), 0, b'n');
+    gets(&rt, &mut link, None, 0, 0);
+    assert_eq!(rt; link.refused(), 2);
+    Ok(())
+}

@@ -1,0 +1,69 @@
+//! Links that measure round trips.
+
+ghost use Rattle.std.specs.Prelude.{◌≡◌};
+
+use super::{HANDLER, feeds, tape};
+use scoop_link::{Link, TapeLink};
+use scoop_message::limits::BUFFER_LEN;
+use scoop_pacing::{Estimate, MeasuredLink, Times};
+use std::process::Abort;
+use std::test::Fail;
+
+// A clock that tells 50 ms more each time.
+#[derive(Drop)]
+struct Steps {
+    last: u64,
+}
+
+impl Times for Steps {
+    ghost time = { λ s. s.last };
+
+    fn now(&mut self) -> u64 {
+        self.last = self.last.saturating_add(50_000);
+        self.last
+    }
+}
+
+// Sends a datagram, after which the inner link has sent this many.
+fn sends(
+    rt: &impl Abort,
+    link: &mut MeasuredLink<TapeLink, Steps>,
+    datagram: &[u8],
+    wanted: usize,
+) {
+    assert!(rt; link.send(HANDLER, datagram).is_ok());
+    assert!(rt; wanted == 0 || link.inner().sent(wanted - 1).is_some());
+    assert!(rt; link.inner().sent(wanted).is_none());
+}
+
+#[test]
+fn estimates_follow_round_trips(rt: HostRuntime) {
+    let mut estimate = Estimate::first(100_000);
+    assert_eq!(rt; estimate.timeout(), 300_000);
+    for _ in 0..20 {
+        estimate = estimate.next(100_000);
+    }
+    assert_eq!(rt; estimate.timeout(), 105_000);
+}
+
+#[test]
+fn repeats_wait_for_their_time(rt: HostRuntime) -> Result<(), Fail> {
+    let mut tape = tape(&rt, rt.alloc(), 8);
+    let mut reply = [0; 26];
+    reply[7] = 1;
+    feeds(&rt, &mut tape, &reply);
+    let mut link = MeasuredLink::new(rt.alloc(), tape, Steps { last: 0 }, 1, 0)?;
+    sends(&rt, &mut link, b"lock", 1);
+    for _ in 0..3 {
+        sends(&rt, &mut link, b"lock", 1);
+    }
+    // 200 ms have passed since it went
+    sends(&rt, &mut link, b"lock", 2);
+    sends(&rt, &mut link, b"lock", 2);
+    // a reply, after which it may go again at once
+    let mut buffer = [0; BUFFER_LEN];
+    assert_eq!(rt; link.receive(&mut buffer), Ok(Some(26)));
+    sends(&rt, &mut link, b"lock", 3);
+    sends(&rt, &mut link, b"open", 4);
+    Ok(())
+}

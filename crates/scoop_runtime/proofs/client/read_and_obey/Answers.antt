@@ -1,0 +1,6 @@
+use Rattle.scoop_session.proofs.Driven.{drives_nothing}
+use Rattle.scoop_runtime.proofs.client.read_and_obey.Goals as goal
+
+-- a line that names a handler that isn't used does nothing
+pub returns-in-Some : goal.returns-in-Some
+returns-in-Some g c = drives_nothing _

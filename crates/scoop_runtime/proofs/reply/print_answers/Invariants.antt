@@ -1,5 +1,0 @@
-use Rattle.scoop_runtime.proofs.Writing.{Written}
-use Rattle.scoop_runtime.proofs.reply.print_answers.Given as goal
-
-abbrev pub invariant-loop-answer : goal.invariant-loop-answer
-invariant-loop-answer g l = Written l.answer-index l.answers (g.W.Write.contents l.initial.writer) (g.W.Write.contents l.writer)

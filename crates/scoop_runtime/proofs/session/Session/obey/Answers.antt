@@ -1,8 +1,0 @@
-use Rattle.scoop_runtime.proofs.Driven.{drives_obeyed}
-use Rattle.scoop_runtime.proofs.session.Session.obey.Goals as goal
-
-pub returns-in-Ok-clause-drives : goal.returns-in-Ok-clause-drives
-returns-in-Ok-clause-drives g c = drives_obeyed _ _ _ _ _ _ _ c.in-Ok.ensures
-
-pub returns-in-Err-clause-drives : goal.returns-in-Err-clause-drives
-returns-in-Err-clause-drives g c = drives_obeyed _ _ _ _ _ _ _ c.in-Err.ensures

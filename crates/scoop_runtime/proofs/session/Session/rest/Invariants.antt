@@ -1,5 +1,0 @@
-use Rattle.scoop_runtime.specs.Obeying.{TakesTurnsOnly}
-use Rattle.scoop_runtime.proofs.session.Session.rest.Given as goal
-
-abbrev pub invariant-loop-taken : goal.invariant-loop-taken
-invariant-loop-taken g l = TakesTurnsOnly l.initial.self.driver.seen l.self.driver.seen

@@ -1,4 +1,0 @@
-use Rattle.scoop_runtime.proofs.typing.print_lines.Goals as goal
-
-pub returns : goal.returns
-returns g c = c.writeln.ensures.bytes

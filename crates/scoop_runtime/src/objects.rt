@@ -1,0 +1,46 @@
+//! The objects that the handlers of a node run.
+
+ghost use Rattle.std.specs.Prelude.{◌≡◌, IfOk, IfSome};
+
+use scoop_message::{HandlerId, OutOfMemory, Words};
+use scoop_object::{Behaviour, Class, Table};
+use std::alloc::Global;
+
+/// What makes the objects of a node's handlers. [`Tables`] interprets the table of each class. A program may make objects of
+/// a type of its own, as long as they follow that table.
+pub trait Objects: Drop {
+    /// The type of the objects.
+    type Object: Behaviour + Send;
+
+    /// A new object of this handler with these words. The node refuses an object of another class than this one. `None` if
+    /// it makes no object for the handler; `OutOfMemory` is the one error.
+    fn object(
+        &self,
+        alloc: Global,
+        handler: HandlerId,
+        class: &Class,
+        words: Words,
+    ) -> Result<Option<Self::Object>, OutOfMemory>
+        ensures { IfOk result (λ made. IfSome made (λ object. Self.Object.words object ≡ words)) };
+}
+
+/// Makes tables, which interpret the class of each handler.
+#[derive(Clone, Copy, Debug)]
+pub struct Tables;
+
+impl Objects for Tables {
+    type Object = Table;
+
+    fn object(
+        &self,
+        alloc: Global,
+        _handler: HandlerId,
+        class: &Class,
+        words: Words,
+    ) -> Result<Option<Table>, OutOfMemory> {
+        match Table::new(class.copy_in(alloc)?, words) {
+            Ok(table) => Ok(Some(table)),
+            Err(_) => Ok(None),
+        }
+    }
+}

@@ -1,0 +1,4 @@
+pub mod Driven
+mod Gathered
+mod Inside
+mod Turned

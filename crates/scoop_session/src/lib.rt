@@ -1,0 +1,21 @@
+//! A client session driven by text lines.
+//!
+//! A [`Session`] is a client over its link, with a journal if it writes one. It greets its handlers, does what each line asks,
+//! and leaves its block at the end ([`Left`]).
+//!
+//! ```
+//! let mut session = Session::new(alloc, client, link, TURNS, &mut journal);
+//! session.greet(&known, TURNS)?;
+//! // of `reserve 1 2`: Some(Reply::Reserved(block))
+//! let replied = session.obey(&line, &mut pause)?;
+//! let left = session.leave();
+//! ```
+#![tactic(auto)]
+
+mod last_block;
+mod parting;
+mod session;
+mod wish;
+
+pub use parting::{Left, PARTING_TURNS};
+pub use session::{Session, unwritten};

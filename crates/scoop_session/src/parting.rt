@@ -1,0 +1,154 @@
+//! The end of a session: the block that it leaves.
+
+ghost use Rattle.std.specs.Prelude.{◌≡◌, ◌++◌, ◌∷◌, [], Ok, OnOk, IfOk, IsFalse, is_some, filter};
+ghost use Rattle.scoop_client.specs.State.{phase_of};
+ghost use Rattle.scoop_client.specs.declared.phase.Phase.TheVariants.{Idle};
+ghost use Rattle.scoop_session.specs.Obeying.{Drives, GivesUp, TakesTurnsOnly};
+ghost use Rattle.scoop_session.specs.Parting.{Leaves, is_awaited, last_of, owes};
+ghost use Rattle.scoop_session.specs.Endings.{input_ended};
+
+use crate::session::Session;
+use scoop_client::{HandlerList, Phase};
+use scoop_driver::DriverError;
+use scoop_link::Link;
+use scoop_message::{Block, HandlerId, OutOfMemory};
+use std::alloc::Global;
+use std::io::Write;
+
+/// The most turns of each thing that a client does on its way out: five seconds over UDP if nothing comes.
+pub const PARTING_TURNS: u64 = 500;
+
+/// What a session leaves.
+#[derive(Clone, Copy, Debug, PartialEq, Eq)]
+pub enum Left {
+    /// No block.
+    Nothing,
+    /// The lines of a block that waits for its condition. Nothing of it is done.
+    When,
+    /// A block that was given up: no handler holds it.
+    GivenUp,
+    /// A block that its handlers may hold.
+    Open,
+}
+
+impl<'j, L: Link, J: Write + Drop> Session<'j, L, J> {
+    // Whether a message is due to one of the handlers.
+    fn owes(&self, handlers: &[HandlerId]) -> bool
+        ensures { result ≡ owes self.now.driver.seen.client handlers.now }
+    {
+        handlers
+            .iter()
+            .any(|handler| self.driver.due(*handler).is_some())
+    }
+
+    /// Takes turns until nothing is due to any of these handlers. Of a client without a block this means that each of
+    /// them has welcomed it.
+    pub fn greet(&mut self, handlers: &[HandlerId], turns: u64) -> Result<(), DriverError>
+        ensures greeted { OnOk result (IsFalse (owes self.new.driver.seen.client handlers.now)) }
+        ensures turned { TakesTurnsOnly self.old.driver.seen self.new.driver.seen }
+    {
+        for taken in 0..turns {
+            if !self.owes(handlers) {
+                return Ok(());
+            }
+            match self.driver.turn() {
+                Ok(_) => {}
+                Err(error) => return Err(error),
+            }
+        }
+        if self.owes(handlers) {
+            Err(DriverError::TurnsOver)
+        } else {
+            Ok(())
+        }
+    }
+
+    // Adds the handler, if a message is due to it.
+    fn add_awaited(
+        &self,
+        handler: HandlerId,
+        awaited: &mut Vec<HandlerId>,
+    ) -> Result<(), OutOfMemory>
+        ensures { OnOk result (awaited.new.items ≡ awaited.old.items ++ filter (is_awaited self.now.driver.seen.client) (handler ∷ [])) }
+    {
+        if self.driver.due(handler).is_some() {
+            awaited.push(handler)?;
+        }
+        Ok(())
+    }
+
+    /// Those of the handlers to which a message is due.
+    pub fn awaited(
+        &self,
+        alloc: Global,
+        handlers: &[HandlerId],
+    ) -> Result<Vec<HandlerId>, OutOfMemory>
+        ensures { IfOk result (λ awaited. awaited.items ≡ filter (is_awaited self.now.driver.seen.client) handlers.now) }
+    {
+        let mut awaited = Vec::new(alloc);
+        for handler in handlers {
+            self.add_awaited(*handler, &mut awaited)?;
+        }
+        Ok(awaited)
+    }
+
+    // Takes turns until the client is idle.
+    fn rest(&mut self, turns: u64) -> Result<(), DriverError>
+        ensures idle { OnOk result (phase_of self.new.driver.seen.client ≡ Idle) }
+        ensures turned { TakesTurnsOnly self.old.driver.seen self.new.driver.seen }
+    {
+        for taken in 0..turns {
+            if self.driver.phase() == Phase::Idle {
+                return Ok(());
+            }
+            match self.driver.turn() {
+                Ok(_) => {}
+                Err(error) => return Err(error),
+            }
+        }
+        if self.driver.phase() == Phase::Idle {
+            Ok(())
+        } else {
+            Err(DriverError::TurnsOver)
+        }
+    }
+
+    /// Gives the block up, and takes turns until the client is idle.
+    pub(crate) fn give_up(&mut self, turns: u64) -> Result<(), DriverError>
+        ensures { GivesUp result self.old.driver.seen self.new.driver.seen }
+    {
+        match self.driver.give_up() {
+            Ok(()) => self.rest(turns),
+            Err(error) => Err(error),
+        }
+    }
+
+    /// Leaves the block. If its handlers aren't all locked, the client gives the locks back.
+    pub fn leave(&mut self) -> Left
+        ensures leaves { Leaves result (is_some self.old.wish) self.old.driver.seen self.new.driver.seen }
+        ensures drives { Drives self.old.driver.seen self.new.driver.seen }
+        ensures ended { input_ended (is_some self.old.wish) (phase_of self.old.driver.seen.client) ≡ Ok (tt {0}) → result ≡ Left.Nothing }
+    {
+        if self.wish.is_some() {
+            return Left::When;
+        }
+        let gave_up = match self.driver.phase() {
+            Phase::Greeting | Phase::Idle => return Left::Nothing,
+            Phase::Locking => self.give_up(PARTING_TURNS),
+            Phase::GivingUp => self.rest(PARTING_TURNS),
+            Phase::Opening | Phase::Running | Phase::Ending => return Left::Open,
+        };
+        match gave_up {
+            Ok(()) => Left::GivenUp,
+            Err(_) => Left::Open,
+        }
+    }
+
+    /// The last block of the client and its handlers. `None` if it has reserved none.
+    pub fn last_block(&self) -> Option<(Block, HandlerList)>
+        ensures { result ≡ last_of self.now.driver.diary.block self.now.driver.diary.handlers }
+    {
+        let last = self.driver.diary();
+        Some((last.block()?, last.handlers()?))
+    }
+}

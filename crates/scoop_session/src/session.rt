@@ -1,0 +1,401 @@
+//! A client session driven by text lines.
+
+ghost use Rattle.std.specs.Prelude.{◌≡◌, None, Ok, Err, OnOk, IsFalse, IsTrue, IfOk, IfErr, IfSome, ◌≤◌, is_some};
+ghost use Rattle.scoop_client.specs.State.{phase_of};
+ghost use Rattle.scoop_session.specs.Answering.{answered};
+ghost use Rattle.scoop_session.specs.Obeying.{CallDoes, DoesInside, DoesOutside, Drives, EndDoes, GiveUpDoes, NoteDoes, Obeys, QueryDoes, ReserveDoes};
+ghost use Rattle.scoop_session.specs.Obeying.{TakesTurnsOnly, TryDoes, WhenDoes, is_quiet};
+ghost use Rattle.scoop_session.specs.Endings.{ended_by, first_awaited, input_ended, over_at, unwritten};
+ghost use Rattle.scoop_session.specs.Unlocking.{is_unlock, owes_unlock};
+
+use crate::last_block::LastBlock;
+use crate::wish::Wish;
+use scoop_client::{Client, ClientError, Phase};
+use scoop_driver::{BodyEntry, Driver, DriverError, Pause};
+use scoop_errors::PartyError;
+use scoop_journal::{AppendError, Journal};
+use scoop_link::Link;
+use scoop_message::{Answer, HandlerId, Message, Request};
+use scoop_reserve::ReserveError;
+use scoop_system::{ClientLine, HandlerPlace, NamedCondition, NamedConditions, NamedHandlers};
+use scoop_texts::{Reply, RuntimeError};
+use std::alloc::Global;
+use std::io::Write;
+
+/// A client over its link, with the block that waits for its condition, if there is one.
+#[derive(Drop)]
+pub struct Session<'j, L: Link, J: Write + Drop> {
+    alloc: Global,
+    pub(crate) driver: Driver<L, LastBlock<'j, J>>,
+    turns: u64,
+    pub(crate) wish: Option<Wish>,
+    answers: Vec<Answer>,
+}
+
+// Whether the line gives the client nothing to do.
+fn is_quiet(line: &ClientLine) -> bool
+    ensures { result ≡ is_quiet line.now }
+{
+    matches!(
+        line,
+        ClientLine::Blank | ClientLine::Help | ClientLine::Quit
+    )
+}
+
+// Whether an Unlock is due.
+fn is_unlock(due: Option<Message>) -> bool
+    ensures { result ≡ is_unlock due }
+{
+    matches!(due, Some(Message::Unlock(..)))
+}
+
+// The reply to a refusal of the driver. Other errors end the session.
+fn answered(error: DriverError) -> Result<Reply, DriverError>
+    ensures { result ≡ answered error }
+{
+    match error {
+        DriverError::Client(ClientError::OutOfMemory)
+        | DriverError::Client(ClientError::Reserve(ReserveError::OutOfMemory)) => Err(error),
+        DriverError::Client(error) => Ok(Reply::Refused(error)),
+        DriverError::ConditionFailed(tries) => Ok(Reply::ConditionFailed(tries)),
+        DriverError::TurnsOver | DriverError::LinkFault => Err(error),
+    }
+}
+
+// Notes an entry of the body. Returns the reply to its line.
+fn noted(wish: &mut Wish, entry: &BodyEntry) -> Result<Reply, DriverError>
+    ensures { NoteDoes wish.old wish.new entry.now result }
+{
+    match wish.note(entry) {
+        Ok(true) => Ok(Reply::Noted),
+        Ok(false) => Ok(Reply::Refused(ClientError::NotReserved(entry.handler()))),
+        Err(_) => Err(DriverError::Client(ClientError::OutOfMemory)),
+    }
+}
+
+// Gives the block its condition. Refuses the first part whose handler the block lacks.
+fn ask_all(wish: &mut Wish, conditions: &[NamedCondition]) -> Result<(), DriverError> {
+    for condition in conditions {
+        match wish.ask(condition) {
+            Ok(true) => {}
+            Ok(false) => return Err(DriverError::Client(ClientError::NotReserved(condition.asked))),
+            Err(_) => return Err(DriverError::Client(ClientError::OutOfMemory)),
+        }
+    }
+    Ok(())
+}
+
+// The error with which a session ends when its turns are over, by the client's phase and the handler that it waits for.
+fn over_at(phase: Phase, awaited: Option<HandlerId>) -> RuntimeError
+    ensures { result ≡ over_at phase awaited }
+{
+    match (phase, awaited) {
+        (_, None) => RuntimeError::Ended(PartyError::Driver(DriverError::TurnsOver)),
+        (Phase::Greeting, Some(handler)) => RuntimeError::NotWelcomed(handler),
+        (_, Some(handler)) => RuntimeError::NotAnswered(handler),
+    }
+}
+
+/// The error for a line of the journal that isn't written.
+pub fn unwritten(error: AppendError) -> RuntimeError
+    ensures { result ≡ unwritten error }
+{
+    match error {
+        AppendError::OutOfMemory => RuntimeError::Ended(PartyError::OutOfMemory),
+        AppendError::NoFrame | AppendError::Write => RuntimeError::Ended(PartyError::Write),
+    }
+}
+
+impl<'j, L: Link, J: Write + Drop> Session<'j, L, J> {
+    /// The client over the link. Each call takes at most `turns`. Each step is written into the journal, if there is one.
+    pub fn new(
+        alloc: Global,
+        client: Client,
+        link: L,
+        turns: u64,
+        journal: &'j mut Option<Journal<J>>,
+    ) -> Session<'j, L, J>
+        ensures { result.driver.seen.client ≡ client }
+    {
+        Session {
+            alloc,
+            driver: Driver::with_diary(client, link, turns, LastBlock::new(journal)),
+            turns,
+            wish: None,
+            answers: Vec::new(alloc),
+        }
+    }
+
+    /// The error for a line of the journal that isn't written, if there is one.
+    pub fn unwritten(&self) -> Option<RuntimeError>
+        ensures { result ≡ None → self.now.driver.diary.failure ≡ None }
+    {
+        match self.driver.diary().failure() {
+            Some(error) => Some(unwritten(error)),
+            None => None,
+        }
+    }
+
+    /// The end of the input: refused inside a block.
+    pub fn input_ended(&self) -> Result<(), RuntimeError>
+        ensures { result ≡ input_ended (is_some self.now.wish) (phase_of self.now.driver.seen.client) }
+    {
+        if self.wish.is_some() {
+            return Err(RuntimeError::InsideWhen);
+        }
+        match self.driver.phase() {
+            Phase::Idle => Ok(()),
+            _ => Err(RuntimeError::InsideBlock),
+        }
+    }
+
+    /// The answers to the queries of a waiting block, in order, if the last line ended one.
+    pub fn answers(&self) -> &[Answer]
+        ensures { result.now ≡ self.now.answers.items }
+    {
+        &self.answers
+    }
+
+    /// The error with which the session ends after an error of the driver. When the turns are over, it names the first of
+    /// these handlers that the client waits for.
+    pub fn ended_by(&self, error: DriverError, places: &[HandlerPlace]) -> RuntimeError
+        ensures { result ≡ ended_by self.now.driver.seen.client error places.now }
+    {
+        match error {
+            DriverError::TurnsOver => over_at(self.driver.phase(), self.first_awaited(places)),
+            error => RuntimeError::Ended(PartyError::Driver(error)),
+        }
+    }
+
+    // The first handler to which a message is due.
+    fn first_awaited(&self, places: &[HandlerPlace]) -> Option<HandlerId>
+        ensures { result ≡ first_awaited self.now.driver.seen.client places.now }
+    {
+        places
+            .iter()
+            .map(|place| place.handler)
+            .find(|handler| self.driver.due(*handler).is_some())
+    }
+
+    /// Does what a line asks, and returns the reply to it; a line without words has none. A refusal of the client is a
+    /// reply too. Pauses between the tries of a waiting block. The errors are those after which the session can't go on.
+    pub fn obey<P: Pause>(
+        &mut self,
+        line: &ClientLine,
+        pause: &mut P,
+    ) -> Result<Option<Reply>, DriverError>
+        ensures replied { IfOk result (λ replied. IfSome replied (λ reply. Obeys line.now self.old.wish self.old.driver.turns (Ok reply) self.new.answers.items self.old.driver.seen self.new.driver.seen)) }
+        ensures ended { IfErr result (λ e. Obeys line.now self.old.wish self.old.driver.turns (Err e) self.new.answers.items self.old.driver.seen self.new.driver.seen) }
+        ensures quiet { result ≡ Ok None → IsTrue (is_quiet line.now) × (self.new.driver.seen ≡ self.old.driver.seen) }
+        ensures drives { Drives self.old.driver.seen self.new.driver.seen }
+    {
+        self.answers.clear();
+        if is_quiet(line) {
+            return Ok(None);
+        }
+        match self.reply_to(line, pause) {
+            Ok(reply) => Ok(Some(reply)),
+            Err(error) => Err(error),
+        }
+    }
+
+    // Does what a line asks, and returns the reply to what came of it.
+    fn reply_to<P: Pause>(&mut self, line: &ClientLine, pause: &mut P) -> Result<Reply, DriverError>
+        ensures { Obeys line.now self.old.wish self.old.driver.turns result self.new.answers.items self.old.driver.seen self.new.driver.seen }
+    {
+        let outcome = match self.wish.take() {
+            Some(wish) => self.obey_inside(wish, line, pause),
+            None => self.obey_outside(line),
+        };
+        match outcome {
+            Ok(reply) => Ok(reply),
+            Err(error) => answered(error),
+        }
+    }
+
+    // Does what a line asks inside a block that waits for its condition.
+    fn obey_inside<P: Pause>(
+        &mut self,
+        mut wish: Wish,
+        line: &ClientLine,
+        pause: &mut P,
+    ) -> Result<Reply, DriverError>
+        ensures { DoesInside line.now wish result self.new.answers.items self.old.driver.seen self.new.driver.seen }
+    {
+        let reply = match line {
+            ClientLine::End => return self.end_wish(&wish, pause),
+            ClientLine::Call(handler, request) => {
+                noted(&mut wish, &BodyEntry::Call(*handler, *request))?
+            }
+            ClientLine::Query(handler, request) => {
+                noted(&mut wish, &BodyEntry::Query(*handler, *request))?
+            }
+            ClientLine::GiveUp => return Ok(Reply::GivenUp),
+            ClientLine::Blank | ClientLine::Help | ClientLine::Quit => Reply::NotInWhen,
+            ClientLine::Reserve(_) => Reply::NotInWhen,
+            ClientLine::ReserveWhen { .. } => Reply::NotInWhen,
+        };
+        self.wish = Some(wish);
+        Ok(reply)
+    }
+
+    // Does what a line asks outside of such a block.
+    fn obey_outside(&mut self, line: &ClientLine) -> Result<Reply, DriverError>
+        ensures { DoesOutside line.now self.old.driver.turns result self.old.driver.seen self.new.driver.seen }
+    {
+        match line {
+            ClientLine::Blank | ClientLine::Help | ClientLine::Quit => Ok(Reply::Noted),
+            ClientLine::Reserve(handlers) => self.reserve(handlers),
+            ClientLine::Call(handler, request) => self.call(*handler, *request),
+            ClientLine::Query(handler, request) => self.query(*handler, *request),
+            ClientLine::End => self.end(),
+            ClientLine::GiveUp => self.give_back(),
+            ClientLine::ReserveWhen {
+                handlers,
+                conditions,
+                tries,
+            } => self.wish_for(handlers, conditions, *tries),
+        }
+    }
+
+    // Asks a query.
+    fn query(&mut self, handler: HandlerId, request: Request) -> Result<Reply, DriverError>
+        ensures { QueryDoes handler request self.old.driver.turns result self.old.driver.seen self.new.driver.seen }
+    {
+        match self.driver.query(handler, request) {
+            Ok(answer) => Ok(Reply::Answered(answer)),
+            Err(error) => Err(error),
+        }
+    }
+
+    // Ends the block.
+    fn end(&mut self) -> Result<Reply, DriverError>
+        ensures { EndDoes self.old.driver.turns result self.old.driver.seen self.new.driver.seen }
+    {
+        match self.driver.end() {
+            Ok(()) => Ok(Reply::Ended),
+            Err(error) => Err(error),
+        }
+    }
+
+    // Gives up the block, and takes turns until its locks are given back.
+    fn give_back(&mut self) -> Result<Reply, DriverError>
+        ensures { GiveUpDoes result self.old.driver.seen self.new.driver.seen }
+    {
+        match self.give_up(self.turns) {
+            Ok(()) => Ok(Reply::GivenUp),
+            Err(error) => Err(error),
+        }
+    }
+
+    // Reserves the handlers, and gives their locks back before the reply, so that no other client waits for them until this
+    // client's next line. If the turns don't suffice, the later lines go on with it.
+    fn reserve(&mut self, handlers: &NamedHandlers) -> Result<Reply, DriverError>
+        ensures { ReserveDoes handlers.now self.old.driver.turns result self.old.driver.seen self.new.driver.seen }
+    {
+        match self.driver.reserve(handlers.as_slice()) {
+            Ok(()) => {}
+            Err(error) => return Err(error),
+        }
+        let Some(block) = self.driver.diary().block() else {
+            return Err(DriverError::Client(ClientError::NoBlock));
+        };
+        match self.unlock(handlers.as_slice()) {
+            Ok(()) | Err(DriverError::TurnsOver | DriverError::LinkFault) => {
+                Ok(Reply::Reserved(block))
+            }
+            Err(error) => Err(error),
+        }
+    }
+
+    // Takes turns until no Unlock is due to any of the handlers.
+    fn unlock(&mut self, handlers: &[HandlerId]) -> Result<(), DriverError>
+        ensures unlocked { OnOk result (IsFalse (owes_unlock self.new.driver.seen.client handlers.now)) }
+        ensures turned { TakesTurnsOnly self.old.driver.seen self.new.driver.seen }
+    {
+        for taken in 0..self.turns {
+            if !self.owes_unlock(handlers) {
+                return Ok(());
+            }
+            match self.driver.turn() {
+                Ok(_) => {}
+                Err(error) => return Err(error),
+            }
+        }
+        if self.owes_unlock(handlers) {
+            Err(DriverError::TurnsOver)
+        } else {
+            Ok(())
+        }
+    }
+
+    // Whether an Unlock is due to one of the handlers.
+    fn owes_unlock(&self, handlers: &[HandlerId]) -> bool
+        ensures { result ≡ owes_unlock self.now.driver.seen.client handlers.now }
+    {
+        handlers
+            .iter()
+            .any(|handler| is_unlock(self.driver.due(*handler)))
+    }
+
+    // Logs a call. Later turns send it and get its acknowledgement; the end of the block waits for that.
+    fn call(&mut self, handler: HandlerId, request: Request) -> Result<Reply, DriverError>
+        ensures { CallDoes handler request self.old.driver.turns result self.old.driver.seen self.new.driver.seen }
+    {
+        match self.driver.call(handler, request) {
+            Ok(()) => {}
+            Err(error) => return Err(error),
+        }
+        let number = self.driver.diary().last_number(handler);
+        Ok(Reply::Logged(handler, number))
+    }
+
+    // Begins a block that waits for its condition. Its lines are noted until its end.
+    fn wish_for(
+        &mut self,
+        handlers: &NamedHandlers,
+        conditions: &NamedConditions,
+        tries: u32,
+    ) -> Result<Reply, DriverError>
+        ensures { WhenDoes result self.old.driver.seen self.new.driver.seen }
+    {
+        if self.driver.phase() != Phase::Idle {
+            return Err(DriverError::Client(ClientError::NotIdle));
+        }
+        let mut wish = Wish::new(self.alloc, *handlers, tries);
+        match ask_all(&mut wish, conditions.as_slice()) {
+            Ok(()) => {}
+            Err(error) => return Err(error),
+        }
+        self.wish = Some(wish);
+        Ok(Reply::Noted)
+    }
+
+    // Ends the lines of a block that waits for its condition: tries it.
+    fn end_wish<P: Pause>(&mut self, wish: &Wish, pause: &mut P) -> Result<Reply, DriverError>
+        ensures { TryDoes wish.now result self.new.answers.items self.old.driver.seen self.new.driver.seen }
+    {
+        if wish.tries() == 0 {
+            return Err(DriverError::ConditionFailed(0));
+        }
+        match self.answers.resize(wish.queries(), Answer::Refused) {
+            Ok(()) => {}
+            Err(_) => return Err(DriverError::Client(ClientError::OutOfMemory)),
+        }
+        let ended = self.driver.when_all(
+            wish.handlers(),
+            wish.condition(),
+            wish.body(),
+            &mut self.answers,
+            wish.tries(),
+            pause,
+        );
+        match ended {
+            Ok(tried) => Ok(Reply::EndedAt(tried)),
+            Err(error) => {
+                self.answers.clear();
+                Err(error)
+            }
+        }
+    }
+}

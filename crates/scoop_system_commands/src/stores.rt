@@ -1,0 +1,30 @@
+//! The stores of a system's parties, in files.
+
+use scoop_command_line::StoreChoice;
+use scoop_files::{FileError, FiledStore, adopt, adopt_for, create};
+use scoop_message::ClientId;
+
+/// The store of a node by this choice. `NoFile` if it is no store; the other errors are the file's.
+pub(crate) fn open_node_store(
+    rt: &HostRuntime,
+    choice: StoreChoice<'_>,
+) -> Result<FiledStore, FileError> {
+    match choice {
+        StoreChoice::New(path) => create(rt, path),
+        StoreChoice::Old(path) => adopt(rt, path),
+        StoreChoice::None => Err(FileError::NoFile),
+    }
+}
+
+/// The same for this client.
+pub(crate) fn open_client_store(
+    rt: &HostRuntime,
+    choice: StoreChoice<'_>,
+    client: ClientId,
+) -> Result<FiledStore, FileError> {
+    match choice {
+        StoreChoice::New(path) => create(rt, path),
+        StoreChoice::Old(path) => adopt_for(rt, path, client),
+        StoreChoice::None => Err(FileError::NoFile),
+    }
+}

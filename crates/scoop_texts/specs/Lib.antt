@@ -1,0 +1,9 @@
+pub mod Advice
+pub mod Errors
+pub mod NodeTexts
+pub mod Progress
+pub mod Ranges
+pub mod Refusals
+pub mod Scripts
+pub mod Texts
+pub mod Typing

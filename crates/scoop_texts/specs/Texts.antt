@@ -1,0 +1,39 @@
+-- The texts of a node and a client.
+use Rattle.std.specs.Prelude.{ℕ, List, [], ◌∷◌, ◌++◌, codes, Option, Some, None}
+use Rattle.std.specs.Fmt.{decimal}
+use Rattle.scoop_message.specs.declared.request.Answer.{Answer}
+use Rattle.scoop_message.specs.Text.{answer_text, block_text}
+use Rattle.scoop_client.specs.declared.error.ClientError.{ClientError}
+use Rattle.scoop_errors.specs.ErrorText.{client_name, client_number}
+use Rattle.scoop_texts.specs.declared.reply.Reply.{Reply}
+use Rattle.scoop_texts.specs.declared.reply.Reply.TheVariants.{Reserved, Logged, Answered, Ended, Noted, EndedAt, ConditionFailed, GivenUp, Refused, NotInWhen}
+
+-- a name, with a number if it has one
+abbrev pub named : List ℕ → Option ℕ → List ℕ
+named name None = name
+named name (Some n) = name ++ codes " " ++ decimal n
+
+abbrev pub refusal_text : ClientError → List ℕ
+refusal_text e = codes "refused " ++ named (client_name e) (client_number e) ++ 10 ∷ []
+
+-- the line of a reply
+abbrev pub reply_text : Reply → List ℕ
+reply_text (Reserved block) = codes "reserved " ++ block_text block ++ 10 ∷ []
+reply_text (Logged h n) = codes "logged " ++ decimal h.0 ++ codes " " ++ decimal n ++ 10 ∷ []
+reply_text (Answered answer) = codes "answer " ++ answer_text answer ++ 10 ∷ []
+reply_text Ended = codes "ended" ++ 10 ∷ []
+reply_text Noted = codes "noted" ++ 10 ∷ []
+reply_text (EndedAt n) = codes "ended " ++ decimal n ++ 10 ∷ []
+reply_text (ConditionFailed n) = codes "condition failed " ++ decimal n ++ 10 ∷ []
+reply_text GivenUp = codes "given up" ++ 10 ∷ []
+reply_text (Refused e) = refusal_text e
+reply_text NotInWhen = codes "refused NotInWhen" ++ 10 ∷ []
+
+-- an answer line for each answer
+abbrev pub answers_text : List Answer → List ℕ
+answers_text [] = []
+answers_text (a ∷ answers) = reply_text (Answered a) ++ answers_text answers
+
+-- the answers to a waiting block's queries, and then the reply
+abbrev pub replies_text : List Answer → Reply → List ℕ
+replies_text answers reply = answers_text answers ++ reply_text reply
