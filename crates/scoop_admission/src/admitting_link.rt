@@ -14,13 +14,13 @@ use std::marker::Model;
 // The most datagrams that one receive takes.
 const MAX_TAKEN: usize = 64;
 
-/// What learns of the frames that are dropped.
+/// A receiver of reports on the frames that are dropped.
 pub trait Strangers: Drop {
     /// A frame of this client, to or from this handler, was dropped.
     fn meet(&mut self, client: ClientId, handler: HandlerId);
 }
 
-/// Reports nothing.
+/// A receiver that ignores each report.
 #[derive(Clone, Copy)]
 pub struct NoReport;
 
@@ -35,7 +35,7 @@ pub struct Sender {
     pub handler: HandlerId,
 }
 
-// The client and the handler of the frame that the bytes are.
+// The client and the handler of the frame that these bytes encode.
 fn sender_of(bytes: &[u8]) -> Option<Sender>
     ensures { Sends result bytes.now }
 {
@@ -55,7 +55,7 @@ fn is_listed(clients: &[ClientId], client: ClientId) -> bool
     clients.iter().any(|known| known.0 == client.0)
 }
 
-// The sender of the frame that the bytes are, if it is none of these clients.
+// The sender of the frame that these bytes encode, if it is none of these clients.
 fn stranger_in(clients: &[ClientId], bytes: &[u8]) -> Option<Sender>
     ensures { MatchOption result (IsAdmitted clients.now bytes.now) (λ _. IsStranger clients.now bytes.now) }
 {
@@ -76,16 +76,16 @@ enum Taken {
     Nothing,
     // The frame of a stranger.
     Strange,
-    // This number of bytes, which pass on.
+    // A datagram of this length, which passes on.
     Admitted(usize),
 }
 
-/// A link that passes on the frames of the clients that it knows, and bytes that are no frame. It drops and counts frames of
-/// other clients.
+/// A link that passes on the frames of the clients that it knows, and bytes that are no frame. It drops and counts the
+/// frames of other clients.
 ///
-/// A receive takes datagrams from the inner link, at most `MAX_TAKEN`, until one passes on. It gives nothing if nothing came
-/// or each was a stranger's. Sends are the inner link's. Contracts see the inner link, the clients and the count. It doesn't
-/// record its datagrams.
+/// A receive takes datagrams from the inner link until one passes on, at most `MAX_TAKEN`. It returns nothing if no
+/// datagram came, or if each was a stranger's. A send goes to the inner link unchanged. Contracts see the inner link,
+/// the clients and the count. The link doesn't record its datagrams.
 #[derive(Drop)]
 pub struct AdmittingLink<L: Link, S: Strangers, A: Allocator = Global> {
     inner: L,

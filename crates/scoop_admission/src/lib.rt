@@ -1,8 +1,8 @@
 //! Admitted clients: a node's link that passes on only the frames of the clients that it knows.
 //!
-//! [`AdmittingLink`] decodes each datagram that comes. It drops and counts the frames of other clients, and reports each to
-//! its [`Strangers`]. Bytes that are no frame pass on. Without it a handler's marks, of which there are 64, could be taken
-//! for good by invented clients.
+//! [`AdmittingLink`] decodes each datagram that it receives. It drops and counts the frames of other clients, and
+//! reports each of them to its [`Strangers`]. Bytes that are no frame pass on. A handler has 64 marks. Without this
+//! link, invented clients could take all of them permanently.
 //!
 //! ```
 //! let mut tape = TapeLink::new(alloc, 0)?;

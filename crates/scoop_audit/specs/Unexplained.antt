@@ -1,4 +1,4 @@
--- What the errors of the audit say.
+-- The meaning of each error of the audit.
 use Rattle.std.specs.Prelude.{◌≡◌, ◌⊎◌, ⊤, ℕ, List, slice_get, Option, Some}
 use Rattle.std.specs.List.{AllZip}
 use Rattle.scoop_message.specs.declared.name.HandlerId.{HandlerId}
@@ -30,7 +30,7 @@ abbrev pub PartyStops : Plan → List ℕ → PartyName → Wrong → Type 0
 PartyStops s journal (Node n) w = (words : HandlerId → List ℕ) → StopsNode words n (placed_on s n) journal w
 PartyStops s journal (Client id) w = (c : ClientPlace) × (client_named s.clients id ≡ Some c) × StopsClient (joins_in s c) journal w
 
--- the party has one of these journals as its own, and it can't be replayed
+-- one of these journals is the party's own, and it can't be replayed
 pub record HasStopped (s : Plan) (journals : List (List ℕ)) (party : PartyName) (w : Wrong) : Type 0 where
   pub place : Option ℕ
   pub own : (at : ℕ) → place ≡ Some at → Owns party (journal_at journals (Some at))
@@ -50,7 +50,7 @@ pub record IsUnsent (parties : List (List Traffic)) (w : Wrong) : Type 0 where
   pub hears : next.heard ≡ Some message
   pub unexplained : IsUnexplained parties party place
 
--- so it is of the lives that the journals tell
+-- this holds of the lives that the journals tell
 pub record HasNoOrder (nodes : List NodePages) (clients : List ClientPages) (w : Wrong) : Type 0 where
   pub lives : List NodeLife
   pub others : List ClientLife
@@ -58,7 +58,8 @@ pub record HasNoOrder (nodes : List NodePages) (clients : List ClientPages) (w :
   pub each_client : AllZip IsLifeOfClient clients others
   pub unsent : IsUnsent (traffic_by lives others) w
 
--- each party's journal can be replayed, and no order has all moves of their lives, if a world may open with the file's parties
+-- Each party's journal can be replayed. If a world may open with the file's parties, no order has all moves of their
+-- lives.
 pub record LacksOrder (s : Plan) (journals : List (List ℕ)) (w : Wrong) : Type 0 where
   pub nodes : List NodePages
   pub clients : List ClientPages
@@ -67,7 +68,8 @@ pub record LacksOrder (s : Plan) (journals : List (List ℕ)) (w : Wrong) : Type
 
 -- ---- errors
 
--- an `Unexplained` names the party whose journal can't be replayed, or a message that nobody sent
+-- an `Unexplained` names a party whose journal can't be replayed, or a heard message that no order of the moves
+-- explains
 abbrev pub IsAuditError : Plan → List (List ℕ) → AuditError → Type 0
 IsAuditError s journals OutOfMemory = ⊤
 IsAuditError s journals (Fault place line fault) = ⊤
@@ -85,7 +87,7 @@ IsStop s journal party OutOfMemory = ⊤
 IsStop s journal party (Fault place line fault) = ⊤
 IsStop s journal party (Unexplained found w) = (found.party ≡ party) × PartyStops s journal party w
 
--- that of one of these parties
+-- the journal of one of these parties can't be replayed
 abbrev pub IsStopAmong : Plan → List (List ℕ) → List Member → AuditError → Type 0
 IsStopAmong s journals ms e =
     (at : ℕ) × (m : Member) × (slice_get ms at ≡ Some m) × IsStop s (journal_at journals m.journal) m.party e

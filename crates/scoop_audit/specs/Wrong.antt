@@ -1,4 +1,4 @@
--- What it means that a line of a journal tells what can't have happened, and where such a line stands.
+-- Lines of a journal that tell something impossible, and where in the journal they stand.
 use Rattle.std.specs.Prelude.{◌≡◌, ◌≢◌, ⊤, ℕ, List, ◌++◌, map, slice_get, Option, Some, Err}
 use Rattle.scoop_message.specs.declared.name.ClientId.{ClientId}
 use Rattle.scoop_message.specs.declared.name.HandlerId.{HandlerId}
@@ -29,7 +29,7 @@ use Rattle.scoop_audit.specs.Client.{ClientUpTo, TellsClient}
 
 -- ---- a line
 
--- the handler of this number opens with other blobs than those of its state
+-- the handler of this number opens with blobs that aren't those of its state
 pub record OpensOtherwise (hs : List LocalHandler) (h : HandlerId) (image pending : List ℕ) : Type 0 where
   pub place : ℕ
   pub handler : LocalHandler
@@ -37,7 +37,7 @@ pub record OpensOtherwise (hs : List LocalHandler) (h : HandlerId) (image pendin
   pub number : number_in handler ≡ h
   pub other : IsStoredAs handler image pending → ⊥
 
--- the line opens the handler otherwise
+-- the line opens the handler with such blobs
 abbrev pub IsOpenedOtherwise : List LocalHandler → HandlerId → Line → Type 0
 IsOpenedOtherwise hs h (NodeLife n) = ⊥
 IsOpenedOtherwise hs h (ClientLife c inc batch) = ⊥
@@ -49,7 +49,7 @@ IsOpenedOtherwise hs h (Do x) = ⊥
 IsOpenedOtherwise hs h (Turn a) = ⊥
 IsOpenedOtherwise hs h (Broke place) = ⊥
 
--- what the line tells can't happen at these handlers
+-- the line tells an event that is impossible at these handlers, for this reason
 abbrev pub IsWrongAt : List LocalHandler → Line → Wrong → Type 0
 IsWrongAt hs l (Reply ours told) = (m : Message) × (l ≡ Hear m told) × RepliesSo hs m ours × (ours ≢ told)
 IsWrongAt hs l (NothingOut h) = (l ≡ Finish h) × HasNothingOut hs h
@@ -58,7 +58,7 @@ IsWrongAt hs l (Refused e) = ⊥
 IsWrongAt hs l (NothingDue place) = ⊥
 IsWrongAt hs l (Unsent m party) = ⊥
 
--- what the line tells can't happen at this client
+-- the line tells a step that is impossible at this client, for this reason
 abbrev pub IsWrongOf : ClientState → Line → Wrong → Type 0
 IsWrongOf c l (Reply ours told) = ⊥
 IsWrongOf c l (NothingOut h) = ⊥
@@ -79,7 +79,7 @@ IfWrong P OutOfMemory = ⊤
 IfWrong P (Fault number fault) = ⊤
 IfWrong P (IsWrong w) = P w
 
--- it is no wrong line
+-- the trouble isn't a wrong line
 abbrev pub IsNotWrong : Trouble → Type 0
 IsNotWrong t = IfWrong (λ w. ⊥) t
 

@@ -537,16 +537,17 @@ fn nothing_replayed(alloc: Global) -> Replayed
     }
 }
 
-/// Whether the journals are those of a run of the system, and if so, one order of all that happened. If a chart of it is
-/// wanted, the run keeps what the chart shows.
+/// One order of all that happened, if the journals are those of a run of the system. With `has_chart` the result also
+/// keeps what a chart shows.
 ///
-/// Each node that has handlers, and each client, has its own journal among these, or none. Each journal with a line is that of
-/// a party. If a world may open with the system's parties (`MayRun`), the order is that of a world, in which each party lives
-/// the life that its journal tells. [`systems_may_run`](crate::systems_may_run) proves `MayRun` of each system that was read
-/// and has a handler.
+/// Each node that has handlers, and each client, has its own journal among these, or none. Each journal with a line is
+/// that of a party. If a world may open with the system's parties (`MayRun`), the order is that of a world. In this
+/// world each party lives the life that its journal tells. The call [`systems_may_run`](crate::systems_may_run) proves
+/// `MayRun` of each system that was read and has a handler.
 ///
-/// `Unexplained` if the first lines of the named party's journal can be replayed, and the next one tells what can't have
-/// happened then; or if a message was heard that no order of any first moves of the lives sends before (`IsAuditError`).
+/// `Unexplained` has one of two causes (`IsAuditError`). The first lines of the named party's journal can be replayed,
+/// and the next one tells something impossible. Or a party heard a message that no order of any first moves of the
+/// lives sends before.
 pub fn audit(
     alloc: Global,
     system: &System,

@@ -10,11 +10,11 @@ use crate::error::{Fault, Trouble};
 use memchr::memchr;
 use scoop_journal::{Line, read};
 
-/// A place between two lines of a journal. A last line without a newline is none: it wasn't written to its end.
+/// A place between two lines of a journal. A last line without a newline doesn't count: it wasn't written to its end.
 #[derive(Clone, Copy)]
 pub(crate) struct Cursor<'a> {
     pub(crate) rest: &'a [u8],
-    /// How many lines are behind it.
+    /// The number of lines before this place.
     pub(crate) number: u64,
 }
 

@@ -1,4 +1,4 @@
-//! Why journals have no explanation.
+//! Reasons why journals have no explanation.
 
 ghost use Rattle.std.specs.Prelude.{◌≡◌};
 
@@ -13,29 +13,29 @@ pub enum PartyName {
     Client(ClientId),
 }
 
-/// What is wrong with a line of a journal.
+/// A fault of a line of a journal.
 #[derive(Clone, Copy, Debug, PartialEq, Eq)]
 pub enum Fault {
-    /// It can't be read.
+    /// The line can't be read.
     Line(LineFault),
     /// The first line begins no life.
     NoJournal,
-    /// The line stands in the wrong place: an `open` after the first ones of its life, or of another handler than the next
-    /// one; or a line of a client in the journal of a node, or the other way round.
+    /// The line stands in the wrong place. An `open` isn't among the first lines of its life, or its handler isn't the
+    /// next one. Or a client's line is in a node's journal, or a node's line in a client's.
     Misplaced,
     /// A life of this party in the journal of another one.
     OtherParty(PartyName),
     /// The system has no such party.
     NoParty(PartyName),
-    /// The node of this number hasn't this handler.
+    /// The node of this number doesn't have this handler.
     NoHandler(u32, HandlerId),
-    /// The party has its journal in the file at this place of the list too.
+    /// The file at this place of the list is a journal of this party too.
     Twice(PartyName, usize),
     /// This incarnation comes after that one.
     OutOfOrder(u32, u32),
     /// Between this incarnation and that one more are left out than the audit supposes.
     TooManyLeftOut(u32, u32),
-    /// The life puts so many entries into one Log, and the system's file says that many.
+    /// The life has the first batch, and the system's file says the second.
     OtherBatch(u8, u8),
 }
 
@@ -48,25 +48,25 @@ pub struct Move {
     pub entry: u64,
 }
 
-/// Why a move has no explanation.
+/// The reason why a move has no explanation.
 #[derive(Clone, Copy, Debug, PartialEq, Eq)]
 pub enum Wrong {
-    /// By the handler's rules the reply is the first one, and the journal says the second.
+    /// The handler's rules give the first reply, and the journal says the second.
     Reply(Option<Message>, Option<Message>),
-    /// No entry of the handler has left to be run.
+    /// An entry of the handler has run, and none had left to be run.
     NothingOut(HandlerId),
-    /// The handler opens with another state than the life before left. In the first life, with another one than that of a
-    /// new handler.
+    /// The handler opens with another state than the one that the life before left. In the first life it isn't the
+    /// state of a new handler.
     Opens(HandlerId),
-    /// By the client's rules the command is refused.
+    /// The client's rules refuse the command.
     Refused(ClientError),
     /// Nothing is due to a handler at this place, counted from 0.
     NothingDue(usize),
-    /// It hears a message that nobody sent before. If the message's party has no journal, this is the party.
+    /// The move hears a message that no party sent before. The party is the message's sender, if it has no journal.
     Unsent(Message, Option<PartyName>),
 }
 
-/// Why one journal can't be replayed, and where: the line, or the life and its entry.
+/// The reason why one journal can't be replayed, and the place: the line, or the life and its entry.
 #[derive(Clone, Copy, Debug)]
 pub(crate) enum Trouble {
     OutOfMemory,
@@ -74,7 +74,7 @@ pub(crate) enum Trouble {
     Wrong(Wrong),
 }
 
-/// Why journals have no explanation.
+/// The reason why journals have no explanation.
 #[derive(Clone, Copy, Debug)]
 pub enum AuditError {
     /// Memory ran out.

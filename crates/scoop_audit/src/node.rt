@@ -185,8 +185,8 @@ fn last_event(line: &Line<'_>) -> Option<(HandlerId, Last)> {
     }
 }
 
-// Whether the entry of this line is the last one of its life and was not stored: the next life, which begins at the cursor, opens
-// with the state before it.
+// Whether the entry of this line is the last one of its life and was not stored. If so, the next life begins at the
+// cursor, and opens with the state before the entry.
 fn is_unstored(
     alloc: Global,
     node: &NodeReplay,

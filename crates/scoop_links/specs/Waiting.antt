@@ -1,4 +1,4 @@
--- What a client waits for, by what it sent and received last.
+-- The reply that a client waits for, by the last messages that it sent and received.
 use Rattle.std.specs.Prelude.{◌≡◌, ℕ, Bool, true, false, List}
 use Rattle.scoop_message.specs.declared.message.Message.{Message}
 use Rattle.scoop_message.specs.declared.message.Message.TheVariants.{Hello, Busy}
@@ -20,7 +20,8 @@ abbrev pub Says : (Message → Bool) → Bool → List ℕ → Type 0
 Says is_such true bytes = (v : Version) × (m : Message) × IsFrame v m bytes × (is_such m ≡ true)
 Says is_such false bytes = (v : Version) (m : Message) → IsFrame v m bytes → is_such m ≡ false
 
--- what a client waits for, by whether it greets, whether the last reply came again, and whether that reply refuses a lock
+-- The reply that a client waits for. It depends on whether the client greets, whether the last reply came again, and
+-- whether that reply refuses a lock.
 abbrev pub awaited_of : (is_greeting is_repeated is_busy : Bool) → Awaited
 awaited_of true is_repeated is_busy = Welcome
 awaited_of false false is_busy = Reply

@@ -1,8 +1,8 @@
 //! Links of a running node or client, each around another link.
 //!
-//! [`PatientLink`] tolerates failed calls, [`NewsLink`] drops stale replies, and [`WaitingLink`] reports the handlers that
-//! a client waits for. [`client_link`] puts them around a client's link. [`LentLink`] is a link that one life of a client
-//! borrows. [`print_numbers`] writes the numbers of handlers, as the reports do.
+//! A [`PatientLink`] tolerates failed calls. A [`NewsLink`] drops stale replies. A [`WaitingLink`] reports the handlers
+//! that its client waits for. The call [`client_link`] puts them around a client's link. A [`LentLink`] is a link that
+//! one life of a client borrows. The call [`print_numbers`] writes the numbers of handlers, as the reports do.
 //!
 //! ```
 //! // failed calls are noted in `faults`, and the handlers that the client waits for in `waits`

@@ -15,7 +15,7 @@ use std::marker::Model;
 // At this many failed calls in a row this link fails too.
 const MAX_IN_A_ROW: u32 = 1_000;
 
-// The next note on a failed call comes after this many receives. Over UDP that is a second at most.
+// The number of receives between two notes on failed calls. Over UDP they take at most a second.
 const NOTE_EVERY: u64 = 100;
 
 /// A node's or a client's link that tolerates faults. A call of the link below may fail, as a send to a party that can't be

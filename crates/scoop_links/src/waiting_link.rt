@@ -16,14 +16,15 @@ use std::io;
 use std::io::Write;
 use std::marker::Model;
 
-// The link reports after this many empty polls with no news between. Over UDP that is one second.
+// The link reports after this many empty polls without news between them. Over UDP they take one second.
 const PATIENCE: u32 = 100;
 
-/// A client's link that reports the handlers that the client waits for: those to which it sent since its last receive. It
-/// reports them after a hundred empty polls with no news between; over UDP that takes a second. A datagram that repeats
-/// the last one is no news. So the link also reports a handler that sends the same reply again and again, as when another
-/// client's block stands in front, and tells it from one that sends nothing. It reports once until news comes. A report
-/// that can't be written is lost. Contracts see the link below it. It doesn't record its datagrams.
+/// A client's link that reports the handlers that the client waits for: those to which it sent since its last receive.
+/// It reports them after a hundred empty polls without news between them; over UDP that takes a second. A datagram that
+/// repeats the last one is no news. So the link also reports a handler that repeats the same reply, for example because
+/// another client's block stands in front. It distinguishes such a handler from one that sends nothing. It reports once
+/// until news comes. A report that can't be written is lost. Contracts see the link below it. It doesn't record its
+/// datagrams.
 #[derive(Drop)]
 pub struct WaitingLink<L: Link, E: Write + Drop> {
     inner: L,
@@ -36,7 +37,7 @@ pub struct WaitingLink<L: Link, E: Write + Drop> {
     silences: u32,
 }
 
-/// What a client waits for.
+/// The reply that a client waits for.
 #[derive(Clone, Copy, Debug, PartialEq, Eq)]
 pub enum Awaited {
     /// A handler's welcome.
@@ -119,7 +120,8 @@ impl<L: Link, E: Write + Drop> WaitingLink<L, E> {
     }
 }
 
-// What the client waits for: by whether it greets, whether the last reply came again, and whether that refuses a lock.
+// The reply that the client waits for. It depends on whether the client greets, whether the last reply came again, and
+// whether that reply refuses a lock.
 fn awaited_of(is_greeting: bool, is_repeated: bool, is_busy: bool) -> Awaited
     ensures { result ≡ awaited_of is_greeting is_repeated is_busy }
 {

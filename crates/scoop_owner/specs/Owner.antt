@@ -17,7 +17,7 @@ use Rattle.scoop_system.specs.SystemText.{class_text}
 abbrev pub has_line : List ℕ → List ℕ → Bool
 has_line text line = list_any (λ l. bytes_eq l line) (lines text)
 
--- what stands before a line's first equals sign
+-- the key of a line: the text before its first equals sign
 abbrev pub key_of : List ℕ → List ℕ
 key_of line = before_first (λ b. b == 61) line
 

@@ -9,7 +9,8 @@ const MIN_TIMEOUT: u32 = 5_000;
 /// The longest timeout, in microseconds.
 pub const MAX_TIMEOUT: u32 = 2_000_000;
 
-// What a timeout is above the smoothed round trip, at least: the step of the clock that RFC 6298 calls G.
+// The least margin of a timeout above the smoothed round trip, in microseconds. RFC 6298 calls it G, the clock
+// granularity.
 const MIN_MARGIN: u32 = 5_000;
 
 /// The smoothed round trip of a party and its variation, in microseconds, by RFC 6298.

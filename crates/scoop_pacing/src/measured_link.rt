@@ -22,11 +22,15 @@ const HANDLER_AT: usize = 4;
 
 /// A client's link that passes sends on to an inner link, and holds a repeated datagram back until its time has come.
 ///
-/// A datagram that isn't the last one to its party goes at once. The last one goes again if no reply of the party came and its
-/// timeout is over, or if it was answered: then at once, and after eight repeats once a round trip. Otherwise it is lost, and
-/// the send returns `Ok`. A timeout is at first 200 ms, and then what RFC 6298 makes of the round trips of datagrams that went
-/// once, from 5 ms to 2 s. It doubles with each repeat that wasn't answered, until a round trip is measured. Up to an eighth is
-/// added at random. A call that fails in the inner link counts as nothing.
+/// A datagram that differs from the last one to its party goes at once. A repeat of the last one goes in two cases:
+/// - no reply of the party came, and the timeout is over;
+/// - a reply came: the repeat goes at once, and after eight repeats once a round trip.
+///
+/// Every other repeat is lost, and its send returns `Ok`.
+///
+/// A timeout is 200 ms at first. Later RFC 6298 gives it, from the round trips of datagrams that went once; it stays
+/// within 5 ms to 2 s. It doubles with each repeat without a reply, until a round trip is measured. Up to an eighth is
+/// added at random. A call that fails in the inner link doesn't count.
 ///
 /// Contracts see the inner link, the clock, and the last datagrams with their times. It doesn't record its datagrams.
 #[derive(Drop)]

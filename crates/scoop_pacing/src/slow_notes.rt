@@ -10,8 +10,8 @@ use std::io::Write;
 // The time between two lines, in microseconds.
 const BETWEEN: u64 = 1_000_000;
 
-/// A writer that passes on at most one line a second. A flush ends a line. Before a line that passes it says how many were
-/// left out since the last one.
+/// A writer that passes on at most one line a second, and drops the others. A flush ends a line. The writer puts the
+/// number of dropped lines, if there are any, before the next line that passes.
 #[derive(Drop)]
 pub struct SlowNotes<W: Write + Drop, C: Times> {
     inner: W,
@@ -62,7 +62,7 @@ impl<W: Write + Drop, C: Times> SlowNotes<W, C> {
         Ok(passes)
     }
 
-    // Says how many lines were left out, if there were any.
+    // Writes how many lines were left out, if there were any.
     fn tell_left_out(&mut self) -> io::Result<()> {
         let count = self.left_out;
         self.left_out = 0;

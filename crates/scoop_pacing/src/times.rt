@@ -1,12 +1,12 @@
-//! Clocks that a link is handed.
+//! The clocks that links use.
 
 ghost use Rattle.std.specs.Prelude.{◌≡◌, ℕ};
 
 use std::time::{Clock, Instant};
 
-/// A clock of microseconds. Contracts see the time that it told last.
+/// A clock of microseconds. Contracts see the time that it returned last.
 pub trait Times: Drop {
-    /// The time that it told last.
+    /// The time that it returned last.
     ghost time: { Self → ℕ };
 
     /// The time, in microseconds since some moment.
@@ -32,7 +32,7 @@ impl<'r, R: Clock> SystemTimes<'r, R> {
         }
     }
 
-    // The time, if the system tells it.
+    // The time, if the system reports it.
     fn elapsed(&self) -> Option<u64> {
         let passed = self.start?.elapsed(self.rt).ok()?;
         u64::try_from(passed.as_micros()).ok()

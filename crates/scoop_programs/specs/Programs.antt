@@ -38,8 +38,8 @@ pub record NodeRuns {K : Type 0} (has : K → ℕ → Stored → Type 0) (is_hon
   pub first : NodeRun has is_honest members
   pub later : List (NodeRun has is_honest members)
 
--- a run of a client with this name and batch, which knows these handlers: its keeper before and after, how it ended, and
--- what it did, as `client_run` ensures it
+-- A run of a client with this name and batch, which knows these handlers. It has its keeper before and after, how it
+-- ended, and what it did, as `client_run` ensures it.
 pub record ClientRun {K : Type 0} (incarnations : K → ℕ → Option ℕ) (is_honest : K → Type 0) (id : ClientId) (batch : ℕ) (known : List HandlerId) : Type 0 where
   pub before : K
   pub after : K

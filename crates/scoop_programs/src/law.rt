@@ -10,20 +10,20 @@ use scoop_audit::systems_may_run;
 use scoop_keeper::Keeper;
 use std::alloc::Global;
 
-/// What the programs of nodes and clients did is a world. It supposes what `node_run` and `client_run` ensure of each run,
-/// each over any keeper, and:
+/// The theorem that runs of the programs of nodes and clients are a world. It supposes what `node_run` and `client_run`
+/// ensure of each run, over any keeper. It also supposes:
 /// - each node has a number of its own and a handler, and its keeper had nothing of its handlers before the first run;
-/// - each further run of a node begins with what the last one's keeper had of its handlers at its end;
-/// - each further run of a client begins with the incarnation that the last one left;
-/// - each keeper was honest: of a node when the node was ready, and at the end of each run that another one follows; of a
-///   client at the end of each run;
-/// - a world may open with these handlers and clients. Each client knows one handler at least, each once and each of a node;
-///   another client may know others.
+/// - each further run of a node begins with what the last run's keeper had of its handlers at its end;
+/// - each further run of a client begins with the incarnation that the last run left;
+/// - each node's keeper was honest when the node was ready, and at the end of each run that another one follows;
+/// - each client's keeper was honest at the end of each run;
+/// - a world may open with these handlers and clients. Each client knows at least one handler, each once and each of a
+///   node; another client may know others.
 ///
-/// Then the histories and steps that the runs had are lives of nodes and clients. Each order of all their moves, in which each
-/// message that is heard was sent before, is that of a world. Nothing else is asked of the network.
+/// Then the histories and steps of the runs are lives of nodes and clients. Each order of all their moves is that of a
+/// world, if each message that is heard in it was sent before. The theorem asks nothing else of the network.
 ///
-/// A run of a node that returned an error is none of these runs. A run of a client may have ended in any way.
+/// A run of a node that returned an error isn't among these runs. A run of a client may have ended in any way.
 pub fn programs_are_a_world<K: Keeper<Global>, J: Keeper<Global>>()
     ensures { (nodes : List (NodeRuns K.handlers K.is_honest)) (clients : List (ClientRuns J.incarnations J.is_honest)) → MayRun nodes clients
         → AreAWorld nodes clients }

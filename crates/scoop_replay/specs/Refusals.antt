@@ -35,7 +35,7 @@ pub record HasNothingOut (hs : List LocalHandler) (h : HandlerId) : Type 0 where
   pub here : handler_in h hs ≡ Some handler
   pub none : job_out handler.core ≡ None
 
--- the handlers refuse the event, which is told with this reply
+-- the handlers refuse an event that was reported with this reply
 abbrev pub IsNodeRefusal : List LocalHandler → Event → Option Message → ReplayError → Type 0
 IsNodeRefusal hs e told OutOfMemory = ⊤
 IsNodeRefusal hs e told (NoHandler h) = (h ≡ handler_at e) × (handler_in h hs ≡ None)

@@ -1,22 +1,22 @@
-//! Why a replay doesn't go on.
+//! Reasons why a replay stops.
 
 ghost use Rattle.std.specs.Prelude.{◌≡◌};
 
 use scoop_client::ClientError;
 use scoop_message::{HandlerId, Message, OutOfMemory};
 
-/// Why an entry or a step can't be made as it is told.
+/// The reason why the replay of an entry or a step fails.
 #[derive(Clone, Copy, Debug, PartialEq, Eq)]
 pub enum ReplayError {
     /// Memory ran out.
     OutOfMemory,
-    /// The node hasn't this handler.
+    /// The node doesn't have this handler.
     NoHandler(HandlerId),
-    /// By the handler's rules it replies this.
+    /// The handler's rules give this reply, and another one was reported.
     Reply(Option<Message>),
-    /// No entry of this handler has left to be run.
+    /// An entry of this handler has run, and none had left to be run.
     NothingOut(HandlerId),
-    /// By the client's rules the command is refused.
+    /// The client's rules refuse the command.
     Refused(ClientError),
     /// Nothing is due to the handler at this place, counted from 0.
     NothingDue(usize),

@@ -61,8 +61,8 @@ fn add(trail: &mut Trail, post: &mut Post, next: &Traffic) -> Result<(), ReplayE
 }
 
 impl NodeReplay {
-    /// A node with new handlers, which made no moves. `None` if a number stands twice, or the words of one aren't as many as
-    /// its class has. `OutOfMemory` is the one refusal.
+    /// A node with new handlers, which made no moves. The result is `None` if two handlers have one number, or a
+    /// handler's words aren't as many as its class has. The only error is `OutOfMemory`.
     pub fn new(
         alloc: Global,
         number: u32,

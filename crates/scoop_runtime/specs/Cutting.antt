@@ -64,7 +64,7 @@ abbrev pub PartsFrom : ClientId → ℕ → List HandlerId → Option (Block × 
 PartsFrom id batch known None unended old new is_honest = IsUncut unended × (is_honest → IsSame old new)
 PartsFrom id batch known (Some last) unended old new is_honest = Parts id batch known last.1 unended old new is_honest
 
--- what frees the handlers that may hold a block of the client
+-- the advice on how to free handlers that may hold a block of the client
 abbrev pub freeing_text : ClientId → List ℕ
 freeing_text client =
     codes " have not welcomed client " ++ (decimal client.0 ++ (codes " again, and may hold its block" ++ (10 ∷

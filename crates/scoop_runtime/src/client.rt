@@ -118,7 +118,7 @@ impl Refusals {
     }
 }
 
-// What follows a line.
+// The next action after a line.
 #[derive(Clone, Copy, PartialEq, Eq)]
 enum Next {
     // The next line.
@@ -450,8 +450,8 @@ where
 ///
 /// At its end the client leaves no block behind. It gives up a block whose handlers aren't all locked, and writes
 /// `given up 7.1.1`. It cuts every other unended block by greeting the block's handlers with its next incarnation, and writes
-/// `cut 7.1.1`. Each takes at most 500 turns. If a handler doesn't answer, the client writes to `notes` which, and what
-/// frees them. So a run takes at most two incarnations, and has a life with each.
+/// `cut 7.1.1`. Each takes at most 500 turns. The client writes to `notes` the handlers that don't answer, and how to
+/// free them. So a run takes at most two incarnations, and has a life with each.
 ///
 /// `notes` is also for a user who types the lines. The client then writes there:
 /// - that every handler that it uses has welcomed it, and which lines there are;

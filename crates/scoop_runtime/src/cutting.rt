@@ -22,14 +22,14 @@ use std::alloc::Global;
 use std::io;
 use std::io::Write;
 
-/// What a session left, and the client's last block with its handlers.
+/// The remains of a session: what it left, and the client's last block with its handlers.
 #[derive(Clone, Copy)]
 pub(crate) struct Remains {
     pub(crate) left: Left,
     pub(crate) last: Option<(Block, HandlerList)>,
 }
 
-// Writes what frees handlers that may hold a block of the client.
+// Writes how to free handlers that may hold a block of the client.
 fn print_freeing<N: Write>(client: ClientId, notes: &mut N) -> io::Result<()>
     ensures { OnOk result (Appends (N.contents notes.old) (N.contents notes.new) (freeing_text client)) }
 {
@@ -40,7 +40,7 @@ fn print_freeing<N: Write>(client: ClientId, notes: &mut N) -> io::Result<()>
     )
 }
 
-// Writes which handlers may hold a block of the client still, and what frees them.
+// Writes which handlers may still hold a block of the client, and how to free them.
 fn print_held<N: Write>(client: ClientId, handlers: &[HandlerId], notes: &mut N) -> io::Result<()>
     ensures { OnOk result (Appends (N.contents notes.old) (N.contents notes.new) (held_text client handlers.now)) }
 {
@@ -177,8 +177,9 @@ fn print_cut<W: Write>(client: ClientId, handlers: &[HandlerId], writer: &mut W)
 
 /// Cuts the block of a client that was killed: the client takes its next incarnation from the keeper, and greets every
 /// handler that it uses. Then no handler holds a block of its earlier incarnations, and it writes
-/// `cut client 7 at handlers 1 2`. Handlers that don't welcome it are written to `notes`, with what frees them. `waits`
-/// gets the handlers that it waits for, and `faults` the calls of the link that fail. It writes its journal, if there is one.
+/// `cut client 7 at handlers 1 2`. It writes to `notes` the handlers that don't welcome it, and how to free them. It
+/// writes to `waits` the handlers that it waits for, and to `faults` the failed calls of the link. It writes its
+/// journal, if there is one.
 ///
 /// Refused:
 /// - what the keeper refuses, before anything is sent;

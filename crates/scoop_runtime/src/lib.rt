@@ -1,10 +1,11 @@
 //! The runtime of `scoop node` and `scoop client`, as calls over links, keepers, readers and writers.
 //!
-//! [`node_run`] serves a node with threads over a record. When its history is full it closes the node and opens it again
-//! over the same record and link. [`client_run`] runs a client whose commands are the lines of an input: it takes its next
-//! incarnation, greets every handler that it uses and replies line by line. At its end it leaves no block behind. [`client_cut`] does that
-//! for a client that was killed. [`open_node_link`] and [`open_client_link`] bind their
-//! addresses. [`print_reply`] writes the reply to a line. [`check_script`] reads all lines of a script before a client runs them.
+//! The call [`node_run`] serves a node with threads over a record. When the history is full, it closes the node and
+//! opens it again over the same record and link. The call [`client_run`] runs a client whose commands are the lines of
+//! an input. The client takes its next incarnation, greets every handler that it uses, and replies line by line. At its
+//! end it leaves no block behind. The call [`client_cut`] cuts the block of a client that was killed. The calls
+//! [`open_node_link`] and [`open_client_link`] bind their addresses. The call [`print_reply`] writes the reply to a
+//! line. The call [`check_script`] reads all lines of a script before a client runs them.
 //!
 //! In the example two threads run a node's handlers beside the one that receives. Then a client runs. `place` is the
 //! node's place in its system, and then the client's.

@@ -109,9 +109,9 @@ where
 
 /// Serves a node over a keeper of its handlers' states, and over a link:
 /// 1. It stores each handler that has no record; a node that resumes refuses it instead. Then it runs what is pending.
-/// 2. It serves until its turns are over. When its history is full, it closes the node, which compares each pass with the
-///    history, and opens it again over the same keeper and link. To a client this is a restart of the node: a client that
-///    repeats loses no answer.
+/// 2. It serves until its turns are over. When its history is full, it closes the node, which compares each pass with
+///    the history, and opens it again over the same keeper and link. A client sees this as a restart of the node: it
+///    loses no answer if it repeats.
 /// 3. It closes the node and returns the keeper.
 ///
 /// It writes a line when it is ready, one at each reopening, and one at its end. A failed call of the link is written to

@@ -6,8 +6,8 @@ use scoop_message::{HandlerId, OutOfMemory, Words};
 use scoop_object::{Behaviour, Class, Table};
 use std::alloc::Global;
 
-/// What makes the objects of a node's handlers. [`Tables`] interprets the table of each class. A program may make objects of
-/// a type of its own, as long as they follow that table.
+/// A maker of the objects of a node's handlers. The maker [`Tables`] interprets the table of each class. A program may
+/// make objects of a type of its own, as long as they follow that table.
 pub trait Objects: Drop {
     /// The type of the objects.
     type Object: Behaviour + Send;

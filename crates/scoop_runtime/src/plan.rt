@@ -32,9 +32,9 @@ pub struct Serving {
 
 impl Serving {
     /// Settings for a node whose record may be new:
-    /// - `executors`, the threads beside the one that receives, 1 to `MAX_EXECUTORS`;
-    /// - `history`, the limit of its history, `MIN_HISTORY` to `MAX_HISTORY`; a full history reopens the node;
-    /// - `turns`, the turns of its loop, at least 1.
+    /// - `executors`: the threads beside the one that receives, 1 to `MAX_EXECUTORS`;
+    /// - `history`: the limit of its history, `MIN_HISTORY` to `MAX_HISTORY`; a full history reopens the node;
+    /// - `turns`: the turns of its loop, at least 1.
     ///
     /// Refused: the first number that is out of its range.
     pub fn new(executors: u32, history: usize, turns: u64) -> Result<Serving, OutOfRange>

@@ -1,4 +1,4 @@
-//! What a client does between the tries of a waiting block.
+//! Pauses between the tries of a client's waiting block.
 
 ghost use Rattle.std.specs.Prelude.{⊤};
 

@@ -1,4 +1,4 @@
--- What a waiting block asks and does names only its own handlers.
+-- A waiting block's condition and body name only its own handlers.
 use Rattle.std.proofs.Common.{◌≡◌, Bool, true, false, List, [], ◌∷◌, ◌++◌, Option, Some, None, append_assoc, find, map, not, refl, ap, sym, ◌∙◌}
 use Rattle.std.proofs.lemmas.List.{map-append}
 use Rattle.std.proofs.lemmas.List.Folds.{find-append}

@@ -8,7 +8,7 @@ use Rattle.scoop_journal.specs.declared.line.Arrival.TheVariants.{Nothing, Frame
 use Rattle.scoop_journal.specs.declared.line.Line.{Line}
 use Rattle.scoop_journal.specs.Journal.{JournalState, ended}
 
--- what a journal says of what was received
+-- the arrival that a journal records for what the client received
 abbrev pub arrival_of : Received → Arrival
 arrival_of received.Nothing = Nothing
 arrival_of (received.Frame v m) = Frame v m

@@ -35,7 +35,7 @@ HasNoBlock Running = ⊥
 HasNoBlock Ending = ⊥
 HasNoBlock GivingUp = ⊥
 
--- what a session leaves, by whether it has noted a block that waits for its condition
+-- The session leaves this. `waits` says whether it has noted a block that waits for its condition.
 abbrev pub Leaves : Left → Bool → Seen → Seen → Type 0
 Leaves Nothing waits old new = HasNoBlock (phase_of old.client) × (new ≡ old)
 Leaves When waits old new = (waits ≡ true) × (new ≡ old)

@@ -12,9 +12,9 @@ use scoop_message::{Block, HandlerId, OutOfMemory};
 use std::alloc::Allocator;
 use std::io::Write;
 
-/// A diary that keeps only the block that the client had after its last command: its handlers, and how many calls and
-/// queries the client has logged at each. It writes each step into a journal, if there is one. After a line that isn't
-/// written it refuses every further step.
+/// A diary that keeps only the block that the client had after its last command. It has the block's handlers, and how
+/// many calls and queries the client has logged at each. It writes each step into a journal, if there is one. After a
+/// line that isn't written it refuses every further step.
 #[derive(Drop)]
 pub(crate) struct LastBlock<'j, J: Write + Drop> {
     block: Option<Block>,
@@ -128,7 +128,7 @@ fn append<J: Write + Drop>(
     }
 }
 
-// What a journal says of what was received.
+// The arrival that a journal records for what the client received.
 fn arrival_of(received: &Received) -> Arrival
     ensures { result ≡ arrival_of received.now }
 {

@@ -15,10 +15,10 @@ use scoop_message::{Block, HandlerId, OutOfMemory};
 use std::alloc::Global;
 use std::io::Write;
 
-/// The most turns of each thing that a client does on its way out: five seconds over UDP if nothing comes.
+/// The most turns of each task that a client does as it ends: five seconds over UDP if nothing comes.
 pub const PARTING_TURNS: u64 = 500;
 
-/// What a session leaves.
+/// The block that a session leaves.
 #[derive(Clone, Copy, Debug, PartialEq, Eq)]
 pub enum Left {
     /// No block.
@@ -41,8 +41,8 @@ impl<'j, L: Link, J: Write + Drop> Session<'j, L, J> {
             .any(|handler| self.driver.due(*handler).is_some())
     }
 
-    /// Takes turns until nothing is due to any of these handlers. Of a client without a block this means that each of
-    /// them has welcomed it.
+    /// Takes turns until nothing is due to any of these handlers. If the client has no block, each of them has welcomed
+    /// it then.
     pub fn greet(&mut self, handlers: &[HandlerId], turns: u64) -> Result<(), DriverError>
         ensures greeted { OnOk result (IsFalse (owes self.new.driver.seen.client handlers.now)) }
         ensures turned { TakesTurnsOnly self.old.driver.seen self.new.driver.seen }

@@ -49,7 +49,7 @@ fn report_no_store(rt: &HostRuntime) -> Status {
     Status(2)
 }
 
-// What a client does.
+// The task of a client.
 #[derive(Clone, Copy)]
 enum Task<'a> {
     // The lines of standard input.

@@ -45,7 +45,7 @@ pub fn serve_node<T: Threads + Wait + Clock + Net + Sync>(
     serve_in(rt, threads, options, &serving, &system)
 }
 
-// A node has a store, unless it is told to run without one.
+// A node has either a store or the option `--volatile`.
 fn require_store(rt: &HostRuntime, options: &NodeOptions<'_>) -> Result<(), Status> {
     let (fault, advice) = match (options.store, options.is_volatile) {
         (StoreChoice::None, false) => (

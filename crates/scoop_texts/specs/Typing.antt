@@ -20,7 +20,7 @@ abbrev pub lines_text : List ℕ
 lines_text =
     codes "hint: type reserve H.., call H OP A.., query H OP A.., end, or reserve H.. when H OP A.. least V tries T; help lists all lines, and quit ends the client" ++ 10 ∷ []
 
--- what each line does
+-- the meaning of each line
 abbrev pub help_text : List ℕ
 help_text =
     codes "reserve H..        begins a block over these handlers; reserve H.. when H OP A.. least V tries T waits for a condition" ++ (10 ∷

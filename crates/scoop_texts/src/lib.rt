@@ -1,9 +1,9 @@
 //! Texts of a node and a client of a system: replies, notes, and errors with advice.
 //!
-//! A [`RuntimeError`] ends a node or a client; its text, advice and exit status are here, and the [`Progress`] of the client
-//! that it ended. [`print_reply`] writes the reply to a line. The `tell_` functions write notes to a user who types the lines.
-//! [`check_script`] reads all lines of a script before a client runs them, and writes their faults. The others write the
-//! lines of a node.
+//! A [`RuntimeError`] ends a node or a client. Its text, advice and exit status are here, and the [`Progress`] of the
+//! client that it ended. The call [`print_reply`] writes the reply to a line. The `tell_` functions write notes to a
+//! user who types the lines. The call [`check_script`] reads all lines of a script before a client runs them, and
+//! writes their faults. The others write the lines of a node.
 //!
 //! ```
 //! print_reply(&Reply::Reserved(block), &mut output)?; // reserved 7.1.1

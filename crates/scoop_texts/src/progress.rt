@@ -7,7 +7,7 @@ use crate::error::RuntimeError;
 use scoop_message::Block;
 use std::fmt;
 
-/// What became of the block that a client hasn't ended.
+/// The outcome of the block that a client hasn't ended.
 #[derive(Clone, Copy, Debug, PartialEq, Eq)]
 pub enum Unended {
     /// There is none.

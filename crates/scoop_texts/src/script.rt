@@ -42,8 +42,9 @@ fn check_used<N: Write>(
     }
 }
 
-/// Reads a whole script, and writes each of its faults to `notes`, with advice: each line that can't be read or names a handler
-/// that the client doesn't use, and an end inside a block. Returns whether it has none. Without a client, all handlers are used.
+/// Reads a whole script, and writes each of its faults to `notes`, with advice. A line has a fault if it can't be read,
+/// or names a handler that the client doesn't use. An end inside a block is a fault too. Returns whether the script has
+/// no fault. Without a client, a line may name any handler.
 ///
 /// Refused: a fault of the input.
 pub fn check_script<I: LineSource, N: Write>(

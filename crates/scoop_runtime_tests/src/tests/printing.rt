@@ -136,7 +136,7 @@ fn errors_are_told(rt: HostRuntime) -> Result<(), Fail> {
     reads(&rt, alloc, RuntimeError::Refused(4), "line 4: refused", 1)
 }
 
-// What is told behind the error is about this, and has these words.
+// Checks that the error's advice is about this, and has these words.
 fn advises(rt: &impl Abort, error: RuntimeError, about: About, words: &str) {
     assert_eq!(rt; error.about(), about);
     assert!(rt; error.advice().contains(words));
@@ -205,7 +205,7 @@ fn a_clients_errors_name_what_they_are_about(rt: HostRuntime) {
     advises(&rt, refused, About::Nothing, "without --strict");
 }
 
-// The range is told in these words.
+// Checks that the range is printed in these words.
 fn ranges(
     rt: &impl Abort,
     alloc: Global,

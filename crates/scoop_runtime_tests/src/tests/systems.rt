@@ -104,7 +104,7 @@ class one 1 word
     Ok(())
 }
 
-// The system is lent, so that no way out of here has it to drop; so in the tests below.
+// The system is borrowed, so that no early return has to drop it. The tests below do the same.
 fn has_parts(rt: &impl Abort, system: &System) -> Result<(), Fail> {
     assert_eq!(rt; system.classes().len(), 1);
     assert_eq!(rt; system.nodes().len(), 2);

@@ -146,7 +146,7 @@ fn answers_each<R: Wait + Clock + Abort + Net<Stream = TcpStream>>(
     Ok(())
 }
 
-// What comes back to these bytes over a connection of its own, and after how long.
+// The answer to these bytes over a new connection, and the time that it took.
 fn asked<R: Wait + Clock + Abort + Net<Stream = TcpStream>>(
     rt: &R,
     alloc: Global,

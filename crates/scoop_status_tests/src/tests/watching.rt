@@ -1,4 +1,4 @@
-//! What passes through the watchers, and what they count.
+//! Tests of the watchers: what passes through them, and what they count.
 
 use super::{heard, state, watch};
 use scoop_admission::Strangers;
