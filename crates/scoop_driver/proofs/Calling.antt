@@ -4,7 +4,7 @@
 use Rattle.std.proofs.Common.{◌≡◌, ℕ, ◌+◌, ◌<◌, ◌≤◌, Bool, true, false, List, [], ◌∷◌, ◌++◌, Option, Some, None, Result, Ok, Err, refl, ap, sym, ◌∙◌, subst}
 use Rattle.std.proofs.Common.{arith, append_assoc, add-zero, zero-add}
 use Rattle.std.proofs.lemmas.List.{append-nil}
-use Rattle.std.specs.Prelude.{Contains, OnOk}
+use Rattle.std.specs.Prelude.{Contains}
 use Rattle.std.proofs.lemmas.List.Elements.{Contains-push}
 use Rattle.scoop_message.specs.declared.name.HandlerId.{HandlerId}
 use Rattle.scoop_message.specs.declared.request.Answer.{Answer}
@@ -30,7 +30,7 @@ use Rattle.scoop_driver.specs.declared.step.Step.TheVariants.{Gave, Turned, Brok
 use Rattle.scoop_driver.specs.Steps.{after_command, commands_by, faults_at, faults_in, notes_by, turns_in, walk}
 use Rattle.scoop_driver.specs.State.{Seen, Goes}
 use Rattle.scoop_driver.specs.Turning.{TakesTurn, TurnAnswers, StepAnswers}
-use Rattle.scoop_driver.specs.Calls.{GivesCommands, StopsBefore, TellsFault, TakesTurns, Does, Called, Queried, QueryAnswers, RunsNext, IsTakeable, IsRefusal}
+use Rattle.scoop_driver.specs.Calls.{GivesCommands, StopsBefore, TellsFault, TakesTurns, Does, Called, Queried, QueryAnswers, RunsNext, Interrupted, IsTakeable, IsRefusal}
 use Rattle.scoop_driver.specs.Parts.{RefusesWith, Offered, Reached, Logged, Answered, AnswerComes, IsAcceptedFrom}
 use Rattle.scoop_driver.proofs.StepLists.{goes_nothing, goes_on, commands_by-append, faults_in-append, turns_in-append, notes_by-append}
 use Rattle.scoop_driver.proofs.Refusals.{query_waits, reserve_refuses, give_up_refuses}
@@ -192,6 +192,13 @@ turning_done v n bound s t within (xs, so_far) = (
   },
 )
 
+-- turns that reached their phase, or that an interrupt ended
+pub reached_now : (phase : Phase) (b : Bool) (n bound : ℕ) (s t : Seen) → n ≤ bound → Turning n s t → (b ≡ true → phase_of t.client ≡ phase)
+    → Reached phase bound (Ok b) s t
+reached_now phase b n bound s t within so_far there =
+    let all = turning_done b n bound s t within so_far in
+    (all.0, all.1, λ is. there (let same : b ≡ true = cc in same))
+
 -- ---- an error ends any call in the same way
 
 pub faults_as : (T U : Type 0) (e : DriverError) (steps : List Step) → TellsFault {T = T} (Err e) steps → TellsFault {T = U} (Err e) steps
@@ -214,6 +221,15 @@ does_err T U xs bound e steps s t does = record {
   faults = faults_as T U e steps does.faults;
   bound = bound_as T U e bound steps does.bound;
 }
+
+pub called_err : {T U : Type 0} (x : Command) (turns : ℕ) (e : DriverError) (s t : Seen) → Called {T = T} x turns (Err e) s t
+    → Called {T = U} x turns (Err e) s t
+called_err {T} {U} x turns e s t (steps, does) = (steps, does_err T U (x ∷ []) turns e steps s t does)
+
+-- and a call that returns a value does as if it returned another
+pub called_ok : {T U : Type 0} (v : T) (w : U) (x : Command) (turns : ℕ) (s t : Seen) → Called x turns (Ok v) s t → Called x turns (Ok w) s t
+called_ok v w x turns s t (steps, does) =
+    (steps, record { goes = does.goes; commands = does.commands; faults = does.faults; bound = does.bound })
 
 -- ---- a command and the turns after it
 
@@ -388,29 +404,38 @@ pub refused_now : (x : Command) (bound : ℕ) (e : ClientError) (s t : Seen) →
 refused_now x bound e s t refuses same = refused_same x 0 bound (Client e) s s t (omega arith) (turning_none s) (refuses, same)
 
 -- a command, and then turns up to a phase
-pub given_reached : (x : Command) (phase : Phase) (turns : ℕ) (r : Result (Unit {0}) DriverError) (s t u : Seen) → Goes (Gave x ∷ []) s t
+pub given_reached : (x : Command) (phase : Phase) (turns : ℕ) (r : Result Bool DriverError) (s t u : Seen) → Goes (Gave x ∷ []) s t
     → Reached phase turns r t u → Called x turns r s u
 given_reached x phase turns r s t u goes (ys, does, there) =
     (Gave x ∷ ys, does_on (tt {0}) r (x ∷ []) 0 turns turns (Gave x ∷ []) ys s t u (given_does x s t goes) (zero-add turns) does)
 
-pub logged_reached : (x : Command) (phase : Phase) (left turns : ℕ) (r : Result (Unit {0}) DriverError) (s t u : Seen) → Logged x turns (Ok left) s t
+pub logged_reached : (x : Command) (phase : Phase) (left turns : ℕ) (r : Result Bool DriverError) (s t u : Seen) → Logged x turns (Ok left) s t
     → Reached phase left r t u → Called x turns r s u
 logged_reached x phase left turns r s t u (xs, logs) (ys, does, there) =
     (xs ++ ys, does_on left r (x ∷ []) turns left turns xs ys s t u logs.does logs.rest does)
 
-pub reached_there : (phase : Phase) (turns : ℕ) (r : Result (Unit {0}) DriverError) (s t : Seen) → Reached phase turns r s t
-    → OnOk r (phase_of t.client ≡ phase)
+pub reached_there : (phase : Phase) (turns : ℕ) (r : Result Bool DriverError) (s t : Seen) → Reached phase turns r s t → r ≡ Ok true
+    → phase_of t.client ≡ phase
 reached_there phase turns r s t (ys, does, there) = there
 
-runs_where : (hs : List HandlerId) (turns : ℕ) (r : Result (Unit {0}) DriverError) (c : ClientState) (ys : List Step) (s t : Seen)
-    → client.command c (Reserve hs) ≡ Ok s.client
-    → Does [] turns r ys s t → OnOk r (phase_of t.client ≡ Running) → OnOk r (RunsNext c t.client)
-runs_where hs turns (Ok u) c ys s t taken does there = runs_next hs ys c s.client t.client taken does.commands does.goes.client there
-runs_where hs turns (Err e) c ys s t taken does there = there
+-- the result of a wait
+abbrev waited : Bool → Result Bool DriverError
+waited b = Ok b
 
--- a reserve that returns Ok leaves the next block running
-pub reserve_runs : (x : Command) (hs : List HandlerId) (turns : ℕ) (r : Result (Unit {0}) DriverError) (s t u : Seen) → x ≡ Reserve hs
-    → Goes (Gave x ∷ []) s t → Reached Running turns r t u → OnOk r (RunsNext s.client u.client)
+-- a wait that no interrupt can end reaches its goal
+pub not_stopped : {S : Type 0} (P : Type 0) (b : Bool) (s : S) → (waited b ≡ Ok true → P) → (waited b ≡ Ok false → Interrupted (λ _ stops _. stops ≡ false) s) → P
+not_stopped P true s there stopped = there refl
+not_stopped P false s there stopped = (let never : true ≡ false = (stopped refl).1 in cc)
+
+runs_where : (hs : List HandlerId) (turns : ℕ) (r : Result Bool DriverError) (c : ClientState) (ys : List Step) (s t : Seen)
+    → client.command c (Reserve hs) ≡ Ok s.client
+    → Does [] turns r ys s t → (r ≡ Ok true → phase_of t.client ≡ Running) → r ≡ Ok true → RunsNext c t.client
+runs_where hs turns (Ok b) c ys s t taken does there is = runs_next hs ys c s.client t.client taken does.commands does.goes.client (there is)
+runs_where hs turns (Err e) c ys s t taken does there is = cc
+
+-- a reserve that returns that the block runs leaves the next block running
+pub reserve_runs : (x : Command) (hs : List HandlerId) (turns : ℕ) (r : Result Bool DriverError) (s t u : Seen) → x ≡ Reserve hs
+    → Goes (Gave x ∷ []) s t → Reached Running turns r t u → r ≡ Ok true → RunsNext s.client u.client
 reserve_runs x hs turns r s t u is goes (ys, does, there) =
     runs_where hs turns r s.client ys t u (subst (λ y. client.command s.client y ≡ Ok t.client) is (given_is x s t goes)) does there
 
@@ -445,21 +470,21 @@ queried_not h q turns e s t (xs, does) = (xs, does_err (Unit {0}) Answer (DoQuer
 
 -- a call that was logged
 pub called_logged : (x : Command) (left turns : ℕ) (s t : Seen) → Logged x turns (Ok left) s t → Called x turns (Ok (tt {0})) s t
-called_logged x left turns s t (xs, logs) =
-    (xs, record { goes = logs.does.goes; commands = logs.does.commands; faults = logs.does.faults; bound = logs.does.bound })
+called_logged x left turns s t (xs, logs) = called_ok left (tt {0}) x turns s t (xs, logs.does)
 
 -- a reserve of handlers given as a list
-pub reserve_reached : (x : Command) (hs : List HandlerId) (n turns : ℕ) (r : Result (Unit {0}) DriverError) (s t u : Seen) → x ≡ Reserve hs
+pub reserve_reached : (x : Command) (hs : List HandlerId) (n turns : ℕ) (r : Result Bool DriverError) (s t u : Seen) → x ≡ Reserve hs
     → n ≡ turns
     → Goes (Gave x ∷ []) s t → Reached Running n r t u → Called (Reserve hs) turns r s u
 reserve_reached x hs n turns r s t u is same goes reached =
     subst (λ y. Called y turns r s u) is (subst (λ k. Called x k r s u) same (given_reached x Running n r s t u goes reached))
 
 pub reserve_refused : (x : Command) (hs : List HandlerId) (turns : ℕ) (e : ClientError) (s t : Seen) → x ≡ Reserve hs
-    → client.IsRefused (client.command s.client x) e × (t ≡ s) → Called {T = Unit {0}} (Reserve hs) turns (Err (Client e)) s t
+    → client.IsRefused (client.command s.client x) e × (t ≡ s) → Called {T = Bool} (Reserve hs) turns (Err (Client e)) s t
 reserve_refused x hs turns e s t is (refused, same) =
-    refused_now (Reserve hs) turns e s t
-    (reserve_refuses s.client hs e (subst (λ y. client.IsRefused (client.command s.client y) e) is refused)) same
+    called_err (Reserve hs) turns (Client e) s t
+    (refused_now (Reserve hs) turns e s t
+    (reserve_refuses s.client hs e (subst (λ y. client.IsRefused (client.command s.client y) e) is refused)) same)
 
 pub gave_up : (s t : Seen) → Goes (Gave given.GiveUp ∷ []) s t → Called GiveUp 0 (Ok (tt {0})) s t
 gave_up s t goes = (Gave given.GiveUp ∷ [], given_does given.GiveUp s t goes)

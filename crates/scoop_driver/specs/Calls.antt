@@ -1,5 +1,5 @@
 -- The effects and results of a driver's calls.
-use Rattle.std.specs.Prelude.{◌≡◌, ℕ, ◌≤◌, ⊤, List, [], ◌∷◌, ◌++◌, Contains, Some, Result, Ok, Err}
+use Rattle.std.specs.Prelude.{◌≡◌, ℕ, ◌≤◌, ⊤, List, [], ◌∷◌, ◌++◌, Contains, Some, Bool, true, Result, Ok, Err}
 use Rattle.scoop_message.specs.declared.name.HandlerId.{HandlerId}
 use Rattle.scoop_message.specs.declared.request.Answer.{Answer}
 use Rattle.scoop_message.specs.declared.request.Request.{Request}
@@ -125,3 +125,7 @@ Queried h r turns result old new =
 pub record RunsNext (c d : ClientState) : Type 0 where
   pub running : phase_of d ≡ Running
   pub block : block_of d.reservation ≡ Some (next_block c)
+
+-- the last call of the interrupt, which left it so, returned that the wait should end
+abbrev pub Interrupted : {S : Type 0} → (S → Bool → S → Type 0) → S → Type 0
+Interrupted {S} stops new = (old : S) × stops old true new

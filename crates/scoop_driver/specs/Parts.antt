@@ -1,5 +1,5 @@
 -- The parts of a driver's calls.
-use Rattle.std.specs.Prelude.{◌≡◌, ℕ, ◌+◌, ⊤, Bool, true, false, List, [], ◌∷◌, Contains, OnOk, Option, Some, None, Result, Ok, Err}
+use Rattle.std.specs.Prelude.{◌≡◌, ℕ, ◌+◌, ⊤, Bool, true, false, List, [], ◌∷◌, Contains, Option, Some, None, Result, Ok, Err}
 use Rattle.scoop_message.specs.declared.name.HandlerId.{HandlerId}
 use Rattle.scoop_message.specs.declared.request.Answer.{Answer}
 use Rattle.scoop_client.specs.declared.phase.ClientNote.{ClientNote}
@@ -41,9 +41,9 @@ Offered x (Ok true) old new = Goes (Gave x ∷ []) old new
 Offered x (Ok false) old new = IsTakeable (client.command old.client x) × (new ≡ old)
 Offered x (Err e) old new = RefusesWith (client.command old.client x) e × (new ≡ old)
 
--- turns until the client is at this phase
-abbrev pub Reached : Phase → ℕ → Result (Unit {0}) DriverError → Seen → Seen → Type 0
-Reached phase turns r old new = (steps : List Step) × Does [] turns r steps old new × OnOk r (phase_of new.client ≡ phase)
+-- turns until the client is at this phase, or until the wait for it was ended
+abbrev pub Reached : Phase → ℕ → Result Bool DriverError → Seen → Seen → Type 0
+Reached phase turns r old new = (steps : List Step) × Does [] turns r steps old new × (r ≡ Ok true → phase_of new.client ≡ phase)
 
 -- the command was the last step, and this number of turns is left
 pub record LogsWith (x : Command) (turns left : ℕ) (steps : List Step) (old new : Seen) : Type 0 where

@@ -1,6 +1,6 @@
 //! A client over its link.
 
-ghost use Rattle.std.specs.Prelude.{◌≡◌, ◌≤◌, length, OnOk};
+ghost use Rattle.std.specs.Prelude.{◌≡◌, ◌≤◌, false, length, Ok, OnOk, true};
 ghost use Rattle.scoop_message.specs.declared.limits.TheConstants.{MAX_BLOCK_HANDLERS};
 ghost use Rattle.scoop_client.specs.Due.{due};
 ghost use Rattle.scoop_client.specs.State.{phase_of};
@@ -8,10 +8,11 @@ ghost use Rattle.scoop_client.specs.declared.command.Command.TheVariants.{Reserv
 ghost use Rattle.scoop_client.specs.declared.phase.Phase.TheVariants.{Idle as AtIdle};
 ghost use Rattle.scoop_driver.specs.State.{state_of};
 ghost use Rattle.scoop_driver.specs.Turning.{TakesTurn};
-ghost use Rattle.scoop_driver.specs.Calls.{Called, Queried, RunsNext};
+ghost use Rattle.scoop_driver.specs.Calls.{Called, Interrupted, Queried, RunsNext};
 
 use crate::diary::{Diary, NoDiary};
 use crate::error::DriverError;
+use crate::interrupt::{Interrupt, NoInterrupt};
 use crate::sending::take_turn;
 use scoop_client::{Client, ClientError, ClientNote, Command, HandlerList, Phase};
 use scoop_link::Link;
@@ -127,13 +128,32 @@ impl<L: Link, D: Diary<A>, A: Allocator + Clone> Driver<L, D, A> {
         ensures runs { OnOk result (RunsNext self.old.seen.client self.new.seen.client) }
         ensures turns { self.new.turns ≡ self.old.turns }
     {
+        match self.reserve_unless(handlers, &mut NoInterrupt) {
+            Ok(_) => Ok(()),
+            Err(error) => Err(error),
+        }
+    }
+
+    /// Begins a block over these handlers, and takes turns until it runs or the interrupt ends the wait. The interrupt
+    /// is asked after each turn in which no frame came. Returns whether the block runs. Refused as `reserve`. After
+    /// `Ok(false)` the block may go on by further turns, or be given up.
+    pub fn reserve_unless<I: Interrupt>(
+        &mut self,
+        handlers: &[HandlerId],
+        interrupt: &mut I,
+    ) -> Result<bool, DriverError>
+        ensures does { Called (Reserve handlers.now) self.old.turns result self.old.seen self.new.seen }
+        ensures runs { result ≡ Ok true → RunsNext self.old.seen.client self.new.seen.client }
+        ensures stopped { result ≡ Ok false → Interrupted I.stops interrupt.new }
+        ensures turns { self.new.turns ≡ self.old.turns }
+    {
         let turns = self.turns;
         match self.client.may_reserve(handlers) {
             Ok(()) => {}
             Err(error) => return Err(DriverError::Client(error)),
         }
         match self.give(&Command::Reserve(list_of(handlers))) {
-            Ok(()) => self.turns_until(Phase::Running, turns),
+            Ok(()) => self.turns_until(Phase::Running, turns, interrupt),
             Err(error) => Err(DriverError::Client(error)),
         }
     }
@@ -175,7 +195,10 @@ impl<L: Link, D: Diary<A>, A: Allocator + Clone> Driver<L, D, A> {
         ensures memory { result ≡ Err (DriverError.Client ClientError.OutOfMemory) → D.wants_memory }
     {
         match self.log(&Command::End) {
-            Ok(turns) => self.turns_until(Phase::Idle, turns),
+            Ok(turns) => match self.turns_until(Phase::Idle, turns, &mut NoInterrupt) {
+                Ok(_) => Ok(()),
+                Err(error) => Err(error),
+            },
             Err(error) => Err(error),
         }
     }

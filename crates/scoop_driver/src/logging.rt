@@ -1,12 +1,14 @@
 //! Commands to the client, and the turns that they take.
 
-ghost use Rattle.std.specs.Prelude.{◌≡◌, ◌⊎◌};
+ghost use Rattle.std.specs.Prelude.{◌≡◌, ◌⊎◌, Ok, false};
 ghost use Rattle.scoop_client.specs.Commands.{IsReserve};
+ghost use Rattle.scoop_driver.specs.Calls.{Interrupted};
 ghost use Rattle.scoop_driver.specs.Parts.{Gives, Given, Offered, Reached, Logged, Answered, IsAcceptedFrom};
 
 use crate::diary::Diary;
 use crate::driver::Driver;
 use crate::error::DriverError;
+use crate::interrupt::Interrupt;
 use scoop_client::{Client, ClientError, ClientNote, Command, Phase};
 use scoop_link::Link;
 use scoop_message::{Answer, HandlerId};
@@ -97,23 +99,32 @@ impl<L: Link, D: Diary<A>, A: Allocator + Clone> Driver<L, D, A> {
 }
 
 impl<L: Link, D: Diary<A>, A: Allocator> Driver<L, D, A> {
-    // Takes turns until the client is at this phase.
-    pub(crate) fn turns_until(&mut self, phase: Phase, turns: u64) -> Result<(), DriverError>
+    // Takes turns until the client is at this phase or the interrupt ends the wait. Returns whether it is there.
+    pub(crate) fn turns_until<I: Interrupt>(
+        &mut self,
+        phase: Phase,
+        turns: u64,
+        interrupt: &mut I,
+    ) -> Result<bool, DriverError>
         ensures does { Reached phase turns result self.old.seen self.new.seen }
+        ensures stopped { result ≡ Ok false → Interrupted I.stops interrupt.new }
         ensures turns { self.new.turns ≡ self.old.turns }
         ensures memory { result ≡ Err (DriverError.Client ClientError.OutOfMemory) → D.wants_memory }
     {
         for taken in 0..turns {
             if self.client.phase() == phase {
-                return Ok(());
+                return Ok(true);
             }
-            match self.turn() {
-                Ok(_) => {}
+            let note = match self.turn() {
+                Ok(note) => note,
                 Err(error) => return Err(error),
+            };
+            if note.is_none() && interrupt.stops() {
+                return Ok(false);
             }
         }
         if self.client.phase() == phase {
-            Ok(())
+            Ok(true)
         } else {
             Err(DriverError::TurnsOver)
         }
