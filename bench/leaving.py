@@ -3,11 +3,11 @@
 
 Two nodes with an account each and a client over a proxy run as processes. The client ends inside a block: by a fault in
 a line, at the end of its input, as a strict client, when its turns are over, while its link fails, or by a kill. After
-each of these a second client has to get the same handlers at once. A third client, which uses one handler, runs while the
-other node is down. It also runs the bank of `examples/` side by side, and
+each of these a second client has to get the same handlers at once. A `giveup` ends a reservation that waits, through a pipe
+and at a terminal. A third client, which uses one handler, runs while the other node is down. It also runs the bank of `examples/` side by side, and
 counts the round trips of a block. Prints a line for each, and ends with status 1 if one isn't as it should be.
 """
-import argparse, heapq, os, re, shutil, socket, subprocess, sys, tempfile, threading, time
+import argparse, heapq, os, pty, re, shutil, socket, subprocess, sys, tempfile, threading, time
 
 from ports import free_ports
 
@@ -98,12 +98,12 @@ class System:
         node.stdout.readline()
         return node
 
-    def client(self, number, *words):
+    def client(self, number, *words, stdin=subprocess.PIPE):
         store = os.path.join(self.folder, f"client-{number}.db")
         how = "--store" if os.path.exists(store) else "--new"
         file = self.seen if number == 7 else self.file
         words = [self.program, "client", str(number), "--system", file, how, store, *words]
-        return subprocess.Popen(words, stdin=subprocess.PIPE, stdout=subprocess.PIPE, stderr=subprocess.PIPE, text=True)
+        return subprocess.Popen(words, stdin=stdin, stdout=subprocess.PIPE, stderr=subprocess.PIPE, text=True)
 
     def runs(self, number, lines, *words):
         """The client's status, what it printed, and its notes."""
@@ -240,6 +240,49 @@ def give_up(system):
     return "given up"
 
 
+def give_up_at(system, stdin, tell):
+    """Client 7 waits for handler 2, gives up, and goes on. Its other lines are obeyed."""
+    system.proxy.loses = losing(LOCK, 2, 100_000)
+    client = system.client(7, stdin=stdin)
+    tell(client, "reserve 1 2\n")
+    time.sleep(0.5)
+    start = time.monotonic()
+    tell(client, "giveup\n")
+    assert client.stdout.readline() == "given up\n"
+    took = time.monotonic() - start
+    tell(client, "reserve 1\nquery 1 balance\nend\nreserve 1 2\n")
+    for wanted in ["reserved", "answer 100", "ended"]:
+        told = client.stdout.readline()
+        assert told.startswith(wanted), told
+    # the next line isn't giveup, so the reservation goes on
+    tell(client, "query 2 balance\nend\n")
+    time.sleep(0.3)
+    system.proxy.loses = lambda kind, handler: False
+    for wanted in ["reserved", "answer 100", "ended"]:
+        told = client.stdout.readline()
+        assert told.startswith(wanted), told
+    tell(client, "quit\n")
+    assert client.wait(5) == 0, client.stderr.read()
+    assert took < 1, took
+    return f"given up after {1000 * took:.0f} ms"
+
+
+def give_up_through_a_pipe(system):
+    def tell(client, line):
+        client.stdin.write(line)
+        client.stdin.flush()
+    return give_up_at(system, subprocess.PIPE, tell)
+
+
+def give_up_at_a_terminal(system):
+    ours, theirs = pty.openpty()
+    try:
+        return give_up_at(system, theirs, lambda client, line: os.write(ours, line.encode()))
+    finally:
+        os.close(ours)
+        os.close(theirs)
+
+
 def other_node_down(system):
     """A client of handler 1 starts and runs while the node of handler 2 is down. A script of it that names handler 2 has a fault."""
     system.nodes[1].kill()
@@ -276,7 +319,8 @@ def round_trips(system):
 
 
 WAYS = [fault_in_a_line, end_of_the_input, strict, turns_over_locking, turns_over_opening, turns_over_logging,
-        link_that_fails, handler_that_is_silent, kill, script_with_faults, give_up, other_node_down, round_trips]
+        link_that_fails, handler_that_is_silent, kill, script_with_faults, give_up, give_up_through_a_pipe,
+        give_up_at_a_terminal, other_node_down, round_trips]
 
 
 def tries(program, way):

@@ -5,7 +5,7 @@ ghost use Rattle.scoop_message.specs.declared.limits.TheConstants.{MAX_BLOCK_HAN
 ghost use Rattle.scoop_client.specs.Due.{due};
 ghost use Rattle.scoop_client.specs.State.{phase_of};
 ghost use Rattle.scoop_client.specs.declared.command.Command.TheVariants.{Reserve, Call as DoCall, End as DoEnd, GiveUp as DoGiveUp};
-ghost use Rattle.scoop_client.specs.declared.phase.Phase.TheVariants.{Idle as AtIdle};
+ghost use Rattle.scoop_client.specs.declared.phase.Phase.TheVariants.{Idle as AtIdle, Locking as AtLocking};
 ghost use Rattle.scoop_driver.specs.State.{state_of};
 ghost use Rattle.scoop_driver.specs.Turning.{TakesTurn};
 ghost use Rattle.scoop_driver.specs.Calls.{Called, Interrupted, Queried, RunsNext};
@@ -135,8 +135,9 @@ impl<L: Link, D: Diary<A>, A: Allocator + Clone> Driver<L, D, A> {
     }
 
     /// Begins a block over these handlers, and takes turns until it runs or the interrupt ends the wait. The interrupt
-    /// is asked after each turn in which no frame came. Returns whether the block runs. Refused as `reserve`. After
-    /// `Ok(false)` the block may go on by further turns, or be given up.
+    /// is asked after each turn in which no frame came, while a handler isn't locked. Returns whether the block runs.
+    /// Refused as `reserve`. After `Ok(false)` a handler isn't locked: the block may go on by further turns, or be
+    /// given up.
     pub fn reserve_unless<I: Interrupt>(
         &mut self,
         handlers: &[HandlerId],
@@ -145,6 +146,7 @@ impl<L: Link, D: Diary<A>, A: Allocator + Clone> Driver<L, D, A> {
         ensures does { Called (Reserve handlers.now) self.old.turns result self.old.seen self.new.seen }
         ensures runs { result ≡ Ok true → RunsNext self.old.seen.client self.new.seen.client }
         ensures stopped { result ≡ Ok false → Interrupted I.stops interrupt.new }
+        ensures waits { result ≡ Ok false → phase_of self.new.seen.client ≡ AtLocking }
         ensures turns { self.new.turns ≡ self.old.turns }
     {
         let turns = self.turns;

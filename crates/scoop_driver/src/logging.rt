@@ -2,6 +2,8 @@
 
 ghost use Rattle.std.specs.Prelude.{◌≡◌, ◌⊎◌, Ok, false};
 ghost use Rattle.scoop_client.specs.Commands.{IsReserve};
+ghost use Rattle.scoop_client.specs.State.{phase_of};
+ghost use Rattle.scoop_client.specs.declared.phase.Phase.TheVariants.{Locking as AtLocking};
 ghost use Rattle.scoop_driver.specs.Calls.{Interrupted};
 ghost use Rattle.scoop_driver.specs.Parts.{Gives, Given, Offered, Reached, Logged, Answered, IsAcceptedFrom};
 
@@ -99,7 +101,7 @@ impl<L: Link, D: Diary<A>, A: Allocator + Clone> Driver<L, D, A> {
 }
 
 impl<L: Link, D: Diary<A>, A: Allocator> Driver<L, D, A> {
-    // Takes turns until the client is at this phase or the interrupt ends the wait. Returns whether it is there.
+    // Takes turns until the client is at this phase or the interrupt ends its wait for a lock. Returns whether it is there.
     pub(crate) fn turns_until<I: Interrupt>(
         &mut self,
         phase: Phase,
@@ -108,6 +110,7 @@ impl<L: Link, D: Diary<A>, A: Allocator> Driver<L, D, A> {
     ) -> Result<bool, DriverError>
         ensures does { Reached phase turns result self.old.seen self.new.seen }
         ensures stopped { result ≡ Ok false → Interrupted I.stops interrupt.new }
+        ensures waits { result ≡ Ok false → phase_of self.new.seen.client ≡ AtLocking }
         ensures turns { self.new.turns ≡ self.old.turns }
         ensures memory { result ≡ Err (DriverError.Client ClientError.OutOfMemory) → D.wants_memory }
     {
@@ -119,7 +122,7 @@ impl<L: Link, D: Diary<A>, A: Allocator> Driver<L, D, A> {
                 Ok(note) => note,
                 Err(error) => return Err(error),
             };
-            if note.is_none() && interrupt.stops() {
+            if note.is_none() && self.client.phase() == Phase::Locking && interrupt.stops() {
                 return Ok(false);
             }
         }

@@ -5,6 +5,7 @@ mod calls;
 mod diaries;
 mod examples;
 mod growths;
+mod interrupts;
 mod node;
 mod turns;
 mod waits;

@@ -2,6 +2,7 @@
 
 use crate::ending::{End, Party, report_end, report_plainly, report_range};
 use crate::journaling::{open_journal, with_journal};
+use crate::keyboard::Keyboard;
 use crate::keys::read_key;
 use crate::owning::{check_owner, note_owner};
 use crate::stores::open_client_store;
@@ -17,7 +18,8 @@ use scoop_message::{ClientId, OutOfMemory};
 use scoop_pacing::{MeasuredLink, SlowNotes, SystemTimes};
 use scoop_report::{Hints, Status, hint, report};
 use scoop_runtime::{
-    Backoff, ClientPlan, FileFault, check_script, client_cut, client_run, open_client_link,
+    Backoff, ClientPlan, FileFault, Interrupt, check_script, client_cut, client_run,
+    open_client_link,
 };
 use scoop_seal::{Key, SealedLink};
 use scoop_system::System;
@@ -164,14 +166,18 @@ fn run_at<T: Net>(
 ) -> Result<(), End> {
     let link = open_client_link(net, rt.alloc(), plan.system(), &plan.place())?;
     match key {
-        Some(key) => run_measured(rt, store, plan, journal, SealedLink::new(link, key), task),
-        None => run_measured(rt, store, plan, journal, link, task),
+        Some(key) => {
+            let link = SealedLink::new(link, key);
+            run_measured(rt, net, store, plan, journal, link, task)
+        }
+        None => run_measured(rt, net, store, plan, journal, link, task),
     }
 }
 
 // Runs the client over this link, whose round trips decide when a datagram goes again.
-fn run_measured<L: Link>(
+fn run_measured<L: Link, T: Net>(
     rt: &HostRuntime,
+    net: &T,
     store: StoreChoice<'_>,
     plan: &ClientPlan<'_>,
     journal: Option<&JournalFile>,
@@ -182,12 +188,13 @@ fn run_measured<L: Link>(
     let client = plan.place().client;
     let clock = SystemTimes::new(rt);
     let link = MeasuredLink::new(rt.alloc(), link, clock, handlers, client.0)?;
-    run_stored(rt, store, plan, journal, link, task)
+    run_stored(rt, net, store, plan, journal, link, task)
 }
 
 // Runs the client over the store of this choice, and closes it.
-fn run_stored<L: Link>(
+fn run_stored<L: Link, T: Net>(
     rt: &HostRuntime,
+    net: &T,
     choice: StoreChoice<'_>,
     plan: &ClientPlan<'_>,
     journal: Option<&JournalFile>,
@@ -195,7 +202,7 @@ fn run_stored<L: Link>(
     task: Task<'_>,
 ) -> Result<(), End> {
     let mut store = open_client_store(rt, choice, plan.place().client)?;
-    let ran = run_over(rt, choice, plan, &mut store, journal, link, task);
+    let ran = run_over(rt, net, choice, plan, &mut store, journal, link, task);
     let closed = close(store);
     ran?;
     Ok(closed?)
@@ -203,8 +210,9 @@ fn run_stored<L: Link>(
 
 // Runs the client over this store and this link. Its store knows its owner from then on. A function that names the files' type
 // does one thing alone: the prover takes too many steps at more.
-fn run_over<K: Keeper<Global>, L: Link>(
+fn run_over<K: Keeper<Global>, L: Link, T: Net>(
     rt: &HostRuntime,
+    net: &T,
     choice: StoreChoice<'_>,
     plan: &ClientPlan<'_>,
     store: &mut K,
@@ -219,14 +227,10 @@ fn run_over<K: Keeper<Global>, L: Link>(
         Owner::Client(plan.place().client),
     );
     match task {
-        Task::Input => run_lines(
-            rt,
-            plan,
-            store,
-            journal,
-            link,
-            &mut TypedLines::new(rt.reader()),
-        ),
+        Task::Input => {
+            let mut lines = Keyboard::new(rt, net, plan.system());
+            run_lines(rt, plan, store, journal, link, &mut lines)
+        }
         Task::Script(text) => {
             let mut lines = TypedLines::new(text.as_bytes());
             run_lines(rt, plan, store, journal, link, &mut lines)
@@ -241,7 +245,7 @@ fn slow_notes(rt: &HostRuntime) -> SlowNotes<Stderr, SystemTimes<'_, HostRuntime
 }
 
 // Runs the client with these lines.
-fn run_lines<K: Keeper<Global>, L: Link, I: LineSource>(
+fn run_lines<K: Keeper<Global>, L: Link, I: LineSource + Interrupt>(
     rt: &HostRuntime,
     plan: &ClientPlan<'_>,
     store: &mut K,

@@ -2,7 +2,7 @@
 
 use crate::ending::End;
 use crate::host::Host;
-use crate::typed_lines::TypedLines;
+use crate::keyboard::Keyboard;
 use scoop_journal::{Journal, JournalFile};
 use scoop_keeper::Keeper;
 use scoop_link::UdpLink;
@@ -19,22 +19,24 @@ use std::{io, thread};
 
 // A client with its record and its link, before it runs.
 #[derive(Drop)]
-struct Asking<'a, 'p, 'k, K: Keeper<Global>> {
+struct Asking<'a, 'p, 'k, K: Keeper<Global>, T: Net> {
     rt: &'a HostRuntime,
+    net: &'a T,
     plan: &'a ClientPlan<'p>,
     keeper: &'k mut K,
     link: UdpLink,
 }
 
-impl<'a, 'p, 'k, K: Keeper<Global>> Asking<'a, 'p, 'k, K> {
+impl<'a, 'p, 'k, K: Keeper<Global>, T: Net> Asking<'a, 'p, 'k, K, T> {
     fn run(self) -> Result<(), End> {
         let Asking {
             rt,
+            net,
             plan,
             keeper,
             link,
         } = self;
-        ask(rt, plan, keeper, link)
+        ask(rt, net, plan, keeper, link)
     }
 }
 
@@ -55,6 +57,7 @@ where
     let ending = Ending::new();
     let asking = Asking {
         rt,
+        net: threads,
         plan,
         keeper,
         link,
@@ -69,7 +72,7 @@ fn host_beside<K, T>(
     notes: Stderr,
     mut hosts: Vec<Host<K>>,
     ending: &Ending,
-    asking: Asking<'_, '_, '_, K>,
+    asking: Asking<'_, '_, '_, K, T>,
 ) -> (Vec<Host<K>>, Result<(), End>)
 where
     K: Keeper<Global> + Send,
@@ -100,8 +103,9 @@ fn report_no_thread(rt: &HostRuntime) {
 }
 
 // Runs the client with the lines of standard input.
-fn ask<K: Keeper<Global>>(
+fn ask<K: Keeper<Global>, T: Net>(
     rt: &HostRuntime,
+    net: &T,
     plan: &ClientPlan<'_>,
     keeper: &mut K,
     link: UdpLink,
@@ -114,7 +118,7 @@ fn ask<K: Keeper<Global>>(
         keeper,
         link,
         None::<Journal<&JournalFile>>,
-        &mut TypedLines::new(rt.reader()),
+        &mut Keyboard::new(rt, net, plan.system()),
         rt.stderr(),
         rt.stderr(),
         &mut Backoff::new(rt, plan.place().client),

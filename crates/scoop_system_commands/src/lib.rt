@@ -11,6 +11,7 @@ mod folder;
 mod host;
 mod joining;
 mod journaling;
+mod keyboard;
 mod keys;
 mod owning;
 mod serving;

@@ -1,6 +1,9 @@
-//! The lines of standard input, for a client.
+//! The lines of a client's input.
+
+ghost use Rattle.std.specs.Prelude.{⊤};
 
 use scoop_lines::{LineBytes, LineSource, Lines, LinesError, SourceError, SourceFault};
+use scoop_runtime::Interrupt;
 use std::io;
 use std::io::Read;
 
@@ -38,5 +41,14 @@ impl<R: Read + Drop> LineSource for TypedLines<R> {
             Ok(false) => Ok(None),
             Err(error) => Err(told(error, self.lines.number())),
         }
+    }
+}
+
+// The lines of a script stand there from the beginning, so that none of them ends a reservation early.
+impl<R: Read> Interrupt for TypedLines<R> {
+    ghost stops = { λ _ _ _. ⊤ };
+
+    fn stops(&mut self) -> bool {
+        false
     }
 }

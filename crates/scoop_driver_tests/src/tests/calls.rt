@@ -85,7 +85,7 @@ fn a_full_window_without_turns_is_reported(rt: HostRuntime) {
 }
 
 /// A node whose handler a block of client 8 has locked.
-fn busy(rt: &impl Abort, alloc: Global) -> Node {
+pub fn busy(rt: &impl Abort, alloc: Global) -> Node {
     let mut node = Node::new(rt, alloc);
     let other = Block {
         client: ClientId(8),

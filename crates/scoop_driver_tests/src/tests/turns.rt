@@ -116,7 +116,7 @@ fn answers(node: &mut Node, end: &mut ScriptLink) {
 }
 
 /// Takes turns, each answered by the node, up to this note. Returns the number of those that failed.
-fn turns_up_to(
+pub fn turns_up_to(
     rt: &impl Abort,
     driver: &mut Driver<ScriptLink>,
     node: &mut Node,
