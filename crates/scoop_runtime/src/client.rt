@@ -14,7 +14,7 @@ use crate::plan::ClientPlan;
 use crate::trying::Between;
 use arrayvec::ArrayVec;
 use scoop_client::{BeginError, Client};
-use scoop_driver::Pause;
+use scoop_driver::{Interrupt, Pause};
 use scoop_errors::PartyError;
 use scoop_journal::{Journal, Line};
 use scoop_keeper::{Keeper, KeeperError};
@@ -130,13 +130,14 @@ enum Next {
 }
 
 // Does what the line of this number asks, and writes the reply to it.
-fn read_and_obey<L: Link, J: Write + Drop, P: Pause, W: Write, N: Write>(
+fn read_and_obey<L: Link, J: Write + Drop, P: Pause, I: Interrupt, W: Write, N: Write>(
     plan: &ClientPlan<'_>,
     session: &mut Session<'_, L, J>,
     line: &LineBytes,
     number: u32,
     progress: &mut Progress,
     pause: &mut P,
+    interrupt: &mut I,
     writer: &mut W,
     notes: &mut N,
 ) -> Result<Next, RuntimeError>
@@ -147,7 +148,7 @@ fn read_and_obey<L: Link, J: Write + Drop, P: Pause, W: Write, N: Write>(
             Some(handler) => refuse_line(plan, RuntimeError::NotUsed(number, handler), notes),
             None => {
                 progress.has_begun = true;
-                obey_line(plan, session, &asked, pause, writer, notes)
+                obey_line(plan, session, &asked, pause, interrupt, writer, notes)
             }
         },
         Err(fault) if plan.is_typed() => {
@@ -172,8 +173,8 @@ fn refuse_line<N: Write>(
 }
 
 // Does what each line of the input asks, writes one reply for each, and records the progress. Returns the lines that were
-// refused.
-fn obey_lines<L: Link, J: Write + Drop, I: LineSource, P: Pause, W: Write, N: Write>(
+// refused. The input itself is the interrupt of a line that it has given.
+fn obey_lines<L: Link, J: Write + Drop, I: LineSource + Interrupt, P: Pause, W: Write, N: Write>(
     plan: &ClientPlan<'_>,
     session: &mut Session<'_, L, J>,
     lines: &mut I,
@@ -192,7 +193,9 @@ fn obey_lines<L: Link, J: Write + Drop, I: LineSource, P: Pause, W: Write, N: Wr
             Ok(None) => break,
             Err(error) => return Err(RuntimeError::Input(error)),
         };
-        let obeyed = read_and_obey(plan, session, &line, number, progress, pause, writer, notes);
+        let obeyed = read_and_obey(
+            plan, session, &line, number, progress, pause, lines, writer, notes,
+        );
         let next = match obeyed {
             Ok(next) => next,
             Err(error) => return Err(error),
@@ -212,17 +215,22 @@ fn obey_lines<L: Link, J: Write + Drop, I: LineSource, P: Pause, W: Write, N: Wr
 }
 
 // Does what a line asks. There is no reply if the journal doesn't have all that it rests on.
-fn obey<L: Link, J: Write + Drop, P: Pause, N: Write>(
+fn obey<L: Link, J: Write + Drop, P: Pause, I: Interrupt, N: Write>(
     plan: &ClientPlan<'_>,
     session: &mut Session<'_, L, J>,
     line: &ClientLine,
     pause: &mut P,
+    interrupt: &mut I,
     notes: &mut N,
 ) -> Result<Option<Reply>, RuntimeError>
     ensures written { OnOk result (session.new.driver.diary.failure ≡ None) }
     ensures drives { Drives session.old.driver.seen session.new.driver.seen }
 {
-    let obeyed = session.obey(line, &mut Between::new(pause, notes, plan.is_typed()));
+    let obeyed = session.obey(
+        line,
+        &mut Between::new(pause, notes, plan.is_typed()),
+        interrupt,
+    );
     if let Some(unwritten) = session.unwritten() {
         return Err(unwritten);
     }
@@ -233,11 +241,12 @@ fn obey<L: Link, J: Write + Drop, P: Pause, N: Write>(
 }
 
 // Does what a line asks and writes the reply.
-fn obey_line<L: Link, J: Write + Drop, P: Pause, W: Write, N: Write>(
+fn obey_line<L: Link, J: Write + Drop, P: Pause, I: Interrupt, W: Write, N: Write>(
     plan: &ClientPlan<'_>,
     session: &mut Session<'_, L, J>,
     line: &ClientLine,
     pause: &mut P,
+    interrupt: &mut I,
     writer: &mut W,
     notes: &mut N,
 ) -> Result<Next, RuntimeError>
@@ -248,7 +257,7 @@ fn obey_line<L: Link, J: Write + Drop, P: Pause, W: Write, N: Write>(
         ClientLine::Quit => return Ok(Next::End),
         _ => {}
     }
-    let replied = match obey(plan, session, line, pause, notes) {
+    let replied = match obey(plan, session, line, pause, interrupt, notes) {
         Ok(replied) => replied,
         Err(error) => return Err(error),
     };
@@ -268,7 +277,7 @@ fn obey_line<L: Link, J: Write + Drop, P: Pause, W: Write, N: Write>(
 
 // Greets, and does what the lines ask. Borrows the session, so that no early return has to drop it.
 #[tactic(auto, using(crate::proofs::Names::drives_turned))]
-fn run_session<L: Link, J: Write + Drop, I: LineSource, P: Pause, W: Write, N: Write>(
+fn run_session<L: Link, J: Write + Drop, I: LineSource + Interrupt, P: Pause, W: Write, N: Write>(
     plan: &ClientPlan<'_>,
     session: &mut Session<'_, L, J>,
     known: &[HandlerId],
@@ -301,7 +310,7 @@ fn run_session<L: Link, J: Write + Drop, I: LineSource, P: Pause, W: Write, N: W
 }
 
 // Runs the client over its link, and gives its locks back at its end. Returns how it ended, and what it left.
-fn run_life<L: Link, J: Write + Drop, I: LineSource, P: Pause, W: Write, N: Write>(
+fn run_life<L: Link, J: Write + Drop, I: LineSource + Interrupt, P: Pause, W: Write, N: Write>(
     alloc: Global,
     plan: &ClientPlan<'_>,
     client: Client,
@@ -369,7 +378,7 @@ where
     K: Keeper<Global>,
     L: Link,
     J: Write + Drop,
-    I: LineSource,
+    I: LineSource + Interrupt,
     P: Pause,
     W: Write,
     N: Write,
@@ -409,7 +418,7 @@ where
     K: Keeper<Global>,
     L: Link,
     J: Write + Drop,
-    I: LineSource,
+    I: LineSource + Interrupt,
     E: Write + Drop,
     P: Pause,
     W: Write,
@@ -447,6 +456,9 @@ where
 /// it. Repeated datagrams are rate-limited. When nothing new comes for a second, the client writes to `waits` which handlers it
 /// waits for. A call of the link that fails is written to `faults`; only the thousandth in a row ends the client. Between
 /// the tries of a waiting block it pauses with `pause`.
+///
+/// While a `reserve` waits for its locks, the input is asked whether its next line is `giveup` ([`Interrupt`]). Then the
+/// locks are given back, and `given up` is the reply to both lines. The input doesn't give that `giveup` again.
 ///
 /// At its end the client leaves no block behind. It gives up a block whose handlers aren't all locked, and writes
 /// `given up 7.1.1`. It cuts every other unended block by greeting the block's handlers with its next incarnation, and writes
@@ -486,7 +498,7 @@ where
     K: Keeper<Global>,
     L: Link,
     J: Write + Drop,
-    I: LineSource,
+    I: LineSource + Interrupt,
     E: Write + Drop,
     P: Pause,
     W: Write,

@@ -5,6 +5,7 @@ mod deaf_link;
 mod deals;
 mod emptied_keeper;
 mod ends;
+mod giving_up;
 mod going_on;
 mod leaving;
 mod lossy_link;
@@ -18,7 +19,7 @@ mod storm;
 mod systems;
 mod text_lines;
 
-use scoop_driver::NoPause;
+use scoop_driver::{Interrupt, NoPause};
 use scoop_journal::Journal;
 use scoop_keeper::{Keeper, MemoryKeeper};
 use scoop_lines::LineSource;
@@ -121,7 +122,7 @@ fn ask<L: Link>(
 }
 
 /// Runs a client with the lines of this source, over this link.
-fn ask_lines<L: Link, I: LineSource>(
+fn ask_lines<L: Link, I: LineSource + Interrupt>(
     alloc: Global,
     system: &System,
     number: u32,
@@ -139,7 +140,7 @@ fn ask_lines<L: Link, I: LineSource>(
 }
 
 /// Runs the client of this plan with the lines of this source, over this link.
-fn ask_planned<L: Link, I: LineSource>(
+fn ask_planned<L: Link, I: LineSource + Interrupt>(
     alloc: Global,
     plan: &ClientPlan<'_>,
     keeper: &mut MemoryKeeper,

@@ -1,5 +1,5 @@
 -- Each line of a client takes steps of its driver, whatever its outcome.
-use Rattle.std.proofs.Common.{◌≡◌, ℕ, List, [], ◌++◌, Option, Some, None, Result, Ok, Err, inl, inr, sym, subst}
+use Rattle.std.proofs.Common.{◌≡◌, ℕ, Bool, false, List, [], ◌++◌, Option, Some, None, Result, Ok, Err, inl, inr, sym, subst}
 use Rattle.std.specs.Prelude.{OnOk}
 use Rattle.scoop_message.specs.declared.name.HandlerId.{HandlerId}
 use Rattle.scoop_message.specs.declared.request.Answer.{Answer}
@@ -17,7 +17,7 @@ use Rattle.scoop_system.specs.declared.line.ClientLine.TheVariants as line
 use Rattle.scoop_texts.specs.declared.reply.Reply.{Reply}
 use Rattle.scoop_texts.specs.declared.reply.Reply.TheVariants.{Reserved, Logged, Answered, Ended, Noted, EndedAt, GivenUp}
 use Rattle.scoop_session.specs.declared.wish.Wish.{Wish}
-use Rattle.scoop_session.specs.Obeying.{CallDoes, Does, DoesInside, DoesOutside, Drives, EndDoes, GaveUp, GiveUpDoes, GivesUp, Obeys, QueryDoes, ReserveDoes}
+use Rattle.scoop_session.specs.Obeying.{BeganAndGaveUp, CallDoes, Does, DoesInside, DoesOutside, Drives, EndDoes, GaveUp, GiveUpDoes, GivesUp, Obeys, QueryDoes, ReserveDoes}
 use Rattle.scoop_session.specs.Obeying.{RunsBlock, TakesTurnsOnly, TryDoes, WhenDoes}
 
 pub drives_nothing : (s : Seen) → Drives s s
@@ -64,8 +64,24 @@ drives_gave_up (Err e) s t drives = drives
 
 -- ---- outside a block that waits for its condition
 
+-- a block whose wait was ended, and that is then given up
+pub begun_then : (hs : List HandlerId) (turns : ℕ) (b : Bool) (o : Result Reply DriverError) (s t u : Seen) → b ≡ false
+    → Called {T = Bool} (DoReserve hs) turns (Ok b) s t → GiveUpDoes o t u → ReserveDoes hs turns o s u
+begun_then hs turns b (Ok GivenUp) s t u is begins gave = record {
+  begun = t;
+  begins = subst (λ c. Called {T = Bool} (DoReserve hs) turns (Ok c) s t) is begins;
+  gave_up = gave;
+}
+begun_then hs turns b (Err e) s t u is begins drives = drives_both s t u (drives_called {T = Bool} (DoReserve hs) turns (Ok b) s t begins) drives
+begun_then hs turns b (Ok reply) s t u is begins gave = absurd gave
+
+drives_begun : (hs : List HandlerId) (turns : ℕ) (s t : Seen) → BeganAndGaveUp hs turns s t → Drives s t
+drives_begun hs turns s t did =
+    drives_both s did.begun t (drives_called {T = Bool} (DoReserve hs) turns (Ok false) s did.begun did.begins) (drives_given did.begun t did.gave_up)
+
 drives_reserve : (hs : List HandlerId) (turns : ℕ) (o : Result Reply DriverError) (s t : Seen) → ReserveDoes hs turns o s t → Drives s t
 drives_reserve hs turns (Ok (Reserved block)) s t does = drives_block hs turns s t does
+drives_reserve hs turns (Ok GivenUp) s t does = drives_begun hs turns s t does
 drives_reserve hs turns (Err e) s t does = does
 drives_reserve hs turns (Ok reply) s t does = absurd does
 

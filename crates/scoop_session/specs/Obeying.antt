@@ -47,12 +47,19 @@ pub record GaveUp (old new : Seen) : Type 0 where
   pub turned : TakesTurnsOnly given new
   pub idle : phase_of new.client ≡ Idle
 
+-- a block over these handlers was begun, its wait for a lock was ended, and it was given up
+pub record BeganAndGaveUp (hs : List HandlerId) (turns : ℕ) (old new : Seen) : Type 0 where
+  pub begun : Seen
+  pub begins : Called {T = Bool} (DoReserve hs) turns (Ok false) old begun
+  pub gave_up : GaveUp begun new
+
 abbrev pub GivesUp : Result (Unit {0}) DriverError → Seen → Seen → Type 0
 GivesUp (Ok u) old new = GaveUp old new
 GivesUp (Err e) old new = Drives old new
 
 abbrev pub ReserveDoes : List HandlerId → ℕ → Result Reply DriverError → Seen → Seen → Type 0
 ReserveDoes hs turns (Ok (Reserved block)) old new = RunsBlock hs turns old new
+ReserveDoes hs turns (Ok GivenUp) old new = BeganAndGaveUp hs turns old new
 ReserveDoes hs turns (Ok reply) old new = ⊥
 ReserveDoes hs turns (Err e) old new = Drives old new
 

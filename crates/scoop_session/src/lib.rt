@@ -7,7 +7,7 @@
 //! let mut session = Session::new(alloc, client, link, TURNS, &mut journal);
 //! session.greet(&known, TURNS)?;
 //! // of `reserve 1 2`: Some(Reply::Reserved(block))
-//! let replied = session.obey(&line, &mut pause)?;
+//! let replied = session.obey(&line, &mut pause, &mut NoInterrupt)?;
 //! let left = session.leave();
 //! ```
 #![tactic(auto)]

@@ -11,7 +11,7 @@ ghost use Rattle.scoop_session.specs.Unlocking.{is_unlock, owes_unlock};
 use crate::last_block::LastBlock;
 use crate::wish::Wish;
 use scoop_client::{Client, ClientError, Phase};
-use scoop_driver::{BodyEntry, Driver, DriverError, Pause};
+use scoop_driver::{BodyEntry, Driver, DriverError, Interrupt, Pause};
 use scoop_errors::PartyError;
 use scoop_journal::{AppendError, Journal};
 use scoop_link::Link;
@@ -178,11 +178,13 @@ impl<'j, L: Link, J: Write + Drop> Session<'j, L, J> {
     }
 
     /// Does what a line asks, and returns the reply to it; a line without words has none. A refusal of the client is a
-    /// reply too. Pauses between the tries of a waiting block. The errors are those after which the session can't go on.
-    pub fn obey<P: Pause>(
+    /// reply too. Pauses between the tries of a waiting block. A `reserve` that the interrupt ends gives its locks back, and
+    /// the reply is `GivenUp`. The errors are those after which the session can't go on.
+    pub fn obey<P: Pause, I: Interrupt>(
         &mut self,
         line: &ClientLine,
         pause: &mut P,
+        interrupt: &mut I,
     ) -> Result<Option<Reply>, DriverError>
         ensures replied { IfOk result (λ replied. IfSome replied (λ reply. Obeys line.now self.old.wish self.old.driver.turns (Ok reply) self.new.answers.items self.old.driver.seen self.new.driver.seen)) }
         ensures ended { IfErr result (λ e. Obeys line.now self.old.wish self.old.driver.turns (Err e) self.new.answers.items self.old.driver.seen self.new.driver.seen) }
@@ -193,19 +195,24 @@ impl<'j, L: Link, J: Write + Drop> Session<'j, L, J> {
         if is_quiet(line) {
             return Ok(None);
         }
-        match self.reply_to(line, pause) {
+        match self.reply_to(line, pause, interrupt) {
             Ok(reply) => Ok(Some(reply)),
             Err(error) => Err(error),
         }
     }
 
     // Does what a line asks, and returns the reply to what came of it.
-    fn reply_to<P: Pause>(&mut self, line: &ClientLine, pause: &mut P) -> Result<Reply, DriverError>
+    fn reply_to<P: Pause, I: Interrupt>(
+        &mut self,
+        line: &ClientLine,
+        pause: &mut P,
+        interrupt: &mut I,
+    ) -> Result<Reply, DriverError>
         ensures { Obeys line.now self.old.wish self.old.driver.turns result self.new.answers.items self.old.driver.seen self.new.driver.seen }
     {
         let outcome = match self.wish.take() {
             Some(wish) => self.obey_inside(wish, line, pause),
-            None => self.obey_outside(line),
+            None => self.obey_outside(line, interrupt),
         };
         match outcome {
             Ok(reply) => Ok(reply),
@@ -240,12 +247,16 @@ impl<'j, L: Link, J: Write + Drop> Session<'j, L, J> {
     }
 
     // Does what a line asks outside of such a block.
-    fn obey_outside(&mut self, line: &ClientLine) -> Result<Reply, DriverError>
+    fn obey_outside<I: Interrupt>(
+        &mut self,
+        line: &ClientLine,
+        interrupt: &mut I,
+    ) -> Result<Reply, DriverError>
         ensures { DoesOutside line.now self.old.driver.turns result self.old.driver.seen self.new.driver.seen }
     {
         match line {
             ClientLine::Blank | ClientLine::Help | ClientLine::Quit => Ok(Reply::Noted),
-            ClientLine::Reserve(handlers) => self.reserve(handlers),
+            ClientLine::Reserve(handlers) => self.reserve(handlers, interrupt),
             ClientLine::Call(handler, request) => self.call(*handler, *request),
             ClientLine::Query(handler, request) => self.query(*handler, *request),
             ClientLine::End => self.end(),
@@ -289,12 +300,18 @@ impl<'j, L: Link, J: Write + Drop> Session<'j, L, J> {
     }
 
     // Reserves the handlers, and gives their locks back before the reply, so that no other client waits for them until this
-    // client's next line. If the turns don't suffice, the later lines go on with it.
-    fn reserve(&mut self, handlers: &NamedHandlers) -> Result<Reply, DriverError>
+    // client's next line. If the turns don't suffice, the later lines go on with it. The interrupt may end the wait for the
+    // locks: then the block is given up.
+    fn reserve<I: Interrupt>(
+        &mut self,
+        handlers: &NamedHandlers,
+        interrupt: &mut I,
+    ) -> Result<Reply, DriverError>
         ensures { ReserveDoes handlers.now self.old.driver.turns result self.old.driver.seen self.new.driver.seen }
     {
-        match self.driver.reserve(handlers.as_slice()) {
-            Ok(()) => {}
+        match self.driver.reserve_unless(handlers.as_slice(), interrupt) {
+            Ok(true) => {}
+            Ok(false) => return self.give_back(),
             Err(error) => return Err(error),
         }
         let Some(block) = self.driver.diary().block() else {

@@ -1,7 +1,10 @@
 //! A client that pauses inside its block, and another one that wants the same handlers meanwhile.
 
+ghost use Rattle.std.specs.Prelude.{⊤};
+
 use super::text_lines::TextLines;
 use super::{Told, ask, ask_lines, client_link, node_link, serve, with_ports};
+use scoop_driver::Interrupt;
 use scoop_free_ports::free_ports;
 use scoop_keeper::MemoryKeeper;
 use scoop_lines::{LineBytes, LineSource, SourceError};
@@ -74,8 +77,16 @@ impl<'a> LineSource for PausingLines<'a> {
     }
 }
 
-// Serves the node over its link until it is asked to end.
-fn serve_node<R: Threads + Wait + Clock + Sync>(
+impl<'a> Interrupt for PausingLines<'a> {
+    ghost stops = { λ _ _ _. ⊤ };
+
+    fn stops(&mut self) -> bool {
+        false
+    }
+}
+
+/// Serves the node over its link until it is asked to end.
+pub fn serve_node<R: Threads + Wait + Clock + Sync>(
     rt: &R,
     alloc: Global,
     system: &System,

@@ -1,5 +1,8 @@
 //! The lines of a text.
 
+ghost use Rattle.std.specs.Prelude.{⊤};
+
+use scoop_driver::Interrupt;
 use scoop_lines::{LineBytes, LineSource, SourceError, SourceFault};
 
 /// The lines of a text, each of which fits.
@@ -47,5 +50,14 @@ impl<'a> LineSource for TextLines<'a> {
         }
         self.rest = b"";
         Ok(Some(self.taken))
+    }
+}
+
+// The lines stand there from the beginning, so none of them ends a wait.
+impl<'a> Interrupt for TextLines<'a> {
+    ghost stops = { λ _ _ _. ⊤ };
+
+    fn stops(&mut self) -> bool {
+        false
     }
 }
