@@ -9,7 +9,7 @@ use scoop_lines::{LineBytes, LineSource, SourceError};
 use scoop_runtime::Interrupt;
 use scoop_system::{ClientLine, System, read_line};
 use std::alloc::Global;
-use std::io::LockedStdin;
+use std::io::StdinLock;
 use std::net::Net;
 use std::os::fd::{AsRawFd, RawFd};
 use std::time::Duration;
@@ -67,7 +67,7 @@ struct Early {
 #[derive(Drop)]
 pub struct Keyboard<'a> {
     system: &'a System,
-    lines: TypedLines<LockedStdin>,
+    lines: TypedLines<StdinLock<'static>>,
     readiness: Option<Readiness>,
     early: Option<Early>,
 }
@@ -113,7 +113,9 @@ impl Interrupt for Keyboard<'_> {
         }
         let mut line = LineBytes::new();
         let came = self.lines.next_line(&mut line);
-        if matches!(came, Ok(Some(_))) && matches!(read_line(self.system, &line), Ok(ClientLine::GiveUp)) {
+        if matches!(came, Ok(Some(_)))
+            && matches!(read_line(self.system, &line), Ok(ClientLine::GiveUp))
+        {
             return true;
         }
         self.early = Some(Early { line, came });
