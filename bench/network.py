@@ -45,8 +45,7 @@ class Network:
 
     def start(self, what, number, file):
         words = [self.program, what, str(number), "--system", file] + self.options
-        if what == "client":
-            words += ["--new", os.path.join(self.folder, f"client-{number}.db")]
+        words += ["--new", os.path.join(self.folder, f"client-{number}.db")] if what == "client" else ["--volatile"]
         party = subprocess.Popen(words, stdin=subprocess.PIPE, stdout=subprocess.PIPE, stderr=subprocess.DEVNULL)
         if what == "client":
             # it has greeted once it answers, though there is nothing to end
@@ -75,9 +74,9 @@ def block(client):
     begun = time.perf_counter()
     client.stdin.write(b"reserve 1 2\ncall 1 set 1\ncall 2 set 1\nend\n")
     client.stdin.flush()
-    for _ in range(4):
+    for wanted in [b"reserved", b"logged", b"logged", b"ended"]:
         line = client.stdout.readline()
-        if not line.startswith(b"ok"):
+        if not line.startswith(wanted):
             sys.exit(f"a block failed: {line}")
     return time.perf_counter() - begun
 
