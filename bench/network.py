@@ -15,26 +15,26 @@ TOP = os.path.dirname(os.path.dirname(os.path.abspath(__file__)))
 FAR, NEAR = 11, 12
 
 
-def system_text(nodes, clients, head):
+def system_text(nodes, clients, head, batch):
     text = head
     for n, port in nodes.items():
         text += f'[[node]]\nnumber = {n}\naddress = "127.0.0.1:{port}"\n'
         text += f'[[handler]]\nnumber = {n}\nnode = {n}\nclass = "cell"\nwords = [0]\n'
     for c, port in clients.items():
-        text += f'[[client]]\nnumber = {c}\naddress = "127.0.0.1:{port}"\n'
+        text += f'[[client]]\nnumber = {c}\naddress = "127.0.0.1:{port}"\nbatch = {batch}\n'
     return text
 
 
 class Network:
     """Nodes and clients, of which the far one and the nodes reach each other through a proxy."""
 
-    def __init__(self, program, rtt, loss, head="", options=()):
+    def __init__(self, program, rtt, loss, head, batch, options):
         self.program, self.folder, self.options = program, tempfile.mkdtemp(prefix="network"), list(options)
         self.ports = p = free_ports(7)
         self.proxy = Proxy({p[4]: p[0], p[5]: p[1], p[6]: p[2]}, rtt, loss)
         self.proxy.start()
-        self.near = self.write("near", system_text({1: p[0], 2: p[1]}, {FAR: p[6], NEAR: p[3]}, head))
-        self.far = self.write("far", system_text({1: p[4], 2: p[5]}, {FAR: p[2], NEAR: p[3]}, head))
+        self.near = self.write("near", system_text({1: p[0], 2: p[1]}, {FAR: p[6], NEAR: p[3]}, head, batch))
+        self.far = self.write("far", system_text({1: p[4], 2: p[5]}, {FAR: p[2], NEAR: p[3]}, head, batch))
         self.nodes = [self.start("node", n, self.near) for n in (1, 2)]
 
     def write(self, name, text):
@@ -81,8 +81,8 @@ def block(client):
     return time.perf_counter() - begun
 
 
-def measure(program, rtt, loss, count, head, options):
-    network = Network(program, rtt, loss, head, options)
+def measure(program, rtt, loss, count, *words):
+    network = Network(program, rtt, loss, *words)
     client = network.start("client", FAR, network.far)
     time.sleep(0.3)
     before = network.counts()
@@ -96,9 +96,9 @@ def measure(program, rtt, loss, count, head, options):
     sys.stdout.flush()
 
 
-def beside(program, rtt, seconds, head, options):
+def beside(program, rtt, seconds, *words):
     """A client behind the proxy and one on the loopback, on the same handlers: the blocks that each gets."""
-    network = Network(program, rtt, 0, head, options)
+    network = Network(program, rtt, 0, *words)
     import threading
     counts = {}
 
@@ -124,6 +124,7 @@ def main():
     parser = argparse.ArgumentParser()
     parser.add_argument("--program", default=os.path.join(TOP, "crates/scoop/out/scoop"))
     parser.add_argument("--blocks", type=int, default=40)
+    parser.add_argument("--batch", type=int, default=4, help="the most calls that a client sends in one datagram")
     parser.add_argument("--head", default="", help="text at the head of the system's file, as its [system]")
     parser.add_argument("--key", help="the file of a key")
     parser.add_argument("--beside", type=float, metavar="SECONDS")
@@ -132,9 +133,9 @@ def main():
     program, options = os.path.abspath(given.program), ["--key", given.key] if given.key else []
     for case in given.cases:
         rtt, loss = (float(x) for x in case.split(":"))
-        measure(program, rtt, loss, given.blocks, given.head, options)
+        measure(program, rtt, loss, given.blocks, given.head, given.batch, options)
     if given.beside:
-        beside(program, 100, given.beside, given.head, options)
+        beside(program, 100, given.beside, given.head, given.batch, options)
 
 
 if __name__ == "__main__":

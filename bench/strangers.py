@@ -1,10 +1,10 @@
 #!/usr/bin/env python3
 """Tries what a system refuses: python3 bench/strangers.py --program PATH [--only NAME]
 
-A node with a cell, and a client, run as processes with a key that `scoop key` made. A proxy keeps the client's different datagrams.
-Each of them is sent to the node of another life, of another system with the same key, with a changed byte, and
-with a cut tag: the node has to refuse and count each. A node without a key has to drop the greetings of 64 invented
-clients. A key that others can read, and a store of another owner, have to be refused with advice, and stay as they are.
+A node with a cell, and a client, run as processes with a key that `scoop key` made. A proxy keeps the client's datagrams.
+Each of them is sent to the node of another life, of another system with the same key, with a changed byte, and with a cut
+tag: the node has to refuse and count each. A node without a key has to drop the greetings of 64 invented clients. A key
+that others can read, and a store of another owner, have to be refused with advice, and stay as they are.
 Prints a line for each case, and ends with status 1 if one isn't as it should be.
 """
 import argparse, hashlib, json, os, shutil, socket, struct, subprocess, sys, tempfile, time, urllib.request
@@ -64,11 +64,12 @@ class System:
                 s.sendto(data, ("127.0.0.1", self.node_port))
         time.sleep(0.3)
 
-    def asks(self, file, *words):
-        """The client runs its block over a new store."""
+    def asks(self, file, *words, store=None):
+        """The client runs its block, over a new store if this one isn't there."""
         self.count += 1
-        store = os.path.join(self.folder, f"client-{self.count}.db")
-        ran = self.run("client", str(CLIENT), "--system", file, "--new", store, *words, lines=LINES)
+        store = store or os.path.join(self.folder, f"client-{self.count}.db")
+        how = "--store" if os.path.exists(store) else "--new"
+        ran = self.run("client", str(CLIENT), "--system", file, how, store, *words, lines=LINES)
         assert ran.returncode == 0 and "answer 5" in ran.stdout, ran
         return ran
 
@@ -151,9 +152,9 @@ def owners(system):
     """A node's store under files that differ in one thing each, and without its text."""
     folder = os.path.join(system.folder, "stores")
     os.mkdir(folder)
-    store = os.path.join(folder, "node.db")
+    store, client = os.path.join(folder, "node.db"), os.path.join(system.folder, "client.db")
     system.serve(system.file(), "--new", store)
-    system.asks(system.file())
+    system.asks(system.file(), store=client)
     system.stop()
     before = sums(folder)
     cases = {
@@ -169,7 +170,7 @@ def owners(system):
         print(f"  {case}: {ran.stderr.splitlines()[-1]}", flush=True)
     os.remove(store + ".system")
     system.serve(system.file(), "--store", store)
-    system.asks(system.file())
+    system.asks(system.file(), store=client)
     system.party.kill()
     notes = system.party.communicate()[1]
     assert "it was missing" in notes, notes
