@@ -20,31 +20,40 @@ use Rattle.scoop_handler.specs.declared.note.Reason.TheVariants as why
 use Rattle.scoop_handler.specs.declared.ran.Ran.{Ran}
 use Rattle.scoop_packed.specs.Packed.{AreSized, IsSized, IsSizedMessage, answer_words, block_words, given_words, logged_words, long_words, message_words, note_words}
 use Rattle.scoop_packed.specs.Packed.{ran_words, request_words}
-use Rattle.scoop_packed.specs.Unpacked.{Read, answer_at, block_at, bounded, entries_at, given_at, handler_of_word, logged_at, long_at, longs_at, message_at, note_at}
-use Rattle.scoop_packed.specs.Unpacked.{ran_at, ran_of_parts, request_at, several_at, whole, word_at}
+use Rattle.scoop_packed.specs.Unpacked.{Read, answer_at, block_at, bounded, entries_at, given_at, logged_at, long_at, message_at, note_at}
+use Rattle.scoop_packed.specs.Unpacked.{ran_at, reads, request_at, whole, word_at}
 
 bounded_back : (limit n : ℕ) → n ≤ limit → bounded limit n ≡ n
 bounded_back limit n fits = grind (arith, nat_tests)
 
-longs_back : (xs : List ℕ) (ws : List ℕ) → longs_at (length xs) (flat_map long_words xs ++ ws) ≡ (xs, ws)
-longs_back [] ws = refl
-longs_back (x ∷ xs) ws = rw (mod-add-div' x (2 ^ 32), longs_back xs ws) refl
+-- values that are each read back are read back together
+reads_back : {X : Type 0} (read : List ℕ → Read X) (words : X → List ℕ) (xs : List X) (ws : List ℕ)
+    → AllByRecursion (λ x. (left : List ℕ) → read (words x ++ left) ≡ (x, left)) xs → reads read (length xs) (flat_map words xs ++ ws) ≡ (xs, ws)
+reads_back read words [] ws each = refl
+reads_back read words (x ∷ xs) ws each =
+    rw (append_assoc (words x) (flat_map words xs) ws, each.0 (flat_map words xs ++ ws), reads_back read words xs ws each.1) refl
+
+long_back : (x : ℕ) (ws : List ℕ) → long_at (long_words x ++ ws) ≡ (x, ws)
+long_back x ws = ap (λ (n : ℕ). (n, ws)) (mod-add-div' x (2 ^ 32))
+
+longs_each : (xs : List ℕ) → AllByRecursion (λ x. (ws : List ℕ) → long_at (long_words x ++ ws) ≡ (x, ws)) xs
+longs_each [] = tt
+longs_each (x ∷ xs) = (long_back x, longs_each xs)
 
 pub block_back : (b : Block) (ws : List ℕ) → block_at (block_words b ++ ws) ≡ (b, ws)
 block_back b ws = refl
 
 request_back : (r : Request) (ws : List ℕ) → r.op ≤ 65535 → length r.args ≤ MAX_ARGS → request_at (request_words r ++ ws) ≡ (r, ws)
-request_back r ws op args = rw (bounded_back 65535 r.op op, bounded_back MAX_ARGS (length r.args) args, longs_back r.args ws) refl
+request_back r ws op args = rw (bounded_back 65535 r.op op, bounded_back MAX_ARGS (length r.args) args, reads_back long_at long_words r.args ws (longs_each r.args)) refl
 
 logged_back : (e : LogEntry) (ws : List ℕ) → IsSized e → logged_at (logged_words e ++ ws) ≡ (e, ws)
 logged_back End ws s = refl
 logged_back (Call r) ws s = ap (λ (p : Read Request). (Call p.0, p.1)) (request_back r ws s.0 s.1)
 logged_back (Query r) ws s = ap (λ (p : Read Request). (Query p.0, p.1)) (request_back r ws s.0 s.1)
 
-several_back : (es : List LogEntry) (ws : List ℕ) → AllByRecursion IsSized es → several_at (length es) (flat_map logged_words es ++ ws) ≡ (es, ws)
-several_back [] ws s = refl
-several_back (e ∷ es) ws s =
-    rw (append_assoc (logged_words e) (flat_map logged_words es) ws, logged_back e (flat_map logged_words es ++ ws) s.0, several_back es ws s.1) refl
+logged_each : (es : List LogEntry) → AllByRecursion IsSized es → AllByRecursion (λ e. (ws : List ℕ) → logged_at (logged_words e ++ ws) ≡ (e, ws)) es
+logged_each [] s = tt
+logged_each (e ∷ es) s = ((λ ws. logged_back e ws s.0), logged_each es s.1)
 
 whole_back : (es : List LogEntry) → AreSized es → whole es ≡ es
 whole_back es s =
@@ -53,7 +62,7 @@ whole_back es s =
     rw (some, limit, s.end) refl
 
 entries_back : (es : List LogEntry) (ws : List ℕ) → AreSized es → entries_at ((length es ∷ flat_map logged_words es) ++ ws) ≡ (es, ws)
-entries_back es ws s = rw (bounded_back MAX_ENTRIES (length es) s.limit, several_back es ws s.each, whole_back es s) refl
+entries_back es ws s = rw (bounded_back MAX_ENTRIES (length es) s.limit, reads_back logged_at logged_words es ws (logged_each es s.each), whole_back es s) refl
 
 answer_back : (a : Answer) (ws : List ℕ) → (let k = word_at (answer_words a ++ ws) in answer_at k.0 k.1) ≡ (a, ws)
 answer_back Refused ws = refl

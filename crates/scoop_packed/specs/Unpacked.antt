@@ -1,7 +1,6 @@
 -- How words are read back. A reader returns a value and the words that are left. Past the end it reads 0.
 use Rattle.std.specs.Prelude.{ℕ, zero, suc, ◌+◌, ◌*◌, ◌^◌, ◌==◌, ◌&&◌, nat_lt, nat_le, if◌then◌else◌, List, [], ◌∷◌, length, Option, Some, None}
 use Rattle.scoop_message.specs.declared.limits.TheConstants.{MAX_ARGS, MAX_ENTRIES}
-use Rattle.scoop_message.specs.declared.name.ClientId.{ClientId}
 use Rattle.scoop_message.specs.declared.name.HandlerId.{HandlerId}
 use Rattle.scoop_message.specs.declared.name.Block.{Block}
 use Rattle.scoop_message.specs.declared.request.Request.{Request}
@@ -24,6 +23,11 @@ abbrev pub word_at : List ℕ → Read ℕ
 word_at [] = (0, [])
 word_at (w ∷ ws) = (w, ws)
 
+-- that many values, one after another
+abbrev pub reads : {X : Type 0} → (List ℕ → Read X) → ℕ → List ℕ → Read (List X)
+reads read zero ws = ([], ws)
+reads read (suc n) ws = let x = read ws in let xs = reads read n x.1 in (x.0 ∷ xs.0, xs.1)
+
 abbrev pub long_at : List ℕ → Read ℕ
 long_at ws = let low = word_at ws in let high = word_at low.1 in (low.0 + high.0 * 2 ^ 32, high.1)
 
@@ -37,16 +41,12 @@ block_of client inc num = record { client = record { 0 = client }; inc = inc; nu
 abbrev pub block_at : List ℕ → Read Block
 block_at ws = let c = word_at ws in let i = word_at c.1 in let k = word_at i.1 in (block_of c.0 i.0 k.0, k.1)
 
-abbrev pub longs_at : ℕ → List ℕ → Read (List ℕ)
-longs_at zero ws = ([], ws)
-longs_at (suc n) ws = let x = long_at ws in let xs = longs_at n x.1 in (x.0 ∷ xs.0, xs.1)
-
 abbrev pub request_of : ℕ → List ℕ → Request
 request_of op args = record { op = op; args = args }
 
 abbrev pub request_at : List ℕ → Read Request
 request_at ws =
-    let op = word_at ws in let count = word_at op.1 in let args = longs_at (bounded MAX_ARGS count.0) count.1 in
+    let op = word_at ws in let count = word_at op.1 in let args = reads long_at (bounded MAX_ARGS count.0) count.1 in
     (request_of (bounded 65535 op.0) args.0, args.1)
 
 abbrev pub logged_at : List ℕ → Read LogEntry
@@ -55,16 +55,12 @@ logged_at ws =
     if kind.0 == 0 then (End, kind.1)
     else (let r = request_at kind.1 in if kind.0 == 1 then (Call r.0, r.1) else (Query r.0, r.1))
 
-abbrev pub several_at : ℕ → List ℕ → Read (List LogEntry)
-several_at zero ws = ([], ws)
-several_at (suc n) ws = let e = logged_at ws in let es = several_at n e.1 in (e.0 ∷ es.0, es.1)
-
 -- the entries, or an End if they are those of no Log
 abbrev pub whole : List LogEntry → List LogEntry
 whole es = if nat_lt 0 (length es) && nat_le (length es) MAX_ENTRIES && end_only_last es then es else End ∷ []
 
 abbrev pub entries_at : List ℕ → Read (List LogEntry)
-entries_at ws = let count = word_at ws in let es = several_at (bounded MAX_ENTRIES count.0) count.1 in (whole es.0, es.1)
+entries_at ws = let count = word_at ws in let es = reads logged_at (bounded MAX_ENTRIES count.0) count.1 in (whole es.0, es.1)
 
 -- the answer of this kind
 abbrev pub answer_at : ℕ → List ℕ → Read Answer
@@ -92,10 +88,10 @@ message_at kind ws =
     let h = word_at ws in let b = block_at h.1 in
     if nat_lt kind 9 then (short_at kind (handler_of_word h.0) b.0, b.1)
     else (
-      let i = word_at b.1 in
-      if kind == 9 then (let es = entries_at i.1 in (m.Log (handler_of_word h.0) b.0 i.0 es.0, es.1))
-      else if kind == 10 then (m.Logged (handler_of_word h.0) b.0 i.0, i.1)
-      else (let k = word_at i.1 in let a = answer_at k.0 k.1 in (m.Answer (handler_of_word h.0) b.0 i.0 a.0, a.1))
+    let i = word_at b.1 in
+    if kind == 9 then (let es = entries_at i.1 in (m.Log (handler_of_word h.0) b.0 i.0 es.0, es.1))
+    else if kind == 10 then (m.Logged (handler_of_word h.0) b.0 i.0, i.1)
+    else (let k = word_at i.1 in let a = answer_at k.0 k.1 in (m.Answer (handler_of_word h.0) b.0 i.0 a.0, a.1))
     )
 
 -- a note that its kind determines

@@ -1,8 +1,9 @@
 //! Words of 32 bits, read back.
 
 ghost use Rattle.std.specs.Prelude.{◌≡◌, ◌≤◌, length};
-ghost use Rattle.scoop_packed.specs.Unpacked.{answer_at, block_at, bounded, entries_at, given_at, logged_at, long_at, longs_at, message_at, note_at};
-ghost use Rattle.scoop_packed.specs.Unpacked.{plain_note, ran_at, request_at, several_at, short_at, whole, word_at};
+ghost use Rattle.scoop_message.specs.declared.limits.TheConstants.{MAX_ARGS, MAX_ENTRIES};
+ghost use Rattle.scoop_packed.specs.Unpacked.{answer_at, block_at, bounded, entries_at, given_at, logged_at, long_at, message_at, note_at};
+ghost use Rattle.scoop_packed.specs.Unpacked.{plain_note, ran_at, reads, request_at, short_at, whole, word_at};
 
 use crate::writing::HALF;
 use scoop_handler::{Note, Ran, Reason};
@@ -80,34 +81,6 @@ fn plain_note(kind: u32) -> Note
     }
 }
 
-// Fills the numbers with what the words say.
-fn read_longs(words: &mut Reader<'_>, numbers: &mut [u64])
-    ensures numbers { numbers.new ≡ (longs_at (length numbers.old) words.old).0 }
-    ensures left { words.new ≡ (longs_at (length numbers.old) words.old).1 }
-{
-    match numbers {
-        [first, rest @ ..] => {
-            *first = words.long();
-            read_longs(words, rest);
-        }
-        [] => {}
-    }
-}
-
-// Fills the entries with what the words say.
-fn read_several(words: &mut Reader<'_>, entries: &mut [Entry])
-    ensures entries { entries.new ≡ (several_at (length entries.old) words.old).0 }
-    ensures left { words.new ≡ (several_at (length entries.old) words.old).1 }
-{
-    match entries {
-        [first, rest @ ..] => {
-            *first = words.logged();
-            read_several(words, rest);
-        }
-        [] => {}
-    }
-}
-
 impl<'a> Reader<'a> {
     /// A reader of these words.
     pub fn new(words: &'a [u32]) -> Reader<'a>
@@ -150,6 +123,19 @@ impl<'a> Reader<'a> {
         Block { client, inc, num }
     }
 
+    // That many arguments.
+    fn args(&mut self, count: usize) -> Args
+        requires { count ≤ MAX_ARGS }
+        ensures args { result ≡ (reads long_at count self.old).0 }
+        ensures left { self.new ≡ (reads long_at count self.old).1 }
+    {
+        let mut numbers = [0; MAX_ARGS];
+        for i in 0..count {
+            numbers[i] = self.long();
+        }
+        Args::of(&numbers[..count]).unwrap()
+    }
+
     fn request(&mut self) -> Request
         ensures request { result ≡ (request_at self.old).0 }
         ensures left { self.new ≡ (request_at self.old).1 }
@@ -157,9 +143,7 @@ impl<'a> Reader<'a> {
         let op = self.word();
         let count = self.word();
         let count = bounded(MAX_ARGS as u32, count) as usize;
-        let mut numbers = [0; MAX_ARGS];
-        read_longs(self, &mut numbers[..count]);
-        let args = Args::of(&numbers[..count]).unwrap();
+        let args = self.args(count);
         let op = bounded(65535, op) as u16;
         Request { op, args }
     }
@@ -180,15 +164,26 @@ impl<'a> Reader<'a> {
         }
     }
 
+    // That many entries.
+    fn several(&mut self, count: usize) -> Entries
+        requires { count ≤ MAX_ENTRIES }
+        ensures entries { result ≡ whole (reads logged_at count self.old).0 }
+        ensures left { self.new ≡ (reads logged_at count self.old).1 }
+    {
+        let mut cells = [Entry::End; MAX_ENTRIES];
+        for i in 0..count {
+            cells[i] = self.logged();
+        }
+        whole(&cells[..count])
+    }
+
     fn entries(&mut self) -> Entries
         ensures entries { result ≡ (entries_at self.old).0 }
         ensures left { self.new ≡ (entries_at self.old).1 }
     {
         let count = self.word();
         let count = bounded(MAX_ENTRIES as u32, count) as usize;
-        let mut cells = [Entry::End; MAX_ENTRIES];
-        read_several(self, &mut cells[..count]);
-        whole(&cells[..count])
+        self.several(count)
     }
 
     // The answer of this kind.
