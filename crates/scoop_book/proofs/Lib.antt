@@ -1,4 +1,5 @@
 pub mod Same
+pub mod Packed
 pub mod Places
 pub mod BookLemmas
 pub mod OpeningLemmas

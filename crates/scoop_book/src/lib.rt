@@ -28,6 +28,7 @@ mod closing;
 mod error;
 mod event;
 mod handlers;
+mod history;
 mod law;
 mod local;
 mod node;

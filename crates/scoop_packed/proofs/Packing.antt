@@ -27,7 +27,7 @@ bounded_back : (limit n : ℕ) → n ≤ limit → bounded limit n ≡ n
 bounded_back limit n fits = grind (arith, nat_tests)
 
 -- values that are each read back are read back together
-reads_back : {X : Type 0} (read : List ℕ → Read X) (words : X → List ℕ) (xs : List X) (ws : List ℕ)
+pub reads_back : {X : Type 0} (read : List ℕ → Read X) (words : X → List ℕ) (xs : List X) (ws : List ℕ)
     → AllByRecursion (λ x. (left : List ℕ) → read (words x ++ left) ≡ (x, left)) xs → reads read (length xs) (flat_map words xs ++ ws) ≡ (xs, ws)
 reads_back read words [] ws each = refl
 reads_back read words (x ∷ xs) ws each =
