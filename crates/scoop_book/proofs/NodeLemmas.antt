@@ -1,13 +1,14 @@
 -- One more event of a pass, one more entry of a node's book, and a node's last clauses.
-use Rattle.std.proofs.Common.{◌≡◌, ◌<◌, ℕ, List, [], ◌∷◌, ◌++◌, Option, Some, Result, Ok, Err, ap, sym, ◌∙◌, subst}
+use Rattle.std.proofs.Common.{◌≡◌, ◌<◌, ℕ, List, [], ◌∷◌, ◌++◌, Option, Some, Result, Ok, Err, map, ap, sym, ◌∙◌, subst}
 use Rattle.std.specs.Prelude.{◌↔◌, Bool, IsTrue, IfOk, IfErr}
 use Rattle.std.specs.List.{All}
+use Rattle.std.proofs.lemmas.List.{map-append}
 use Rattle.scoop_handler.specs.Running.{Task}
 use Rattle.scoop_keeper.specs.Keeper.{Stored}
 use Rattle.scoop_book.specs.declared.event.Event.{Event}
 use Rattle.scoop_book.specs.declared.event.Reply.{Reply}
 use Rattle.scoop_book.specs.declared.error.FinishRefusal.{FinishRefusal}
-use Rattle.scoop_book.specs.Moves.{LocalHandler, Entry, Replays}
+use Rattle.scoop_book.specs.Moves.{LocalHandler, Entry, Replays, moved}
 use Rattle.scoop_book.specs.Books.{BookValue, IsBook, IsSince, Gains, IsUnfinished}
 use Rattle.scoop_book.specs.Closing.{Agrees, Differs, FollowsOpening, IsClosed, IsComplete, IsEntered, WasSo}
 use Rattle.scoop_book.specs.Passes.{PassValue, pass_value, with_event}
@@ -30,15 +31,16 @@ pub if_unfinished : {T E K : Type 0} (has : K → ℕ → Stored → Type 0) (is
 if_unfinished has is_honest t cause old (Ok x) so sound = tt
 if_unfinished has is_honest t cause old (Err e) so sound = record { book = old; sound = sound; so = so }
 
-pub pass_gains : (number : ℕ) (opening : Option (List LocalHandler)) (xs ys zs : List (Event × Reply)) (event was : Event) (reply told : Reply) (p : PassValue)
-    → pass_value number opening xs ≡ p → zs ≡ ys ++ (was, told) ∷ [] → ys ≡ xs → was ≡ event → told ≡ reply
-    → pass_value number opening zs ≡ with_event event reply p
-pass_gains number opening xs ys zs event was reply told p view put items same_event same_reply =
+pub pass_gains : (number : ℕ) (opening : Option (List LocalHandler)) (xs ys zs : List Entry) (pass : ℕ) (event was : Event) (reply told : Reply) (p : PassValue)
+    → pass_value number opening (map moved xs) ≡ p → zs ≡ ys ++ (pass, was, told) ∷ [] → ys ≡ xs → was ≡ event → told ≡ reply
+    → pass_value number opening (map moved zs) ≡ with_event event reply p
+pass_gains number opening xs ys zs pass event was reply told p view put items same_event same_reply =
     ap (pass_value number opening)
-    (put
-    ∙ ap (λ (es : List (Event × Reply)). es ++ (was, told) ∷ []) items
-    ∙ ap (λ (e : Event). xs ++ (e, told) ∷ []) same_event
-    ∙ ap (λ (r : Reply). xs ++ (event, r) ∷ []) same_reply)
+    (ap (map moved) put
+    ∙ map-append moved ys ((pass, was, told) ∷ [])
+    ∙ ap (λ (es : List Entry). map moved es ++ (was, told) ∷ []) items
+    ∙ ap (λ (e : Event). map moved xs ++ (e, told) ∷ []) same_event
+    ∙ ap (λ (r : Reply). map moved xs ++ (event, r) ∷ []) same_reply)
     ∙ ap (with_event event reply) view
 
 pub closed_of : {K : Type 0} (has : K → ℕ → Stored → Type 0) (is_honest : K → Type 0) (b : BookValue K) (count n : ℕ) (ps qs : List PassValue)

@@ -20,24 +20,28 @@ use Rattle.scoop_book.specs.Moves.{Entry}
 use Rattle.scoop_book.specs.Lines.{IsPacked, IsSizedEvent, IsSizedLine, IsSizedReply, event_at, event_words, heard_of, line_at, line_words, lines, reply_at, reply_words, said_words}
 
 event_back : (e : Event) (ws : List ℕ) → IsSizedEvent e → event_at (event_words e ++ ws) ≡ (e, ws)
+unfolding event_at
 event_back (Hear m) ws s = rw (message_kind m ws) (ap (λ (p : Read Message). (Hear p.0, p.1)) (message_back m ws s))
 event_back (Begin h) ws s = refl
 event_back (Finish h) ws s = refl
 
 heard_back : (reply : Option Message) (note : Note) (ws : List ℕ) → IfSome reply IsSizedMessage
     → reply_at ((said_words reply ++ note_words note) ++ ws) ≡ (HeardReply (heard_of reply note), ws)
+unfolding reply_at
 heard_back None note ws s = ap (λ (p : Read Note). (HeardReply (heard_of None p.0), p.1)) (note_back note ws)
 heard_back (Some m) note ws s =
     rw (append_assoc (message_words m) (note_words note) ws, message_kind m (note_words note ++ ws), message_back m (note_words note ++ ws) s, note_back note ws)
     refl
 
 reply_back : (r : Reply) (ws : List ℕ) → IsSizedReply r → reply_at (reply_words r ++ ws) ≡ (r, ws)
+unfolding reply_at
 reply_back (HeardReply r) ws s = heard_back r.reply r.note ws s
 reply_back (Began None) ws s = refl
 reply_back (Began (Some k)) ws s = refl
 reply_back (Finished r) ws s = ap (λ (p : Read Ran). (Finished p.0, p.1)) (ran_back r ws s)
 
 line_back : (e : Entry) (ws : List ℕ) → IsSizedLine e → line_at (line_words e ++ ws) ≡ (e, ws)
+unfolding line_at
 line_back e ws s =
     rw (append_assoc (event_words e.1) (reply_words e.2) ws, event_back e.1 (reply_words e.2 ++ ws) s.event, reply_back e.2 ws s.reply) refl
 
@@ -75,6 +79,7 @@ module _ (count : ℕ) (words : List ℕ) (packed : IsPacked count words) (e : E
   }
 
   pub lines_more : lines (count + 1) (words ++ line_words e) ≡ lines count words ++ e ∷ []
+  unfolding packed_more
   lines_more = lines_are (count + 1) (words ++ line_words e) packed_more ∙ ap (λ (es : List Entry). es ++ e ∷ []) (sym (lines_are count words packed))
 
 -- each entry is a word at least

@@ -51,7 +51,7 @@ pub record IsSizedLine (e : Entry) : Type 0 where
 
 -- ---- readers
 
-abbrev pub event_at : List ℕ → Read Event
+unfoldable pub event_at : List ℕ → Read Event
 event_at ws =
     let kind = word_at ws in
     if nat_lt kind.0 12 then (let m = message_at kind.0 kind.1 in (Hear m.0, m.1))
@@ -66,7 +66,7 @@ heard_of reply note = record { reply = reply; note = note }
 abbrev pub left_at : List ℕ → Read (Block × ℕ)
 left_at ws = let b = block_at ws in let i = word_at b.1 in ((b.0, i.0), i.1)
 
-abbrev pub reply_at : List ℕ → Read Reply
+unfoldable pub reply_at : List ℕ → Read Reply
 reply_at ws =
     let kind = word_at ws in
     if nat_lt kind.0 12 then (let m = message_at kind.0 kind.1 in let k = note_at m.1 in (HeardReply (heard_of (Some m.0) k.0), k.1))
@@ -75,7 +75,7 @@ reply_at ws =
     else if kind.0 == 14 then (let k = left_at kind.1 in (Began (Some k.0), k.1))
     else (let r = ran_at kind.1 in (Finished r.0, r.1))
 
-abbrev pub line_at : List ℕ → Read Entry
+unfoldable pub line_at : List ℕ → Read Entry
 line_at ws = let p = word_at ws in let e = event_at p.1 in let r = reply_at e.1 in ((p.0, e.0, r.0), r.1)
 
 -- that many entries

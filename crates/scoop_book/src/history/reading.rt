@@ -8,6 +8,7 @@ use scoop_handler::Heard;
 use scoop_message::{Block, HandlerId};
 use scoop_packed::Reader;
 
+#[tactic(auto, unfolding(crate::specs::Lines::event_at))]
 fn event_from(words: &mut Reader<'_>) -> Event
     ensures event { result ≡ (event_at words.old).0 }
     ensures left { words.new ≡ (event_at words.old).1 }
@@ -34,6 +35,7 @@ fn left_from(words: &mut Reader<'_>) -> (Block, u32)
     (block, number)
 }
 
+#[tactic(auto, unfolding(crate::specs::Lines::reply_at))]
 fn reply_from(words: &mut Reader<'_>) -> Reply
     ensures reply { result ≡ (reply_at words.old).0 }
     ensures left { words.new ≡ (reply_at words.old).1 }
@@ -57,6 +59,7 @@ fn reply_from(words: &mut Reader<'_>) -> Reply
 }
 
 /// The next entry.
+#[tactic(auto, unfolding(crate::specs::Lines::line_at))]
 pub(crate) fn line_from(words: &mut Reader<'_>) -> (u32, Event, Reply)
     ensures line { result ≡ (line_at words.old).0 }
     ensures left { words.new ≡ (line_at words.old).1 }
