@@ -1,9 +1,7 @@
 -- The entries of one pass: those that are left of a history, against the entries that are left of the pass.
-use Rattle.std.proofs.Common.{◌≡◌, ℕ, ◌<◌, ◌≤◌, List, [], ◌∷◌, true, false, map, ap, sym, ◌∙◌, subst, refl, inl, inr, arith}
+use Rattle.std.proofs.Common.{◌≡◌, ℕ, List, [], ◌∷◌, true, false, map, ap, sym, ◌∙◌, subst, arith}
 use Rattle.std.specs.Prelude.{if◌then◌else◌, ◌==◌, ◌↔◌}
-use Rattle.std.specs.List.{All, Any}
 use Rattle.std.proofs.lemmas.Bool.Decides.{nat_tests}
-use Rattle.std.proofs.lemmas.List.Elements.{All-cons}
 use Rattle.scoop_book.specs.declared.event.Event.{Event}
 use Rattle.scoop_book.specs.declared.event.Reply.{Reply}
 use Rattle.scoop_book.specs.Moves.{Entry, made_by, moved}
@@ -54,7 +52,3 @@ pub past_end : (P : Type 0) (n : ℕ) (all left others : List Entry) (first : En
     → P → ⊥
 past_end P n all left others first none before cut p =
     let clash : moved first ∷ map moved others ≡ [] = sym (ap (map moved) cut) ∙ (before.0 p ∙ ap (made_by n) none) in cc
-
--- a fact of each entry that is left
-pub all_before : (P : Entry → Type 0) (x : Entry) (all rest : List Entry) → all ≡ x ∷ rest → P x → All P rest → All P all
-all_before P x all rest cut p each = subst (All P) (sym cut) (All-cons P x rest p each)
