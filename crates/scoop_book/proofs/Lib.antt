@@ -4,6 +4,5 @@ pub mod Places
 pub mod BookLemmas
 pub mod OpeningLemmas
 pub mod Alls
-pub mod MadeBy
 pub mod NodeLemmas
 pub mod ReopeningLemmas

@@ -56,8 +56,8 @@ event_at ws =
     let kind = word_at ws in
     if nat_lt kind.0 12 then (let m = message_at kind.0 kind.1 in (Hear m.0, m.1))
     else (
-      let h = word_at kind.1 in
-      if kind.0 == 12 then (Begin (handler_of_word h.0), h.1) else (Finish (handler_of_word h.0), h.1)
+    let h = word_at kind.1 in
+    if kind.0 == 12 then (Begin (handler_of_word h.0), h.1) else (Finish (handler_of_word h.0), h.1)
     )
 
 abbrev pub heard_of : Option Message → Note → Heard

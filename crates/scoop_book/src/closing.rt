@@ -87,11 +87,7 @@ fn has_events<A: Allocator + Copy>(pass: &Pass<A>, history: &History<A>) -> bool
 }
 
 // Whether the pass agrees with the history.
-fn agrees<A: Allocator + Copy>(
-    pass: &Pass<A>,
-    opening: &[Opening<A>],
-    history: &History<A>,
-) -> bool
+fn agrees<A: Allocator + Copy>(pass: &Pass<A>, opening: &[Opening<A>], history: &History<A>) -> bool
     ensures { IsTrue result ↔ Agrees opening.now history.now.entries pass.now }
 {
     has_events(pass, history) && (pass.number() != 0 || pass.keeps(opening))

@@ -89,12 +89,15 @@ impl<A: Allocator + Copy> History<A> {
         self.count == 0
     }
 
-    /// Makes room for one more entry.
+    /// Makes room for one more entry. The list grows by an eighth, so that little of its memory is unused.
     pub(crate) fn make_room(&mut self) -> Result<(), OutOfMemory>
         ensures entries { self.new.entries ≡ self.old.entries }
         ensures room { OnOk result (MAX_LINE ≤ self.new.room) }
     {
-        self.words.reserve(MAX_LINE)?;
+        let len = self.words.len();
+        if self.words.capacity() - len < MAX_LINE {
+            self.words.reserve_exact(MAX_LINE.saturating_add(len / 8))?;
+        }
         Ok(())
     }
 
@@ -118,7 +121,10 @@ impl<A: Allocator + Copy> History<A> {
     }
 
     /// The entries as a list that isn't packed.
-    pub fn to_vec(&self, alloc: A) -> Result<Vec<(u32, Event, Reply), A>, OutOfMemory>
+    pub fn to_vec<C: Allocator + Copy>(
+        &self,
+        alloc: C,
+    ) -> Result<Vec<(u32, Event, Reply), C>, OutOfMemory>
         ensures { IfOk result (λ entries. entries.items ≡ self.now.entries) }
     {
         // Names the types that a reply holds, for the prover.

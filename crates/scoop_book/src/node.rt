@@ -154,7 +154,8 @@ impl<B: Behaviour, K: Keeper<A>, A: Allocator + Copy> Node<B, K, A> {
             Err(error) => return Err(error),
         };
         let reply = heard_reply(&heard);
-        pass.events.enter(pass.number, &Event::Hear(*message), &reply);
+        pass.events
+            .enter(pass.number, &Event::Hear(*message), &reply);
         Ok(heard)
     }
 
@@ -207,7 +208,8 @@ impl<B: Behaviour, K: Keeper<A>, A: Allocator + Copy> Node<B, K, A> {
             Err(error) => return Err(error),
         };
         let reply = Reply::Began(entry_left(&job));
-        pass.events.enter(pass.number, &Event::Begin(handler), &reply);
+        pass.events
+            .enter(pass.number, &Event::Begin(handler), &reply);
         Ok(job)
     }
 
@@ -240,7 +242,8 @@ impl<B: Behaviour, K: Keeper<A>, A: Allocator + Copy> Node<B, K, A> {
             Err(error) => return Err(error),
         };
         let reply = finished(&ran);
-        pass.events.enter(pass.number, &Event::Finish(handler), &reply);
+        pass.events
+            .enter(pass.number, &Event::Finish(handler), &reply);
         Ok(ran)
     }
 
