@@ -1,5 +1,4 @@
-use Rattle.std.proofs.Common.{◌∷◌, [], ◌++◌, ap, ◌∙◌, arith}
-use Rattle.scoop_book.specs.Lines.{HistoryValue}
+use Rattle.std.proofs.Common.{arith}
 use Rattle.scoop_book.proofs.Packed.{count_fits, lines_more, packed_more}
 use Rattle.scoop_book.proofs.history.History.enter.Goals as goal
 
