@@ -59,7 +59,8 @@ impl FileError {
             }
             FileError::Foreign => "it is not a store: name another file",
             FileError::NoStore => {
-                "it has no tables of a store: name another file, or use --new if a kill came while the store was made"
+                "it has no tables of a store: first put the -wal file that belongs to it beside it. Use --new only for a file that \
+                never had a store"
             }
             FileError::NoIncarnation(_) => {
                 "this client never ran with it: name the client's own store, or make one by --new if the client never ran"

@@ -1,6 +1,6 @@
 //! Stores in files: made, adopted, and closed.
 //!
-//! [`create`] makes a store in a file, [`adopt`] takes the one that is there, [`adopt_for`] does so if it has a client's
+//! [`create`] makes a store in a file, and [`create_after`] one that begins above an incarnation. [`adopt`] takes the one that is there, [`adopt_for`] does so if it has a client's
 //! incarnation, and [`close`] leaves the file whole. A [`FileError`] says what is wrong and what to do, and
 //! [`report_file`] prints it.
 //!
@@ -29,4 +29,4 @@ mod store;
 
 pub use error::FileError;
 pub use report::report_file;
-pub use store::{FiledStore, adopt, adopt_for, close, create};
+pub use store::{FiledStore, adopt, adopt_for, close, create, create_after};

@@ -201,7 +201,7 @@ fn run_stored_in<T: Threads + Wait + Clock + Net + Sync>(
     let path = store_path(rt, dir, "client", client.0)?;
     let choice = choice_of(rt, &path)?;
     check_owner(rt, choice, plan.system(), Owner::Client(client))?;
-    match open_client_store(rt, choice, client) {
+    match open_client_store(rt, choice, None, client) {
         Ok(store) => run_filed(rt, threads, plan, hosts, choice, store),
         Err(error) => Err(report_file(rt, Hints::Always, &path, error)),
     }
