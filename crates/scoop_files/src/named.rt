@@ -15,7 +15,7 @@ use std::sync::atomic::{AtomicBool, Ordering};
 // How many puts go after a look without another one.
 const BETWEEN: u32 = 63;
 
-/// The name of a store's file. It is lent to the keeper over the store, and then says whether the store has lost it.
+/// The name of a store's file. The keeper over the store borrows it, and notes here if the store has lost it.
 #[derive(Drop)]
 pub struct StoreName {
     path: String,
@@ -55,7 +55,7 @@ impl StoreName {
     }
 }
 
-// What a name leads to.
+// The file that a name leads to, if it does.
 #[derive(Clone, Copy)]
 enum Found {
     // This file, of this device, with this length.
@@ -103,10 +103,10 @@ fn is_cut(first: Found, second: Found) -> bool {
     }
 }
 
-/// A keeper that passes every call on to the one under it, over the store of this name. At its first put, and at every 64th
-/// one after it, it looks whether the name still leads to the file that it led to when the keeper was made, and refuses the
-/// put with `Refused` if not, or if the file was cut. The log is looked at too, if it stands beside the name, which it doesn't
-/// if that is a link. Contracts see the keeper under it.
+/// A keeper that passes every call on to the one under it, over the store of this name. It looks at the name at its first put,
+/// and at every 64th one after it. The put is `Refused` if the name leads to another file than when the keeper was made, or to
+/// none, or if the file was cut. The log is looked at too, if it stands beside the name: if the name is a link, it doesn't.
+/// Contracts see the keeper under it.
 #[derive(Drop)]
 pub struct NamedKeeper<'a, K> {
     keeper: K,
