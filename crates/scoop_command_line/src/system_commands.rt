@@ -166,7 +166,8 @@ pub(crate) const CLIENT: CommandRow = CommandRow {
     about: "Runs a client of a system, over UDP, with the commands of standard input",
     help: "Runs a client of the system in a file (`scoop check` shows it). It binds its port, and then takes its next \
         incarnation from its store. Use --new for a client that never ran, and --store for one that did. If its store is \
-        lost, use --new with --after N. It greets every handler, which frees what an earlier incarnation has held. Then it runs the lines, one after another.\n\n\
+        lost, use --new with --after N. It greets every handler, which frees what an earlier incarnation has held. Then it runs \
+        the lines, one after another.\n\n\
         Input: lines. Output: a line for each:\n\
         \x20 reserve H..         `reserved 7.1.1`: a block over 1 to 8 handlers\n\
         \x20 call H OP A..       `logged H N`: the call is in the client's log, as the block's N-th entry for the handler. It \

@@ -308,9 +308,7 @@ fn add_filed<'a, T: Net>(
     hosts: &mut Vec<Host<'a, NamedKeeper<'a, FiledStore>>>,
 ) -> Result<(), Status> {
     match open_node_store(rt, choice) {
-        Ok(store) => add_opened(
-            rt, net, system, place, serving, choice, name, store, hosts,
-        ),
+        Ok(store) => add_opened(rt, net, system, place, serving, choice, name, store, hosts),
         Err(error) => Err(report_file(rt, Hints::Always, name.path(), error)),
     }
 }

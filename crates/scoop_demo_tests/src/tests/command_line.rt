@@ -76,7 +76,7 @@ const WRONG: [Case; 16] = [
         &[
             "scoop", "client", "7", "--system", "a", "--store", "b", "--after", "3",
         ],
-        &["error: the argument '", "--after <N>", "' cannot be used with"],
+        &["error: the argument '", "' cannot be used with"],
     ),
     (
         &[
