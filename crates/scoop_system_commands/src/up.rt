@@ -180,7 +180,7 @@ fn run_stored<T: Threads + Wait + Clock + Net + Sync>(
     make_folder(rt, dir)?;
     let mut names = Vec::new(rt.alloc());
     add_names(rt, plan.system(), dir, &mut names)?;
-    run_named(rt, threads, serving, plan, dir, &names)
+    run_named(rt, threads, serving, plan, dir, names.as_slice())
 }
 
 // Adds the names of the nodes' stores in this folder.
