@@ -1,16 +1,18 @@
 -- One more event of a pass, one more entry of a node's book, and a node's last clauses.
-use Rattle.std.proofs.Common.{◌≡◌, ◌<◌, ℕ, List, [], ◌∷◌, ◌++◌, Option, Some, Result, Ok, Err, ap, sym, ◌∙◌, subst}
-use Rattle.std.specs.Prelude.{◌↔◌, Bool, IsTrue, IfOk, IfErr}
+use Rattle.std.proofs.Common.{◌≡◌, ◌<◌, ℕ, List, [], ◌∷◌, ◌++◌, Option, Some, None, Result, Ok, Err, true, false, map, ap, sym, ◌∙◌, subst, refl, arith}
+use Rattle.std.specs.Prelude.{◌↔◌, ◌==◌, Bool, IsTrue, IfOk, IfErr}
 use Rattle.std.specs.List.{All}
+use Rattle.std.proofs.lemmas.Bool.Decides.{nat_tests}
+use Rattle.std.proofs.lemmas.List.{map-append}
 use Rattle.scoop_handler.specs.Running.{Task}
 use Rattle.scoop_keeper.specs.Keeper.{Stored}
 use Rattle.scoop_book.specs.declared.event.Event.{Event}
 use Rattle.scoop_book.specs.declared.event.Reply.{Reply}
 use Rattle.scoop_book.specs.declared.error.FinishRefusal.{FinishRefusal}
-use Rattle.scoop_book.specs.Moves.{LocalHandler, Entry, Replays}
+use Rattle.scoop_book.specs.Moves.{LocalHandler, Entry, Replays, moved}
 use Rattle.scoop_book.specs.Books.{BookValue, IsBook, IsSince, Gains, IsUnfinished}
 use Rattle.scoop_book.specs.Closing.{Agrees, Differs, FollowsOpening, IsClosed, IsComplete, IsEntered, WasSo}
-use Rattle.scoop_book.specs.Passes.{PassValue, pass_value, with_event}
+use Rattle.scoop_book.specs.Passes.{PassValue, fresh_pass, pass_value, with_event}
 
 pub if_entered : {T E K : Type 0} (has : K → ℕ → Stored → Type 0) (is_honest : K → Type 0) (pass : ℕ) (event : Event) (reply : T → Reply)
     (old new : BookValue K) (r : Result T E)
@@ -30,16 +32,29 @@ pub if_unfinished : {T E K : Type 0} (has : K → ℕ → Stored → Type 0) (is
 if_unfinished has is_honest t cause old (Ok x) so sound = tt
 if_unfinished has is_honest t cause old (Err e) so sound = record { book = old; sound = sound; so = so }
 
-pub pass_gains : (number : ℕ) (opening : Option (List LocalHandler)) (xs ys zs : List (Event × Reply)) (event was : Event) (reply told : Reply) (p : PassValue)
-    → pass_value number opening xs ≡ p → zs ≡ ys ++ (was, told) ∷ [] → ys ≡ xs → was ≡ event → told ≡ reply
-    → pass_value number opening zs ≡ with_event event reply p
-pass_gains number opening xs ys zs event was reply told p view put items same_event same_reply =
+pub pass_gains : (number : ℕ) (opening : Option (List LocalHandler)) (xs ys zs : List Entry) (pass : ℕ) (event was : Event) (reply told : Reply) (p : PassValue)
+    → pass_value number opening (map moved xs) ≡ p → zs ≡ ys ++ (pass, was, told) ∷ [] → ys ≡ xs → was ≡ event → told ≡ reply
+    → pass_value number opening (map moved zs) ≡ with_event event reply p
+pass_gains number opening xs ys zs pass event was reply told p view put items same_event same_reply =
     ap (pass_value number opening)
-    (put
-    ∙ ap (λ (es : List (Event × Reply)). es ++ (was, told) ∷ []) items
-    ∙ ap (λ (e : Event). xs ++ (e, told) ∷ []) same_event
-    ∙ ap (λ (r : Reply). xs ++ (event, r) ∷ []) same_reply)
+    (ap (map moved) put
+    ∙ map-append moved ys ((pass, was, told) ∷ [])
+    ∙ ap (λ (es : List Entry). map moved es ++ (was, told) ∷ []) items
+    ∙ ap (λ (e : Event). map moved xs ++ (e, told) ∷ []) same_event
+    ∙ ap (λ (r : Reply). map moved xs ++ (event, r) ∷ []) same_reply)
     ∙ ap (with_event event reply) view
+
+-- a pass as it opens
+module _ (number : ℕ) (opening : List LocalHandler) where
+  pub fresh_first : (copies : List LocalHandler) (o : Option (List LocalHandler)) (es : List Entry) → number ≡ 0 → o ≡ Some copies → copies ≡ opening → es ≡ []
+      → pass_value number o (map moved es) ≡ fresh_pass opening number
+  fresh_first copies o es first is same none =
+      let tells : (number == 0) ≡ true = grind (arith, nat_tests) in rw (is, same, none, tells) refl
+
+  pub fresh_other : (o : Option (List LocalHandler)) (es : List Entry) → (number ≡ 0 → ⊥) → o ≡ None → es ≡ []
+      → pass_value number o (map moved es) ≡ fresh_pass opening number
+  fresh_other o es other is none =
+      let tells : (number == 0) ≡ false = grind (arith, nat_tests) in rw (is, none, tells) refl
 
 pub closed_of : {K : Type 0} (has : K → ℕ → Stored → Type 0) (is_honest : K → Type 0) (b : BookValue K) (count n : ℕ) (ps qs : List PassValue)
     (opening : List LocalHandler) (es hs : List Entry) (k : K)

@@ -1,4 +1,5 @@
 pub mod Moves
+pub mod Lines
 pub mod Kept
 pub mod Opening
 pub mod Books

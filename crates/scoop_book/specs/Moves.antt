@@ -43,6 +43,10 @@ pub record Moves (event : Event) (reply : Reply) (hs ks : List LocalHandler) : T
 abbrev pub Entry : Type 0
 Entry = ℕ × Event × Reply
 
+-- the event and its reply
+abbrev pub moved : Entry → Event × Reply
+moved e = (e.1, e.2)
+
 -- the entries, one after another, take the handlers from the ones to the others
 abbrev pub Replays : List LocalHandler → List Entry → List LocalHandler → Type 0
 Replays hs [] ks = hs ≡ ks

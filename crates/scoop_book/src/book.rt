@@ -1,18 +1,18 @@
 //! The handlers of a node over a keeper, with the history of their events.
 
-ghost use Rattle.std.specs.Prelude.{◌≡◌, ◌<◌, ◌++◌, ◌∷◌, [], vec_len, vec_capacity};
+ghost use Rattle.std.specs.Prelude.{◌≡◌};
 
 mod entering;
 mod making;
 mod standing;
 
 use crate::closing::Closed;
-use crate::event::{Event, Reply};
 use crate::handlers::Handlers;
+use crate::history::History;
 use crate::opening::Opening;
 pub(crate) use entering::{entry_left, finished, heard_reply};
 use scoop_keeper::Keeper;
-use scoop_message::{Entry, HandlerId, Request, Words};
+use scoop_message::{HandlerId, Words};
 use scoop_object::Behaviour;
 use std::alloc::{Allocator, Global};
 use std::marker::Model;
@@ -25,7 +25,7 @@ use std::marker::Model;
 pub struct Book<B: Behaviour, K: Keeper<A>, A: Allocator = Global> {
     opening: Vec<Opening<A>, A>,
     handlers: Handlers<B, K, A>,
-    history: Vec<(u32, Event, Reply), A>,
+    history: History<A>,
     limit: usize,
     failed: bool,
 }
@@ -36,24 +36,9 @@ impl<B: Behaviour, K: Keeper<A>, A: Allocator> Model for Book<B, K, A> {
 
     ghost Value = { BookValue K };
 
-    ghost view = { λ b. book_kept b.opening.items b.handlers.handlers b.history.items b.limit b.failed b.handlers.keeper };
+    ghost view = { λ b. book_kept b.opening.items b.handlers.handlers b.history.entries b.limit b.failed b.handlers.keeper };
 
-    ghost invariant = { λ b. IsBook K.handlers K.is_honest (book_kept b.opening.items b.handlers.handlers b.history.items b.limit b.failed b.handlers.keeper) };
-}
-
-// Enters an event. There is room for it.
-fn enter<A: Allocator + Copy>(
-    history: &mut Vec<(u32, Event, Reply), A>,
-    pass: u32,
-    event: &Event,
-    reply: &Reply,
-)
-    requires { vec_len history.old < vec_capacity history.old }
-    ensures { history.new.items ≡ history.old.items ++ (pass, event.now, reply.now) ∷ [] }
-{
-    // Names the types that a reply holds, for the prover.
-    let _parts: Option<(Entry, Request)> = None;
-    history.push_reserved((pass, *event, *reply));
+    ghost invariant = { λ b. IsBook K.handlers K.is_honest (book_kept b.opening.items b.handlers.handlers b.history.entries b.limit b.failed b.handlers.keeper) };
 }
 
 impl<B: Behaviour, K: Keeper<A>, A: Allocator + Copy> Book<B, K, A> {
@@ -62,8 +47,8 @@ impl<B: Behaviour, K: Keeper<A>, A: Allocator + Copy> Book<B, K, A> {
     ghost use Rattle.scoop_book.specs.Books.{IsBook};
 
     /// The events since the book opened, in order: each with the number of the pass that made it and its reply.
-    pub fn history(&self) -> &[(u32, Event, Reply)]
-        ensures entries { result.now ≡ self.now.history }
+    pub fn history(&self) -> &History<A>
+        ensures entries { result.now.entries ≡ self.now.history }
         ensures sound { IsBook K.handlers K.is_honest self.now }
     {
         &self.history
@@ -94,7 +79,7 @@ impl<B: Behaviour, K: Keeper<A>, A: Allocator + Copy> Book<B, K, A> {
 
     /// The history and the keeper.
     pub(crate) fn into_closed(self) -> Closed<K, A>
-        ensures history { result.history.items ≡ self.history }
+        ensures history { result.history.entries ≡ self.history }
         ensures keeper { result.keeper ≡ self.keeper }
         ensures sound { IsBook K.handlers K.is_honest self }
     {

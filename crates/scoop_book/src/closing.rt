@@ -3,10 +3,11 @@
 ghost use Rattle.std.specs.Prelude.{◌≡◌, ◌≢◌, ◌<◌, ◌≤◌, ◌↔◌, ℕ, IsTrue, IfNone, IfSome};
 ghost use Rattle.std.specs.List.{All, Any};
 ghost use Rattle.scoop_book.specs.Closing.{Agrees, Differs, IsComplete};
-ghost use Rattle.scoop_book.specs.Moves.{made_by};
+ghost use Rattle.scoop_book.specs.Moves.{made_by, moved};
 
 use crate::error::CloseRefusal;
 use crate::event::{Event, Reply};
+use crate::history::History;
 use crate::law::{same_event, same_reply};
 use crate::opening::Opening;
 use crate::pass::Pass;
@@ -17,7 +18,7 @@ use std::alloc::{Allocator, Global};
 #[derive(Drop)]
 pub struct Closed<K: Keeper<A>, A: Allocator = Global> {
     /// The events, in order.
-    pub history: Vec<(u32, Event, Reply), A>,
+    pub history: History<A>,
     /// The keeper, as it stands.
     pub keeper: K,
 }
@@ -55,39 +56,39 @@ fn is_complete<A: Allocator + Copy>(count: u32, passes: &[Pass<A>]) -> bool
     }
 }
 
-// Whether the entry is this event with this reply.
-fn is_of(made: &(Event, Reply), entry: &(u32, Event, Reply)) -> bool
-    ensures { IsTrue result ↔ (made.now ≡ (entry.now.1, entry.now.2)) }
+// Whether two entries have the same event with the same reply.
+fn is_of(made: &(u32, Event, Reply), entry: &(u32, Event, Reply)) -> bool
+    ensures { IsTrue result ↔ (moved made.now ≡ moved entry.now) }
 {
-    same_event(&made.0, &entry.1) && same_reply(&made.1, &entry.2)
+    same_event(&made.1, &entry.1) && same_reply(&made.2, &entry.2)
 }
 
 // Whether the pass has exactly the events that the history has of its number.
-fn has_events<A: Allocator + Copy>(pass: &Pass<A>, history: &[(u32, Event, Reply)]) -> bool
-    ensures { IsTrue result ↔ (pass.now.events ≡ made_by pass.now.number history.now) }
+fn has_events<A: Allocator + Copy>(pass: &Pass<A>, history: &History<A>) -> bool
+    ensures { IsTrue result ↔ (pass.now.events ≡ made_by pass.now.number history.now.entries) }
 {
-    let mut left = pass.events();
-    for entry in history {
-        if entry.0 == pass.number() {
-            let Some((first, others)) = left.split_first() else {
+    let number = pass.number();
+    let mut left = pass.events().reader();
+    let mut entries = history.reader();
+    while let Some(entry) = entries.next_entry() {
+        if entry.0 == number {
+            let Some(made) = left.next_entry() else {
                 return false;
             };
-            if !is_of(first, entry) {
+            if !is_of(&made, &entry) {
                 return false;
             }
-            left = others;
         }
     }
-    left.is_empty()
+    match left.next_entry() {
+        None => true,
+        Some(_) => false,
+    }
 }
 
 // Whether the pass agrees with the history.
-fn agrees<A: Allocator + Copy>(
-    pass: &Pass<A>,
-    opening: &[Opening<A>],
-    history: &[(u32, Event, Reply)],
-) -> bool
-    ensures { IsTrue result ↔ Agrees opening.now history.now pass.now }
+fn agrees<A: Allocator + Copy>(pass: &Pass<A>, opening: &[Opening<A>], history: &History<A>) -> bool
+    ensures { IsTrue result ↔ Agrees opening.now history.now.entries pass.now }
 {
     has_events(pass, history) && (pass.number() != 0 || pass.keeps(opening))
 }
@@ -96,10 +97,10 @@ fn agrees<A: Allocator + Copy>(
 fn first_different<A: Allocator + Copy>(
     passes: &[Pass<A>],
     opening: &[Opening<A>],
-    history: &[(u32, Event, Reply)],
+    history: &History<A>,
 ) -> Option<u32>
-    ensures none { IfNone result (All (Agrees opening.now history.now) passes.now) }
-    ensures some { IfSome result (λ n. Any (λ p. (p.number ≡ n) × (Agrees opening.now history.now p → ⊥)) passes.now) }
+    ensures none { IfNone result (All (Agrees opening.now history.now.entries) passes.now) }
+    ensures some { IfSome result (λ n. Any (λ p. (p.number ≡ n) × (Agrees opening.now history.now.entries p → ⊥)) passes.now) }
 {
     for pass in passes {
         if !agrees(pass, opening, history) {
@@ -110,11 +111,12 @@ fn first_different<A: Allocator + Copy>(
 }
 
 // The number of an entry that is no pass's.
-fn stranger(count: u32, history: &[(u32, Event, Reply)]) -> Option<u32>
-    ensures none { IfNone result (All (λ e. e.0 < count) history.now) }
-    ensures some { IfSome result (λ n. Any (λ e. (e.0 ≡ n) × (count ≤ n)) history.now) }
+fn stranger<A: Allocator + Copy>(count: u32, history: &History<A>) -> Option<u32>
+    ensures none { IfNone result (All (λ e. e.0 < count) history.now.entries) }
+    ensures some { IfSome result (λ n. Any (λ e. (e.0 ≡ n) × (count ≤ n)) history.now.entries) }
 {
-    for entry in history {
+    let mut entries = history.reader();
+    while let Some(entry) = entries.next_entry() {
         if entry.0 >= count {
             return Some(entry.0);
         }
@@ -127,13 +129,13 @@ pub(crate) fn refusal<A: Allocator + Copy>(
     count: u32,
     passes: &[Pass<A>],
     opening: &[Opening<A>],
-    history: &[(u32, Event, Reply)],
+    history: &History<A>,
 ) -> Option<CloseRefusal>
     ensures complete { IfNone result (IsComplete count passes.now) }
-    ensures agree { IfNone result (All (Agrees opening.now history.now) passes.now) }
-    ensures no_others { IfNone result (All (λ e. e.0 < count) history.now) }
+    ensures agree { IfNone result (All (Agrees opening.now history.now.entries) passes.now) }
+    ensures no_others { IfNone result (All (λ e. e.0 < count) history.now.entries) }
     ensures missing { IfSome result (λ e. (e ≡ CloseRefusal.MissingPass) ↔ (IsComplete count passes.now → ⊥)) }
-    ensures differs { IfSome result (λ e. (n : ℕ) → e ≡ CloseRefusal.PassDiffers n → Differs opening.now history.now count passes.now n) }
+    ensures differs { IfSome result (λ e. (n : ℕ) → e ≡ CloseRefusal.PassDiffers n → Differs opening.now history.now.entries count passes.now n) }
     ensures memory { IfSome result (λ e. e ≢ CloseRefusal.OutOfMemory) }
 {
     if !is_complete(count, passes) {

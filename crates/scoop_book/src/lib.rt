@@ -28,6 +28,7 @@ mod closing;
 mod error;
 mod event;
 mod handlers;
+mod history;
 mod law;
 mod local;
 mod node;
@@ -41,6 +42,7 @@ pub use error::{
     BookError, CloseError, CloseRefusal, FinishError, FinishRefusal, OpenError, ReopenError,
 };
 pub use event::{Event, Reply};
+pub use history::{History, HistoryReader};
 pub use law::{same_event, same_reply};
 pub use node::Node;
 pub use pass::Pass;

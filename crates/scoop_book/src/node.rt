@@ -16,7 +16,7 @@ use crate::book::{Book, entry_left, finished, heard_reply};
 use crate::closing::Closed;
 use crate::error::{BookError, CloseError, CloseRefusal, FinishError, FinishRefusal, OpenError};
 use crate::event::{Event, Reply};
-use crate::pass::{Pass, put_down};
+use crate::pass::Pass;
 use scoop_handler::{Done, Heard, Job, Ran};
 use scoop_keeper::Keeper;
 use scoop_message::limits::MAX_HISTORY;
@@ -145,7 +145,7 @@ impl<B: Behaviour, K: Keeper<A>, A: Allocator + Copy> Node<B, K, A> {
         ensures refused { IfErr result (λ e. (e ≡ BookError.OutOfMemory) ⊎ WasSo K.handlers K.is_honest (λ b. IsRefused b (handler_of message.now)) e) }
         ensures stays { OnErr result (pass.new ≡ pass.old) }
     {
-        let Ok(()) = pass.events.reserve(1) else {
+        let Ok(()) = pass.events.make_room() else {
             return Err(BookError::OutOfMemory);
         };
         let mut book = self.book.lock(rt);
@@ -154,7 +154,8 @@ impl<B: Behaviour, K: Keeper<A>, A: Allocator + Copy> Node<B, K, A> {
             Err(error) => return Err(error),
         };
         let reply = heard_reply(&heard);
-        put_down(&mut pass.events, &Event::Hear(*message), &reply);
+        pass.events
+            .enter(pass.number, &Event::Hear(*message), &reply);
         Ok(heard)
     }
 
@@ -198,7 +199,7 @@ impl<B: Behaviour, K: Keeper<A>, A: Allocator + Copy> Node<B, K, A> {
         ensures unasked { IfErr result (λ e. e ≢ BookError.StoreRefused) }
         ensures stays { OnErr result (pass.new ≡ pass.old) }
     {
-        let Ok(()) = pass.events.reserve(1) else {
+        let Ok(()) = pass.events.make_room() else {
             return Err(BookError::OutOfMemory);
         };
         let mut book = self.book.lock(rt);
@@ -207,7 +208,8 @@ impl<B: Behaviour, K: Keeper<A>, A: Allocator + Copy> Node<B, K, A> {
             Err(error) => return Err(error),
         };
         let reply = Reply::Began(entry_left(&job));
-        put_down(&mut pass.events, &Event::Begin(handler), &reply);
+        pass.events
+            .enter(pass.number, &Event::Begin(handler), &reply);
         Ok(job)
     }
 
@@ -229,7 +231,7 @@ impl<B: Behaviour, K: Keeper<A>, A: Allocator + Copy> Node<B, K, A> {
         ensures handed_back { IfErr result (λ e. e.done ≡ done) }
         ensures stays { OnErr result (pass.new ≡ pass.old) }
     {
-        let Ok(()) = pass.events.reserve(1) else {
+        let Ok(()) = pass.events.make_room() else {
             let cause = FinishRefusal::OutOfMemory;
             return Err(FinishError { cause, done });
         };
@@ -240,7 +242,8 @@ impl<B: Behaviour, K: Keeper<A>, A: Allocator + Copy> Node<B, K, A> {
             Err(error) => return Err(error),
         };
         let reply = finished(&ran);
-        put_down(&mut pass.events, &Event::Finish(handler), &reply);
+        pass.events
+            .enter(pass.number, &Event::Finish(handler), &reply);
         Ok(ran)
     }
 
@@ -256,7 +259,7 @@ impl<B: Behaviour, K: Keeper<A>, A: Allocator + Copy> Node<B, K, A> {
         _rt: &R,
         passes: Vec<Pass<A>, A>,
     ) -> Result<Closed<K, A>, CloseError<B, K, A>>
-        ensures closed { IfOk result (λ closed. IsClosed self.passes passes.items closed.history.items (K.handlers closed.keeper) (K.is_honest closed.keeper)) }
+        ensures closed { IfOk result (λ closed. IsClosed self.passes passes.items closed.history.entries (K.handlers closed.keeper) (K.is_honest closed.keeper)) }
         ensures since { IfOk result (λ closed. FollowsOpening K.handlers K.is_honest passes.items closed.keeper) }
         ensures handed_back { IfErr result (λ e. (e.node ≡ self) × (e.passes ≡ passes)) }
         ensures missing { IfErr result (λ e. (e.cause ≡ CloseRefusal.MissingPass) ↔ (IsComplete self.passes passes.items → ⊥)) }

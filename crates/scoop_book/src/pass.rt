@@ -1,11 +1,12 @@
 //! A pass: the events that one thread made at a node.
 
-ghost use Rattle.std.specs.Prelude.{◌≡◌, ◌<◌, ◌↔◌, ◌++◌, ◌∷◌, [], ℕ, Some, IfOk, IsTrue, length, slice_get, vec_len, vec_capacity};
+ghost use Rattle.std.specs.Prelude.{◌≡◌, ◌<◌, ◌↔◌, ℕ, Some, IfOk, IsTrue, length, map, slice_get};
+ghost use Rattle.scoop_book.specs.Moves.{moved};
 ghost use Rattle.scoop_book.specs.Passes.{fresh_pass};
 
-use crate::event::{Event, Reply};
+use crate::history::History;
 use crate::opening::{Opening, are_same, copy_all};
-use scoop_message::{Entry, OutOfMemory, Request};
+use scoop_message::OutOfMemory;
 use std::alloc::{Allocator, Global};
 use std::marker::Model;
 
@@ -15,30 +16,18 @@ use std::marker::Model;
 pub struct Pass<A: Allocator = Global> {
     pub(crate) number: u32,
     pub(crate) opening: Option<Vec<Opening<A>, A>>,
-    pub(crate) events: Vec<(Event, Reply), A>,
+    pub(crate) events: History<A>,
 }
 
 impl<A: Allocator> Model for Pass<A> {
     ghost use Rattle.std.specs.Option.{option_map};
+    ghost use Rattle.std.specs.Prelude.{map};
+    ghost use Rattle.scoop_book.specs.Moves.{moved};
     ghost use Rattle.scoop_book.specs.Passes.{PassValue, pass_value};
 
     ghost Value = { PassValue };
 
-    ghost view = { λ p. pass_value p.number (option_map (λ o. o.items) p.opening) p.events.items };
-}
-
-/// Adds an event with its reply. There is room for it.
-pub(crate) fn put_down<A: Allocator + Copy>(
-    events: &mut Vec<(Event, Reply), A>,
-    event: &Event,
-    reply: &Reply,
-)
-    requires { vec_len events.old < vec_capacity events.old }
-    ensures { events.new.items ≡ events.old.items ++ (event.now, reply.now) ∷ [] }
-{
-    // Names the types that a reply holds, for the prover.
-    let _parts: Option<(Entry, Request)> = None;
-    events.push_reserved((*event, *reply));
+    ghost view = { λ p. pass_value p.number (option_map (λ o. o.items) p.opening) (map moved p.events.entries) };
 }
 
 // The pass of this number as a node opens with these handlers.
@@ -57,7 +46,7 @@ fn fresh<A: Allocator + Copy>(
     Ok(Pass {
         number,
         opening: kept,
-        events: Vec::new(alloc),
+        events: History::new(alloc),
     })
 }
 
@@ -86,9 +75,9 @@ impl<A: Allocator + Copy> Pass<A> {
         self.number
     }
 
-    /// The events in order, each with its reply.
-    pub fn events(&self) -> &[(Event, Reply)]
-        ensures { result.now ≡ self.now.events }
+    /// The events in order, each with the pass's number and its reply.
+    pub fn events(&self) -> &History<A>
+        ensures { map moved result.now.entries ≡ self.now.events }
     {
         &self.events
     }

@@ -10,7 +10,7 @@ ghost use Rattle.scoop_keeper.specs.Keyed.{IsFirst};
 ghost use Rattle.scoop_book.specs.Books.{Gains, IsBook, IsRefused, IsUnfinished, KeepsNew, MayHappen, Stays, IsHear, HasNoPlace, HasReply, fails};
 ghost use Rattle.scoop_book.specs.Books.{fails_to_finish, no_place_to_finish, refusal_of};
 
-use crate::book::{Book, enter};
+use crate::book::Book;
 use crate::error::{BookError, FinishError, FinishRefusal};
 use crate::event::{Event, Reply};
 use scoop_handler::{Done, Heard, Job, Ran};
@@ -156,7 +156,7 @@ impl<B: Behaviour, K: Keeper<A>, A: Allocator + Copy> Book<B, K, A> {
         ensures sound { IsBook K.handlers K.is_honest self.new }
     {
         let at = self.place_for(message.handler())?;
-        let Ok(()) = self.history.reserve(1) else {
+        let Ok(()) = self.history.make_room() else {
             return Err(BookError::OutOfMemory);
         };
         let heard = match self.handlers.hear(at, message) {
@@ -164,7 +164,7 @@ impl<B: Behaviour, K: Keeper<A>, A: Allocator + Copy> Book<B, K, A> {
             Err(error) => return Err(put_refused(&mut self.failed, error)),
         };
         let reply = heard_reply(&heard);
-        enter(&mut self.history, pass, &Event::Hear(*message), &reply);
+        self.history.enter(pass, &Event::Hear(*message), &reply);
         Ok(heard)
     }
 
@@ -186,12 +186,12 @@ impl<B: Behaviour, K: Keeper<A>, A: Allocator + Copy> Book<B, K, A> {
         ensures sound { IsBook K.handlers K.is_honest self.new }
     {
         let at = self.place_for(handler)?;
-        let Ok(()) = self.history.reserve(1) else {
+        let Ok(()) = self.history.make_room() else {
             return Err(BookError::OutOfMemory);
         };
         let job = self.handlers.begin(at, handler);
         let reply = Reply::Began(entry_left(&job));
-        enter(&mut self.history, pass, &Event::Begin(handler), &reply);
+        self.history.enter(pass, &Event::Begin(handler), &reply);
         Ok(job)
     }
 
@@ -223,7 +223,7 @@ impl<B: Behaviour, K: Keeper<A>, A: Allocator + Copy> Book<B, K, A> {
             Ok(at) => at,
             Err(error) => return Err(refused(no_place(error), done)),
         };
-        let Ok(()) = self.history.reserve(1) else {
+        let Ok(()) = self.history.make_room() else {
             let cause = self.handlers.no_room_to_finish(at, &done);
             return Err(refused(cause, done));
         };
@@ -235,7 +235,7 @@ impl<B: Behaviour, K: Keeper<A>, A: Allocator + Copy> Book<B, K, A> {
             }
         };
         let reply = finished(&ran);
-        enter(&mut self.history, pass, &Event::Finish(handler), &reply);
+        self.history.enter(pass, &Event::Finish(handler), &reply);
         Ok(ran)
     }
 }

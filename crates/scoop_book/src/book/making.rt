@@ -10,6 +10,7 @@ ghost use Rattle.scoop_book.specs.Opening.{AllOpen, IsUnopened, MayOpen};
 use crate::book::Book;
 use crate::error::OpenError;
 use crate::handlers::Handlers;
+use crate::history::History;
 use crate::opening::{open_all, refusal};
 use scoop_keeper::Keeper;
 use scoop_message::HandlerId;
@@ -74,7 +75,7 @@ impl<B: Behaviour, K: Keeper<A>, A: Allocator + Copy> Book<B, K, A> {
         Ok(Book {
             opening,
             handlers: Handlers::new(locals, keeper),
-            history: Vec::new(alloc),
+            history: History::new(alloc),
             limit,
             failed: false,
         })

@@ -24,10 +24,10 @@ returns-clause-complete g c = c.is_complete.ensures.0 c.if-not-is_complete.false
 pub returns-in-Some-clause-differs : goal.returns-in-Some-clause-differs
 returns-in-Some-clause-differs g c n is =
     let same : c.in-Some.number ≡ n = cc in
-    inl (subst (λ (k : ℕ). Any (λ (p : PassValue). (p.number ≡ k) × (Agrees c.args.opening.now c.args.history.now p → ⊥)) c.args.passes.now) same
+    inl (subst (λ (k : ℕ). Any (λ (p : PassValue). (p.number ≡ k) × (Agrees c.args.opening.now c.args.history.now.entries p → ⊥)) c.args.passes.now) same
     c.in-Some.ensures.some)
 
 pub returns-in-Some-stranger-clause-differs : goal.returns-in-Some-stranger-clause-differs
 returns-in-Some-stranger-clause-differs g c n is =
     let same : c.in-Some-stranger.number ≡ n = cc in
-    inr (subst (λ (k : ℕ). Any (λ (e : Entry). (e.0 ≡ k) × (c.args.count ≤ k)) c.args.history.now) same c.in-Some-stranger.ensures.some)
+    inr (subst (λ (k : ℕ). Any (λ (e : Entry). (e.0 ≡ k) × (c.args.count ≤ k)) c.args.history.now.entries) same c.in-Some-stranger.ensures.some)

@@ -1,7 +1,13 @@
--- The entries so far are of numbers below the count.
-use Rattle.std.proofs.Common.{◌<◌, take}
-use Rattle.std.specs.Prelude.{All}
+-- What is true of the entries that are left is true of all.
+use Rattle.std.proofs.Common.{◌≡◌, ◌<◌, ◌≤◌, ℕ, length}
+use Rattle.std.specs.List.{All, Any}
 use Rattle.scoop_book.proofs.closing.stranger.Given as goal
 
 abbrev pub invariant-loop-entry : goal.invariant-loop-entry
-invariant-loop-entry l = All (λ e. e.0 < l.count) (take l.entry-index l.history)
+invariant-loop-entry g l = record {
+  all : All (λ e. e.0 < l.count) l.entries → All (λ e. e.0 < l.count) l.history.entries;
+  some : (n : ℕ) → Any (λ e. (e.0 ≡ n) × (l.count ≤ n)) l.entries → Any (λ e. (e.0 ≡ n) × (l.count ≤ n)) l.history.entries;
+}
+
+abbrev pub decreases-loop-entry : goal.decreases-loop-entry
+decreases-loop-entry g l = length l.entries

@@ -8,31 +8,31 @@ use Rattle.scoop_book.proofs.book.Book.begin.Goals as goal
 
 pub invariant_of-self-2 : goal.invariant_of-self-2
 invariant_of-self-2 g c =
-    book_more c.self.inside.opening.items c.self.inside.handlers c.self.inside.history.items c.self.inside.limit c.self.inside.failed c.args.self.now
-    c.self.view_is c.begin-job.new.self c.enter.new.history.items c.args.pass (Begin c.args.handler)
+    book_more c.self.inside.opening.items c.self.inside.handlers c.self.inside.history.entries c.self.inside.limit c.self.inside.failed c.args.self.now
+    c.self.view_is c.begin-job.new.self c.enter.new.self.entries c.args.pass (Begin c.args.handler)
     (Began (option_map leaves c.begin-job.result)) c.begin-job.ensures.moves
-    (entered c.self.inside.history.items c.reserve.new.self.items c.enter.new.history.items c.args.pass (Begin c.args.handler)
-    (Began (option_map leaves c.begin-job.result)) (Began c.entry_left.result) c.enter.ensures c.reserve.ensures.items (ap Began c.entry_left.ensures))
+    (entered c.self.inside.history.entries c.make_room.new.self.entries c.enter.new.self.entries c.args.pass (Begin c.args.handler)
+    (Began (option_map leaves c.begin-job.result)) (Began c.entry_left.result) c.enter.ensures c.make_room.ensures.entries (ap Began c.entry_left.ensures))
     g.K.Keeper.handlers g.K.Keeper.is_honest c.self.invariant
-    (room_left c.self.inside.opening.items c.self.inside.handlers c.self.inside.history.items c.self.inside.limit c.self.inside.failed c.args.self.now
+    (room_left c.self.inside.opening.items c.self.inside.handlers c.self.inside.history.entries c.self.inside.limit c.self.inside.failed c.args.self.now
     c.self.view_is c.args.handler c.in_ok-at.ensures.may) c.begin-job.ensures.held
     (λ honest. subst g.K.Keeper.is_honest c.begin-job.ensures.keeper honest)
 
 pub returns-clause-gains : goal.returns-clause-gains
 returns-clause-gains g c =
-    gains c.self.inside.opening.items c.self.inside.handlers c.self.inside.history.items c.self.inside.limit c.self.inside.failed c.args.self.now c.self.view_is
-    c.begin-job.new.self c.enter.new.history.items c.args.pass (Begin c.args.handler) (Began (option_map leaves c.begin-job.result)) c.begin-job.ensures.moves
-    (entered c.self.inside.history.items c.reserve.new.self.items c.enter.new.history.items c.args.pass (Begin c.args.handler)
-    (Began (option_map leaves c.begin-job.result)) (Began c.entry_left.result) c.enter.ensures c.reserve.ensures.items (ap Began c.entry_left.ensures))
+    gains c.self.inside.opening.items c.self.inside.handlers c.self.inside.history.entries c.self.inside.limit c.self.inside.failed c.args.self.now c.self.view_is
+    c.begin-job.new.self c.enter.new.self.entries c.args.pass (Begin c.args.handler) (Began (option_map leaves c.begin-job.result)) c.begin-job.ensures.moves
+    (entered c.self.inside.history.entries c.make_room.new.self.entries c.enter.new.self.entries c.args.pass (Begin c.args.handler)
+    (Began (option_map leaves c.begin-job.result)) (Began c.entry_left.result) c.enter.ensures c.make_room.ensures.entries (ap Began c.entry_left.ensures))
 
 pub returns-clause-sound : goal.returns-clause-sound
 returns-clause-sound g c =
-    book_more c.self.inside.opening.items c.self.inside.handlers c.self.inside.history.items c.self.inside.limit c.self.inside.failed c.args.self.now
-    c.self.view_is c.begin-job.new.self c.enter.new.history.items c.args.pass (Begin c.args.handler)
+    book_more c.self.inside.opening.items c.self.inside.handlers c.self.inside.history.entries c.self.inside.limit c.self.inside.failed c.args.self.now
+    c.self.view_is c.begin-job.new.self c.enter.new.self.entries c.args.pass (Begin c.args.handler)
     (Began (option_map leaves c.begin-job.result)) c.begin-job.ensures.moves
-    (entered c.self.inside.history.items c.reserve.new.self.items c.enter.new.history.items c.args.pass (Begin c.args.handler)
-    (Began (option_map leaves c.begin-job.result)) (Began c.entry_left.result) c.enter.ensures c.reserve.ensures.items (ap Began c.entry_left.ensures))
+    (entered c.self.inside.history.entries c.make_room.new.self.entries c.enter.new.self.entries c.args.pass (Begin c.args.handler)
+    (Began (option_map leaves c.begin-job.result)) (Began c.entry_left.result) c.enter.ensures c.make_room.ensures.entries (ap Began c.entry_left.ensures))
     g.K.Keeper.handlers g.K.Keeper.is_honest c.self.invariant
-    (room_left c.self.inside.opening.items c.self.inside.handlers c.self.inside.history.items c.self.inside.limit c.self.inside.failed c.args.self.now
+    (room_left c.self.inside.opening.items c.self.inside.handlers c.self.inside.history.entries c.self.inside.limit c.self.inside.failed c.args.self.now
     c.self.view_is c.args.handler c.in_ok-at.ensures.may) c.begin-job.ensures.held
     (λ honest. subst g.K.Keeper.is_honest c.begin-job.ensures.keeper honest)

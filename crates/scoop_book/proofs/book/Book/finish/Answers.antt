@@ -12,14 +12,14 @@ use Rattle.scoop_book.proofs.book.Book.finish.Goals as goal
 pub returns-in_default-clause-incarnations : goal.returns-in_default-clause-incarnations
 returns-in_default-clause-incarnations g c honest =
     subst (λ k. IsSame (g.K.Keeper.incarnations k) (g.K.Keeper.incarnations c.self.inside.handlers.keeper))
-    (keeper_is c.self.inside.opening.items c.self.inside.handlers c.self.inside.history.items c.self.inside.limit c.self.inside.failed c.args.self.now
+    (keeper_is c.self.inside.opening.items c.self.inside.handlers c.self.inside.history.entries c.self.inside.limit c.self.inside.failed c.args.self.now
     c.self.view_is) (is_same_same (g.K.Keeper.incarnations c.self.inside.handlers.keeper))
 
 pub returns-in_default-clause-refused : goal.returns-in_default-clause-refused
 returns-in_default-clause-refused g c =
     subst (IsUnfinished c.args.self.now c.args.done) (sym c.refused-in_default.ensures.cause)
     (room_refusal c.args.self.now c.args.done c.self.inside.handlers.handlers c.in-Ok.at (ap (λ (x : BookValue g.row.K.Denot). x.handlers) c.self.view_is)
-    (first_at c.self.inside.opening.items c.self.inside.handlers c.self.inside.history.items c.self.inside.limit c.self.inside.failed c.args.self.now
+    (first_at c.self.inside.opening.items c.self.inside.handlers c.self.inside.history.entries c.self.inside.limit c.self.inside.failed c.args.self.now
     c.self.view_is c.args.done.handler c.handler-handler.result c.in-Ok.at c.handler-handler.ensures c.in-Ok.ensures.place)
     (subst (MayHappen c.args.self.now) c.handler-handler.ensures c.in-Ok.ensures.may)
     c.no_room_to_finish-cause.result c.no_room_to_finish-cause.ensures.stranger c.no_room_to_finish-cause.ensures.named)
@@ -27,13 +27,13 @@ returns-in_default-clause-refused g c =
 pub returns-in_default-clause-failed : goal.returns-in_default-clause-failed
 returns-in_default-clause-failed g c =
     still_works c.args.self.now c.self.inside.failed c.refused-in_default.result.cause c.no_room_to_finish-cause.result
-    (failed_is c.self.inside.opening.items c.self.inside.handlers c.self.inside.history.items c.self.inside.limit c.self.inside.failed c.args.self.now
+    (failed_is c.self.inside.opening.items c.self.inside.handlers c.self.inside.history.entries c.self.inside.limit c.self.inside.failed c.args.self.now
     c.self.view_is) c.refused-in_default.ensures.cause c.no_room_to_finish-cause.ensures.named
 
 pub returns-in_default-clause-kept : goal.returns-in_default-clause-kept
 returns-in_default-clause-kept g c honest =
     subst (λ k. Stays (g.K.Keeper.handlers k) (g.K.Keeper.handlers c.self.inside.handlers.keeper))
-    (keeper_is c.self.inside.opening.items c.self.inside.handlers c.self.inside.history.items c.self.inside.limit c.self.inside.failed c.args.self.now
+    (keeper_is c.self.inside.opening.items c.self.inside.handlers c.self.inside.history.entries c.self.inside.limit c.self.inside.failed c.args.self.now
     c.self.view_is) (stays_same (g.K.Keeper.handlers c.self.inside.handlers.keeper))
 
 pub returns-in-Err-clause-refused : goal.returns-in-Err-clause-refused
@@ -48,21 +48,21 @@ returns-in-Err-clause-failed g c =
 
 pub invariant_of-self-in-Err-finish : goal.invariant_of-self-in-Err-finish
 invariant_of-self-in-Err-finish g c =
-    book_same c.self.inside.opening.items c.self.inside.handlers c.self.inside.history.items c.self.inside.limit c.self.inside.failed c.args.self.now
-    c.self.view_is g.K.Keeper.handlers g.K.Keeper.is_honest c.finish.new.self c.reserve.new.self.items _ c.self.invariant c.in-Err-finish.ensures.err
-    c.reserve.ensures.items c.finish.ensures.held c.finish.ensures.honest
+    book_same c.self.inside.opening.items c.self.inside.handlers c.self.inside.history.entries c.self.inside.limit c.self.inside.failed c.args.self.now
+    c.self.view_is g.K.Keeper.handlers g.K.Keeper.is_honest c.finish.new.self c.make_room.new.self.entries _ c.self.invariant c.in-Err-finish.ensures.err
+    c.make_room.ensures.entries c.finish.ensures.held c.finish.ensures.honest
 
 pub returns-in-Err-finish-clause-incarnations : goal.returns-in-Err-finish-clause-incarnations
 returns-in-Err-finish-clause-incarnations g c honest =
     subst (λ k. IsSame (g.K.Keeper.incarnations k) (g.K.Keeper.incarnations c.finish.new.self.keeper))
-    (keeper_is c.self.inside.opening.items c.self.inside.handlers c.self.inside.history.items c.self.inside.limit c.self.inside.failed c.args.self.now
+    (keeper_is c.self.inside.opening.items c.self.inside.handlers c.self.inside.history.entries c.self.inside.limit c.self.inside.failed c.args.self.now
     c.self.view_is) (c.finish.ensures.incarnations honest)
 
 pub returns-in-Err-finish-clause-refused : goal.returns-in-Err-finish-clause-refused
 returns-in-Err-finish-clause-refused g c =
     subst (IsUnfinished c.args.self.now c.args.done) (sym (c.refused-in-Err-finish.ensures.cause ∙ c.job_refused-cause.ensures.cause))
     (job_refusal c.args.self.now c.args.done c.self.inside.handlers.handlers c.in-Ok.at (ap (λ (x : BookValue g.row.K.Denot). x.handlers) c.self.view_is)
-    (first_at c.self.inside.opening.items c.self.inside.handlers c.self.inside.history.items c.self.inside.limit c.self.inside.failed c.args.self.now
+    (first_at c.self.inside.opening.items c.self.inside.handlers c.self.inside.history.entries c.self.inside.limit c.self.inside.failed c.args.self.now
     c.self.view_is c.args.done.handler c.handler-handler.result c.in-Ok.at c.handler-handler.ensures c.in-Ok.ensures.place)
     (subst (MayHappen c.args.self.now) c.handler-handler.ensures c.in-Ok.ensures.may)
     c.in-Err-finish.error.cause c.in-Err-finish.ensures.stranger)
@@ -70,68 +70,68 @@ returns-in-Err-finish-clause-refused g c =
 pub returns-in-Err-finish-clause-kept : goal.returns-in-Err-finish-clause-kept
 returns-in-Err-finish-clause-kept g c honest =
     subst (λ k. Stays (g.K.Keeper.handlers k) (g.K.Keeper.handlers c.finish.new.self.keeper))
-    (keeper_is c.self.inside.opening.items c.self.inside.handlers c.self.inside.history.items c.self.inside.limit c.self.inside.failed c.args.self.now
+    (keeper_is c.self.inside.opening.items c.self.inside.handlers c.self.inside.history.entries c.self.inside.limit c.self.inside.failed c.args.self.now
     c.self.view_is) (c.in-Err-finish.ensures.kept honest)
 
 pub returns-in-Err-finish-clause-sound : goal.returns-in-Err-finish-clause-sound
 returns-in-Err-finish-clause-sound g c =
-    book_same c.self.inside.opening.items c.self.inside.handlers c.self.inside.history.items c.self.inside.limit c.self.inside.failed c.args.self.now
-    c.self.view_is g.K.Keeper.handlers g.K.Keeper.is_honest c.finish.new.self c.reserve.new.self.items _ c.self.invariant c.in-Err-finish.ensures.err
-    c.reserve.ensures.items c.finish.ensures.held c.finish.ensures.honest
+    book_same c.self.inside.opening.items c.self.inside.handlers c.self.inside.history.entries c.self.inside.limit c.self.inside.failed c.args.self.now
+    c.self.view_is g.K.Keeper.handlers g.K.Keeper.is_honest c.finish.new.self c.make_room.new.self.entries _ c.self.invariant c.in-Err-finish.ensures.err
+    c.make_room.ensures.entries c.finish.ensures.held c.finish.ensures.honest
 
 pub returns-clause-stored : goal.returns-clause-stored
 returns-clause-stored g c honest =
     subst (λ k. KeepsNew c.args.done.handler c.finish.new.self.handlers (g.K.Keeper.handlers k) (g.K.Keeper.handlers c.finish.new.self.keeper))
-    (keeper_is c.self.inside.opening.items c.self.inside.handlers c.self.inside.history.items c.self.inside.limit c.self.inside.failed c.args.self.now
+    (keeper_is c.self.inside.opening.items c.self.inside.handlers c.self.inside.history.entries c.self.inside.limit c.self.inside.failed c.args.self.now
     c.self.view_is) (c.in-Ok-finish.ensures.stored honest)
 
 pub returns-clause-incarnations : goal.returns-clause-incarnations
 returns-clause-incarnations g c honest =
     subst (λ k. IsSame (g.K.Keeper.incarnations k) (g.K.Keeper.incarnations c.finish.new.self.keeper))
-    (keeper_is c.self.inside.opening.items c.self.inside.handlers c.self.inside.history.items c.self.inside.limit c.self.inside.failed c.args.self.now
+    (keeper_is c.self.inside.opening.items c.self.inside.handlers c.self.inside.history.entries c.self.inside.limit c.self.inside.failed c.args.self.now
     c.self.view_is) (c.finish.ensures.incarnations honest)
 
 pub returns-clause-honest : goal.returns-clause-honest
 returns-clause-honest g c honest = subst (λ k. g.K.Keeper.is_honest k)
-    (keeper_is c.self.inside.opening.items c.self.inside.handlers c.self.inside.history.items c.self.inside.limit c.self.inside.failed c.args.self.now
+    (keeper_is c.self.inside.opening.items c.self.inside.handlers c.self.inside.history.entries c.self.inside.limit c.self.inside.failed c.args.self.now
     c.self.view_is) (c.finish.ensures.honest honest)
 
 pub invariant_of-self-2 : goal.invariant_of-self-2
 invariant_of-self-2 g c =
-    book_more c.self.inside.opening.items c.self.inside.handlers c.self.inside.history.items c.self.inside.limit c.self.inside.failed c.args.self.now
-    c.self.view_is c.finish.new.self c.enter.new.history.items c.args.pass (Finish c.args.done.handler)
+    book_more c.self.inside.opening.items c.self.inside.handlers c.self.inside.history.entries c.self.inside.limit c.self.inside.failed c.args.self.now
+    c.self.view_is c.finish.new.self c.enter.new.self.entries c.args.pass (Finish c.args.done.handler)
     (Finished c.in-Ok-finish.ran) c.in-Ok-finish.ensures.moves
-    (entered c.self.inside.history.items c.reserve.new.self.items c.enter.new.history.items c.args.pass (Finish c.args.done.handler)
+    (entered c.self.inside.history.entries c.make_room.new.self.entries c.enter.new.self.entries c.args.pass (Finish c.args.done.handler)
     (Finished c.in-Ok-finish.ran) c.finished-reply.result
-    (subst (λ (h : HandlerId). c.enter.new.history.items ≡ c.reserve.new.self.items ++ (c.args.pass, Finish h, c.finished-reply.result) ∷ [])
-    c.handler-handler.ensures c.enter.ensures) c.reserve.ensures.items c.finished-reply.ensures)
+    (subst (λ (h : HandlerId). c.enter.new.self.entries ≡ c.make_room.new.self.entries ++ (c.args.pass, Finish h, c.finished-reply.result) ∷ [])
+    c.handler-handler.ensures c.enter.ensures) c.make_room.ensures.entries c.finished-reply.ensures)
     g.K.Keeper.handlers g.K.Keeper.is_honest c.self.invariant
-    (room_left c.self.inside.opening.items c.self.inside.handlers c.self.inside.history.items c.self.inside.limit c.self.inside.failed c.args.self.now
+    (room_left c.self.inside.opening.items c.self.inside.handlers c.self.inside.history.entries c.self.inside.limit c.self.inside.failed c.args.self.now
     c.self.view_is c.handler-handler.result c.in-Ok.ensures.may) c.finish.ensures.held c.finish.ensures.honest
 
 pub returns-clause-gains : goal.returns-clause-gains
 returns-clause-gains g c =
-    gains c.self.inside.opening.items c.self.inside.handlers c.self.inside.history.items c.self.inside.limit c.self.inside.failed c.args.self.now c.self.view_is
-    c.finish.new.self c.enter.new.history.items c.args.pass (Finish c.args.done.handler) (Finished c.in-Ok-finish.ran) c.in-Ok-finish.ensures.moves
-    (entered c.self.inside.history.items c.reserve.new.self.items c.enter.new.history.items c.args.pass (Finish c.args.done.handler)
+    gains c.self.inside.opening.items c.self.inside.handlers c.self.inside.history.entries c.self.inside.limit c.self.inside.failed c.args.self.now c.self.view_is
+    c.finish.new.self c.enter.new.self.entries c.args.pass (Finish c.args.done.handler) (Finished c.in-Ok-finish.ran) c.in-Ok-finish.ensures.moves
+    (entered c.self.inside.history.entries c.make_room.new.self.entries c.enter.new.self.entries c.args.pass (Finish c.args.done.handler)
     (Finished c.in-Ok-finish.ran) c.finished-reply.result
-    (subst (λ (h : HandlerId). c.enter.new.history.items ≡ c.reserve.new.self.items ++ (c.args.pass, Finish h, c.finished-reply.result) ∷ [])
-    c.handler-handler.ensures c.enter.ensures) c.reserve.ensures.items c.finished-reply.ensures)
+    (subst (λ (h : HandlerId). c.enter.new.self.entries ≡ c.make_room.new.self.entries ++ (c.args.pass, Finish h, c.finished-reply.result) ∷ [])
+    c.handler-handler.ensures c.enter.ensures) c.make_room.ensures.entries c.finished-reply.ensures)
 
 pub returns-clause-sound : goal.returns-clause-sound
 returns-clause-sound g c =
-    book_more c.self.inside.opening.items c.self.inside.handlers c.self.inside.history.items c.self.inside.limit c.self.inside.failed c.args.self.now
-    c.self.view_is c.finish.new.self c.enter.new.history.items c.args.pass (Finish c.args.done.handler)
+    book_more c.self.inside.opening.items c.self.inside.handlers c.self.inside.history.entries c.self.inside.limit c.self.inside.failed c.args.self.now
+    c.self.view_is c.finish.new.self c.enter.new.self.entries c.args.pass (Finish c.args.done.handler)
     (Finished c.in-Ok-finish.ran) c.in-Ok-finish.ensures.moves
-    (entered c.self.inside.history.items c.reserve.new.self.items c.enter.new.history.items c.args.pass (Finish c.args.done.handler)
+    (entered c.self.inside.history.entries c.make_room.new.self.entries c.enter.new.self.entries c.args.pass (Finish c.args.done.handler)
     (Finished c.in-Ok-finish.ran) c.finished-reply.result
-    (subst (λ (h : HandlerId). c.enter.new.history.items ≡ c.reserve.new.self.items ++ (c.args.pass, Finish h, c.finished-reply.result) ∷ [])
-    c.handler-handler.ensures c.enter.ensures) c.reserve.ensures.items c.finished-reply.ensures)
+    (subst (λ (h : HandlerId). c.enter.new.self.entries ≡ c.make_room.new.self.entries ++ (c.args.pass, Finish h, c.finished-reply.result) ∷ [])
+    c.handler-handler.ensures c.enter.ensures) c.make_room.ensures.entries c.finished-reply.ensures)
     g.K.Keeper.handlers g.K.Keeper.is_honest c.self.invariant
-    (room_left c.self.inside.opening.items c.self.inside.handlers c.self.inside.history.items c.self.inside.limit c.self.inside.failed c.args.self.now
+    (room_left c.self.inside.opening.items c.self.inside.handlers c.self.inside.history.entries c.self.inside.limit c.self.inside.failed c.args.self.now
     c.self.view_is c.handler-handler.result c.in-Ok.ensures.may) c.finish.ensures.held c.finish.ensures.honest
 
 pub returns-in-Err-finish-clause-honest : goal.returns-in-Err-finish-clause-honest
 returns-in-Err-finish-clause-honest g c honest = subst (λ k. g.K.Keeper.is_honest k)
-    (keeper_is c.self.inside.opening.items c.self.inside.handlers c.self.inside.history.items c.self.inside.limit c.self.inside.failed c.args.self.now
+    (keeper_is c.self.inside.opening.items c.self.inside.handlers c.self.inside.history.entries c.self.inside.limit c.self.inside.failed c.args.self.now
     c.self.view_is) (c.finish.ensures.honest honest)

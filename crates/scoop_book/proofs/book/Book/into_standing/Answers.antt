@@ -6,5 +6,5 @@ use Rattle.scoop_book.proofs.book.Book.into_standing.Goals as goal
 
 pub new-requires : goal.new-requires
 new-requires g c =
-    classes_stay c.self.inside.opening.items c.self.inside.history.items c.self.inside.handlers.handlers c.self.invariant.apart c.self.invariant.replays
+    classes_stay c.self.inside.opening.items c.self.inside.history.entries c.self.inside.handlers.handlers c.self.invariant.apart c.self.invariant.replays
     ∙ ap (λ (h : HandlersValue g.row.K.Denot). map class_in h.handlers) (sym c.into_parts-locals.ensures)

@@ -17,15 +17,15 @@ returns-clause-may g c = (subst (MayOpen g.B.Behaviour.class) c.deref.ensures.va
 pub invariant_of-result : goal.invariant_of-result
 invariant_of-result g c =
     opened_book_of g.B.Behaviour.words g.K.Keeper.handlers g.K.Keeper.is_honest c.args.keeper c.open_all.new.keeper c.args.handlers.items c.in-Ok.opened.1.items
-    c.in-Ok.opened.0.items c.args.limit false c.new.result c.new-2.result.items
-    c.new.ensures c.new-2.ensures.items c.in-Ok.ensures.opens c.in-Ok.ensures.kept
+    c.in-Ok.opened.0.items c.args.limit false c.new.result c.new-2.result.entries
+    c.new.ensures c.new-2.ensures c.in-Ok.ensures.opens c.in-Ok.ensures.kept
     (subst (MayOpen g.B.Behaviour.class) c.deref.ensures.value c.in_default.ensures.none).apart c.open_all.ensures.handlers c.open_all.ensures.honest
 
 pub returns-clause-sound : goal.returns-clause-sound
 returns-clause-sound g c =
     opened_book_of g.B.Behaviour.words g.K.Keeper.handlers g.K.Keeper.is_honest c.args.keeper c.open_all.new.keeper c.args.handlers.items c.in-Ok.opened.1.items
-    c.in-Ok.opened.0.items c.args.limit false c.new.result c.new-2.result.items
-    c.new.ensures c.new-2.ensures.items c.in-Ok.ensures.opens c.in-Ok.ensures.kept
+    c.in-Ok.opened.0.items c.args.limit false c.new.result c.new-2.result.entries
+    c.new.ensures c.new-2.ensures c.in-Ok.ensures.opens c.in-Ok.ensures.kept
     (subst (MayOpen g.B.Behaviour.class) c.deref.ensures.value c.in_default.ensures.none).apart c.open_all.ensures.handlers c.open_all.ensures.honest
 
 pub returns-clause-kept : goal.returns-clause-kept
@@ -37,3 +37,8 @@ pub returns-clause-incarnations : goal.returns-clause-incarnations
 returns-clause-incarnations g c =
     subst (λ k. g.K.Keeper.is_honest k → IsSame (g.K.Keeper.incarnations c.args.keeper) (g.K.Keeper.incarnations k))
     (sym (ap (λ (h : HandlersValue g.row.K.Denot). h.keeper) c.new.ensures)) c.open_all.ensures.incarnations
+
+pub returns-clause-honest : goal.returns-clause-honest
+returns-clause-honest g c =
+    subst (λ k. g.K.Keeper.is_honest k → g.K.Keeper.is_honest c.args.keeper)
+    (sym (ap (λ (h : HandlersValue g.row.K.Denot). h.keeper) c.new.ensures)) c.open_all.ensures.honest

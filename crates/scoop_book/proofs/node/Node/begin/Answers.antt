@@ -8,6 +8,6 @@ use Rattle.scoop_book.proofs.node.Node.begin.Goals as goal
 
 pub returns-clause-gains : goal.returns-clause-gains
 returns-clause-gains g c =
-    pass_gains c.pass.inside.number _ c.pass.inside.events.items c.reserve.new.self.items c.put_down.new.events.items (Begin c.args.handler)
+    pass_gains c.pass.inside.number _ c.pass.inside.events.entries c.make_room.new.self.entries c.enter.new.self.entries c.pass.inside.number (Begin c.args.handler)
     (Begin c.args.handler) (Began (option_map leaves c.in-Ok-begin_in.job)) (Began c.entry_left.result) c.args.pass.now
-    c.pass.view_is c.put_down.ensures c.reserve.ensures.items refl (ap Began c.entry_left.ensures)
+    c.pass.view_is c.enter.ensures c.make_room.ensures.entries refl (ap Began c.entry_left.ensures)

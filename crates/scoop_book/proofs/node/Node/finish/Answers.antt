@@ -6,6 +6,6 @@ use Rattle.scoop_book.proofs.node.Node.finish.Goals as goal
 
 pub returns-clause-gains : goal.returns-clause-gains
 returns-clause-gains g c =
-    pass_gains c.pass.inside.number _ c.pass.inside.events.items c.reserve.new.self.items c.put_down.new.events.items (Finish c.args.done.handler)
+    pass_gains c.pass.inside.number _ c.pass.inside.events.entries c.make_room.new.self.entries c.enter.new.self.entries c.pass.inside.number (Finish c.args.done.handler)
     (Finish c.handler-handler.result) (Finished c.in-Ok-finish_in.ran) c.finished-reply.result c.args.pass.now
-    c.pass.view_is c.put_down.ensures c.reserve.ensures.items (ap Finish c.handler-handler.ensures) c.finished-reply.ensures
+    c.pass.view_is c.enter.ensures c.make_room.ensures.entries (ap Finish c.handler-handler.ensures) c.finished-reply.ensures

@@ -6,6 +6,6 @@ use Rattle.scoop_book.proofs.node.Node.hear.Goals as goal
 
 pub returns-clause-gains : goal.returns-clause-gains
 returns-clause-gains g c =
-    pass_gains c.pass.inside.number _ c.pass.inside.events.items c.reserve.new.self.items c.put_down.new.events.items (Hear c.args.message.now)
+    pass_gains c.pass.inside.number _ c.pass.inside.events.entries c.make_room.new.self.entries c.enter.new.self.entries c.pass.inside.number (Hear c.args.message.now)
     (Hear c.args.message.now) (Heard c.in-Ok-hear_in.heard) c.heard_reply-reply.result c.args.pass.now
-    c.pass.view_is c.put_down.ensures c.reserve.ensures.items refl c.heard_reply-reply.ensures
+    c.pass.view_is c.enter.ensures c.make_room.ensures.entries refl c.heard_reply-reply.ensures

@@ -9,7 +9,7 @@ use Rattle.scoop_book.proofs.node.Node.into_agreed.Goals as goal
 pub returns-in-None-clause-closes : goal.returns-in-None-clause-closes
 returns-in-None-clause-closes g c =
     closes_of g.K.Keeper.handlers g.K.Keeper.is_honest c.into_inner-book.result c.args.self.passes c.self.inside.passes c.args.passes.items c.deref.result.now
-    c.opening.result.now c.history.result.now
+    c.opening.result.now c.history.result.now.entries
     (ap (λ (n : NodeValue). n.passes) c.self.view_is) c.deref.ensures.value c.opening.ensures c.history.ensures.entries
     c.history.ensures.sound c.in-None.ensures.complete c.in-None.ensures.agree c.in-None.ensures.no_others
 
@@ -22,11 +22,11 @@ returns-in-Some-clause-missing g c =
 pub returns-in-None-clause-since : goal.returns-in-None-clause-since
 returns-in-None-clause-since g c =
     follows_of g.K.Keeper.handlers g.K.Keeper.is_honest c.into_inner-book.result c.args.passes.items c.deref.result.now c.opening.result.now
-    c.history.result.now c.into_inner-book.result.keeper c.deref.ensures.value c.opening.ensures refl c.history.ensures.sound
+    c.history.result.now.entries c.into_inner-book.result.keeper c.deref.ensures.value c.opening.ensures refl c.history.ensures.sound
     c.in-None.ensures.agree
 
 pub returns-in-Some-clause-differs : goal.returns-in-Some-clause-differs
 returns-in-Some-clause-differs g c n is =
     differs_of g.K.Keeper.handlers g.K.Keeper.is_honest c.into_inner-book.result c.args.self.passes c.self.inside.passes c.args.passes.items c.deref.result.now
-    c.opening.result.now c.history.result.now n (ap (λ (x : NodeValue). x.passes) c.self.view_is) c.deref.ensures.value c.opening.ensures
+    c.opening.result.now c.history.result.now.entries n (ap (λ (x : NodeValue). x.passes) c.self.view_is) c.deref.ensures.value c.opening.ensures
     c.history.ensures.entries c.history.ensures.sound (c.in-Some.ensures.differs n is)
