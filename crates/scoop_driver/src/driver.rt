@@ -107,6 +107,17 @@ impl<L: Link, D: Diary<A>, A: Allocator> Driver<L, D, A> {
         &self.diary
     }
 
+    /// Takes the driver apart, and returns its link and its diary. Its client ends.
+    pub fn into_parts(self) -> (L, D)
+        ensures link { result.0 ≡ self.link }
+        ensures diary { result.1 ≡ self.diary }
+        ensures told { self.seen.told ≡ L.told result.0 }
+        ensures faults { self.seen.faults ≡ L.fault_count result.0 }
+    {
+        let Driver { link, diary, .. } = self;
+        (link, diary)
+    }
+
     /// One turn: sends every due message to the client's handlers, in their order, and receives once. Returns the
     /// effect of the message at the client, or `None` if no frame came. `LinkFault` breaks the turn off. If a
     /// diary has no room, it takes no turn and returns `OutOfMemory`.

@@ -36,6 +36,11 @@ impl<'j, J: Write + Drop> LastBlock<'j, J> {
         }
     }
 
+    /// The journal.
+    pub(crate) fn into_journal(self) -> &'j mut Option<Journal<J>> {
+        self.journal
+    }
+
     /// The block that the client had after its last command.
     pub(crate) fn block(&self) -> Option<Block>
         ensures { result ≡ self.now.block }

@@ -1,7 +1,8 @@
 //! A client session driven by text lines.
 //!
 //! A [`Session`] is a client over its link, with a journal if it writes one. It greets its handlers, does what each line asks,
-//! and leaves its block at the end ([`Left`]).
+//! and leaves its block at the end ([`Left`]). A program calls it without lines, by [`Session::reserve_block`] and the calls
+//! beside it.
 //!
 //! ```
 //! let mut session = Session::new(alloc, client, link, TURNS, &mut journal);
@@ -12,6 +13,7 @@
 //! ```
 #![tactic(auto)]
 
+mod calls;
 mod last_block;
 mod parting;
 mod session;

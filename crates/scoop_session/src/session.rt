@@ -1,9 +1,11 @@
 //! A client session driven by text lines.
 
-ghost use Rattle.std.specs.Prelude.{◌≡◌, None, Ok, Err, OnOk, IsFalse, IsTrue, IfOk, IfErr, IfSome, ◌≤◌, is_some};
+ghost use Rattle.std.specs.Prelude.{◌≡◌, None, Ok, Err, OnOk, IsFalse, IsTrue, IfOk, IfErr, IfSome, ◌≤◌, false, is_some};
 ghost use Rattle.scoop_client.specs.State.{phase_of};
+ghost use Rattle.scoop_client.specs.declared.command.Command.TheVariants.{Reserve as DoReserve};
+ghost use Rattle.scoop_driver.specs.Calls.{Called, Interrupted};
 ghost use Rattle.scoop_session.specs.Answering.{answered};
-ghost use Rattle.scoop_session.specs.Obeying.{CallDoes, DoesInside, DoesOutside, Drives, EndDoes, GiveUpDoes, NoteDoes, Obeys, QueryDoes, ReserveDoes};
+ghost use Rattle.scoop_session.specs.Obeying.{CallDoes, DoesInside, DoesOutside, Drives, EndDoes, GiveUpDoes, NoteDoes, Obeys, QueryDoes, ReserveDoes, RunsBlock};
 ghost use Rattle.scoop_session.specs.Obeying.{TakesTurnsOnly, TryDoes, WhenDoes, is_quiet};
 ghost use Rattle.scoop_session.specs.Endings.{ended_by, first_awaited, input_ended, over_at, unwritten};
 ghost use Rattle.scoop_session.specs.Unlocking.{is_unlock, owes_unlock};
@@ -15,7 +17,7 @@ use scoop_driver::{BodyEntry, Driver, DriverError, Interrupt, Pause};
 use scoop_errors::PartyError;
 use scoop_journal::{AppendError, Journal};
 use scoop_link::Link;
-use scoop_message::{Answer, HandlerId, Message, Request};
+use scoop_message::{Answer, Block, HandlerId, Message, Request};
 use scoop_reserve::ReserveError;
 use scoop_system::{ClientLine, HandlerPlace, NamedCondition, NamedConditions, NamedHandlers};
 use scoop_texts::{Reply, RuntimeError};
@@ -124,6 +126,15 @@ impl<'j, L: Link, J: Write + Drop> Session<'j, L, J> {
             wish: None,
             answers: Vec::new(alloc),
         }
+    }
+
+    /// Takes the session apart, and returns its link and its journal. Its client ends.
+    pub fn into_parts(self) -> (L, &'j mut Option<Journal<J>>)
+        ensures { result.0 ≡ self.driver.link }
+    {
+        let Session { driver, .. } = self;
+        let (link, diary) = driver.into_parts();
+        (link, diary.into_journal())
     }
 
     /// The error for a line of the journal that isn't written, if there is one.
@@ -299,9 +310,35 @@ impl<'j, L: Link, J: Write + Drop> Session<'j, L, J> {
         }
     }
 
-    // Reserves the handlers, and gives their locks back before the reply, so that no other client waits for them until this
-    // client's next line. If the turns don't suffice, the later lines go on with it. The interrupt may end the wait for the
-    // locks: then the block is given up.
+    // Reserves the handlers, and gives their locks back before it returns, so that no other client waits for them until this
+    // client's next call. If the turns don't suffice, the later calls go on with it. Returns the block, or `None` if the
+    // interrupt ended the wait for the locks.
+    pub(crate) fn lock<I: Interrupt>(
+        &mut self,
+        handlers: &[HandlerId],
+        interrupt: &mut I,
+    ) -> Result<Option<Block>, DriverError>
+        ensures runs { IfOk result (λ locked. IfSome locked (λ _. RunsBlock handlers.now self.old.driver.turns self.old.driver.seen self.new.driver.seen)) }
+        ensures stopped { result ≡ Ok None → Interrupted I.stops interrupt.new }
+        ensures begun { result ≡ Ok None → Called (DoReserve handlers.now) self.old.driver.turns (Ok false) self.old.driver.seen self.new.driver.seen }
+        ensures drives { Drives self.old.driver.seen self.new.driver.seen }
+        ensures turns { self.new.driver.turns ≡ self.old.driver.turns }
+    {
+        match self.driver.reserve_unless(handlers, interrupt) {
+            Ok(true) => {}
+            Ok(false) => return Ok(None),
+            Err(error) => return Err(error),
+        }
+        let Some(block) = self.driver.diary().block() else {
+            return Err(DriverError::Client(ClientError::NoBlock));
+        };
+        match self.unlock(handlers) {
+            Ok(()) | Err(DriverError::TurnsOver | DriverError::LinkFault) => Ok(Some(block)),
+            Err(error) => Err(error),
+        }
+    }
+
+    // Reserves the handlers. A block whose wait for the locks is interrupted is given up.
     fn reserve<I: Interrupt>(
         &mut self,
         handlers: &NamedHandlers,
@@ -309,18 +346,9 @@ impl<'j, L: Link, J: Write + Drop> Session<'j, L, J> {
     ) -> Result<Reply, DriverError>
         ensures { ReserveDoes handlers.now self.old.driver.turns result self.old.driver.seen self.new.driver.seen }
     {
-        match self.driver.reserve_unless(handlers.as_slice(), interrupt) {
-            Ok(true) => {}
-            Ok(false) => return self.give_back(),
-            Err(error) => return Err(error),
-        }
-        let Some(block) = self.driver.diary().block() else {
-            return Err(DriverError::Client(ClientError::NoBlock));
-        };
-        match self.unlock(handlers.as_slice()) {
-            Ok(()) | Err(DriverError::TurnsOver | DriverError::LinkFault) => {
-                Ok(Reply::Reserved(block))
-            }
+        match self.lock(handlers.as_slice(), interrupt) {
+            Ok(Some(block)) => Ok(Reply::Reserved(block)),
+            Ok(None) => self.give_back(),
             Err(error) => Err(error),
         }
     }

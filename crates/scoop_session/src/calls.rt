@@ -1,0 +1,83 @@
+//! The calls of a program that holds a session.
+
+ghost use Rattle.std.specs.Prelude.{◌≡◌, ◌≤◌, length, IfOk, OnOk};
+ghost use Rattle.scoop_client.specs.State.{phase_of};
+ghost use Rattle.scoop_client.specs.declared.command.Command.TheVariants.{Call as DoCall, End as DoEnd};
+ghost use Rattle.scoop_client.specs.declared.phase.Phase.TheVariants.{Idle};
+ghost use Rattle.scoop_driver.specs.Calls.{Called, Queried};
+ghost use Rattle.scoop_driver.specs.Waiting.{WaitsWith};
+ghost use Rattle.scoop_driver.specs.Wishes.{queries, wish_for};
+ghost use Rattle.scoop_session.specs.Obeying.{Drives, RunsBlock};
+
+use crate::session::Session;
+use scoop_driver::{BodyEntry, ConditionPart, DriverError, NoInterrupt, Pause};
+use scoop_journal::Journal;
+use scoop_link::Link;
+use scoop_message::{Answer, Block, HandlerId, Request};
+use std::io::Write;
+
+impl<'j, L: Link, J: Write + Drop> Session<'j, L, J> {
+    /// Reserves these handlers: takes turns until the block runs, and then until their locks are given back, so that no other
+    /// client waits for them until this client's next call. Returns the block. Refused as [`scoop_driver::Driver::reserve`]. If the turns don't
+    /// suffice to give the locks back, later calls go on with it.
+    pub fn reserve_block(&mut self, handlers: &[HandlerId]) -> Result<Block, DriverError>
+        ensures runs { IfOk result (λ _. RunsBlock handlers.now self.old.driver.turns self.old.driver.seen self.new.driver.seen) }
+        ensures drives { Drives self.old.driver.seen self.new.driver.seen }
+        ensures turns { self.new.driver.turns ≡ self.old.driver.turns }
+    {
+        match self.lock(handlers, &mut NoInterrupt) {
+            Ok(Some(block)) => Ok(block),
+            Ok(None) => unreachable!(),
+            Err(error) => Err(error),
+        }
+    }
+
+    /// Logs a call. Later turns send it and get its acknowledgement; the end of the block waits for that. Refused as
+    /// [`scoop_driver::Driver::call`].
+    pub fn log_call(&mut self, handler: HandlerId, request: Request) -> Result<(), DriverError>
+        ensures does { Called (DoCall handler request) self.old.driver.turns result self.old.driver.seen self.new.driver.seen }
+        ensures turns { self.new.driver.turns ≡ self.old.driver.turns }
+    {
+        self.driver.call(handler, request)
+    }
+
+    /// Logs a query, and takes turns until its answer is accepted. Refused as [`scoop_driver::Driver::query`].
+    pub fn ask(&mut self, handler: HandlerId, request: Request) -> Result<Answer, DriverError>
+        ensures does { Queried handler request self.old.driver.turns result self.old.driver.seen self.new.driver.seen }
+        ensures turns { self.new.driver.turns ≡ self.old.driver.turns }
+    {
+        self.driver.query(handler, request)
+    }
+
+    /// Ends the block, and takes turns until all of it is acknowledged. Refused as [`scoop_driver::Driver::end`].
+    pub fn end_block(&mut self) -> Result<(), DriverError>
+        ensures does { Called DoEnd self.old.driver.turns result self.old.driver.seen self.new.driver.seen }
+        ensures ends { OnOk result (phase_of self.new.driver.seen.client ≡ Idle) }
+        ensures turns { self.new.driver.turns ≡ self.old.driver.turns }
+    {
+        self.driver.end()
+    }
+
+    /// Tries blocks over these handlers until all parts of the condition hold in one, logs the body in that block, and ends it.
+    /// Returns the block's number, from 1, and writes the answers to the body's queries into `answers`, in order. Pauses between
+    /// two tries. Refused as [`scoop_driver::Driver::when_all`].
+    pub fn try_when<P: Pause>(
+        &mut self,
+        handlers: &[HandlerId],
+        condition: &[ConditionPart],
+        body: &[BodyEntry],
+        answers: &mut [Answer],
+        tries: u32,
+        pause: &mut P,
+    ) -> Result<u32, DriverError>
+        requires tries { 1 ≤ tries }
+        requires answers { length answers.old ≡ queries body.now }
+        ensures waits { IfOk result (λ _. WaitsWith (wish_for handlers.now condition.now body.now) self.old.driver.turns tries result answers.new self.old.driver.seen self.new.driver.seen) }
+        ensures drives { Drives self.old.driver.seen self.new.driver.seen }
+        ensures turns { self.new.driver.turns ≡ self.old.driver.turns }
+        ensures answers { length answers.new ≡ length answers.old }
+    {
+        self.driver
+            .when_all(handlers, condition, body, answers, tries, pause)
+    }
+}
