@@ -1,5 +1,6 @@
 pub mod Backoff
 pub mod Beginnings
+pub mod Calling
 pub mod Members
 pub mod ClientLives
 pub mod Cutting

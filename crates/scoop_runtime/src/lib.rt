@@ -4,9 +4,10 @@
 //! opens it again over the same record and link. The call [`client_run`] runs a client whose commands are the lines of
 //! an input, which may end a reservation that waits ([`Interrupt`]). The client takes its next incarnation, greets
 //! every handler that it uses, and replies line by line. At its end it leaves no block behind. The call [`client_cut`]
-//! cuts the block of a client that was killed. The calls [`open_node_link`] and [`open_client_link`] bind their
-//! addresses. The call [`print_reply`] writes the reply to a line. The call [`check_script`] reads all lines of a
-//! script before a client runs them.
+//! cuts the block of a client that was killed. The call [`program_run`] runs a program as a client, whose commands are the
+//! calls of the program ([`Calls`]). The calls [`open_node_link`] and [`open_client_link`] bind their addresses. The call
+//! [`print_reply`] writes the reply to a line. The call [`check_script`] reads all lines of a script before a client runs
+//! them.
 //!
 //! In the example two threads run a node's handlers beside the one that receives. Then a client runs. `place` is the
 //! node's place in its system, and then the client's.
@@ -33,6 +34,7 @@
 #![tactic(auto)]
 
 mod backoff;
+mod calling;
 mod client;
 mod cutting;
 mod ending;
@@ -42,9 +44,11 @@ mod objects;
 mod openings;
 mod pending;
 mod plan;
+mod program;
 mod trying;
 
 pub use backoff::Backoff;
+pub use calling::{Caller, Calls};
 pub use client::client_run;
 pub use cutting::client_cut;
 pub use ending::Ending;
@@ -52,6 +56,7 @@ pub use links::{open_client_link, open_node_link};
 pub use node::{node_run, node_run_until};
 pub use objects::{Objects, Tables};
 pub use plan::{ClientPlan, NodePlan, Serving};
+pub use program::{ClientProgram, ProgramEnd, program_run};
 pub use scoop_driver::Interrupt;
 pub use scoop_texts::{
     About, ClientStop, FileFault, MAX_EXECUTORS, MIN_HISTORY, OutOfRange, Progress, Reply,
