@@ -84,18 +84,24 @@ pub trait Calls {
 /// A client whose commands are calls. If it is let go with a block open, it cuts the block by greeting the block's handlers with
 /// its next incarnation, and writes to its notes `cut 7.1.1`, or the handlers that don't answer and how to free them. A block
 /// whose handlers aren't all locked is given up. Each takes at most 500 turns.
-pub struct Caller<'a, K: Keeper<Global>, L: Link, J: Write + Drop, P: Pause + Drop, N: Write + Drop>
+pub struct Caller<'p, 's, 'h, 'k, 'j, K, L, J, P, N>
+where
+    K: Keeper<Global>,
+    L: Link,
+    J: Write + Drop,
+    P: Pause + Drop,
+    N: Write + Drop,
 {
     alloc: Global,
-    plan: ClientPlan<'a>,
-    known: &'a [HandlerId],
-    keeper: &'a mut K,
-    session: Session<'a, L, J>,
+    plan: &'p ClientPlan<'s>,
+    known: &'h [HandlerId],
+    keeper: &'k mut K,
+    session: Session<'j, L, J>,
     pause: P,
     notes: N,
 }
 
-impl<'a, K, L, J, P, N> Caller<'a, K, L, J, P, N>
+impl<'p, 's, 'h, 'k, 'j, K, L, J, P, N> Caller<'p, 's, 'h, 'k, 'j, K, L, J, P, N>
 where
     K: Keeper<Global>,
     L: Link,
@@ -108,15 +114,15 @@ where
     /// turns are over, and `link: LinkFault`; `write fault`, and `out of memory`.
     pub fn begin(
         alloc: Global,
-        plan: ClientPlan<'a>,
-        known: &'a [HandlerId],
-        keeper: &'a mut K,
+        plan: &'p ClientPlan<'s>,
+        known: &'h [HandlerId],
+        keeper: &'k mut K,
         link: L,
-        journal: &'a mut Option<Journal<J>>,
+        journal: &'j mut Option<Journal<J>>,
         pause: P,
         notes: N,
-    ) -> Result<Caller<'a, K, L, J, P, N>, RuntimeError> {
-        let client = begin_client(alloc, &plan, keeper, known, journal)?;
+    ) -> Result<Caller<'p, 's, 'h, 'k, 'j, K, L, J, P, N>, RuntimeError> {
+        let client = begin_client(alloc, plan, &mut *keeper, known, &mut *journal)?;
         let session = Session::new(alloc, client, link, plan.turns(), journal);
         let mut caller = Caller {
             alloc,
@@ -166,14 +172,14 @@ where
         let (mut link, journal) = session.into_parts();
         let remains = Remains { left, last };
         let unended = cut_left(
-            alloc, &plan, keeper, &mut link, journal, known, remains, &mut notes,
+            alloc, plan, keeper, &mut link, journal, known, remains, &mut notes,
         );
         tell_unended(unended, &mut notes);
         unended
     }
 }
 
-impl<'a, K, L, J, P, N> Drop for Caller<'a, K, L, J, P, N>
+impl<'p, 's, 'h, 'k, 'j, K, L, J, P, N> Drop for Caller<'p, 's, 'h, 'k, 'j, K, L, J, P, N>
 where
     K: Keeper<Global>,
     L: Link,
@@ -197,7 +203,7 @@ fn asks_for(op: u16, args: &[u64]) -> Request
     Request { op, args }
 }
 
-impl<'a, K, L, J, P, N> Calls for Caller<'a, K, L, J, P, N>
+impl<'p, 's, 'h, 'k, 'j, K, L, J, P, N> Calls for Caller<'p, 's, 'h, 'k, 'j, K, L, J, P, N>
 where
     K: Keeper<Global>,
     L: Link,

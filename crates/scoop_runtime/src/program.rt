@@ -42,7 +42,7 @@ impl ProgramEnd {
 /// client writes to `waits` which handlers it waits for. A call of the link that fails is written to `faults`.
 pub fn program_run<K, L, J, E, P, N, G>(
     alloc: Global,
-    plan: ClientPlan<'_>,
+    plan: &ClientPlan<'_>,
     keeper: &mut K,
     link: L,
     mut journal: Option<Journal<J>>,
@@ -78,7 +78,7 @@ where
 // Lets the program make its calls, and ends the client.
 fn run_calls<K, L, J, P, N, G>(
     program: &mut G,
-    mut caller: Caller<'_, K, L, J, P, N>,
+    mut caller: Caller<'_, '_, '_, '_, '_, K, L, J, P, N>,
 ) -> ProgramEnd
 where
     K: Keeper<Global>,
