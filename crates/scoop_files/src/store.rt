@@ -21,6 +21,39 @@ pub fn create(rt: &HostRuntime, path: &str) -> Result<FiledStore, FileError> {
     }
 }
 
+/// A new store in the file as [`create`] makes it, in which `last` is this client's incarnation: the next one is one more.
+pub fn create_after(
+    rt: &HostRuntime,
+    path: &str,
+    client: ClientId,
+    last: u32,
+) -> Result<FiledStore, FileError> {
+    let mut connection = create(rt, path)?.into_connection();
+    match put_incarnation(&mut connection, client, last) {
+        Ok(()) => {}
+        Err(error) => return Err(error),
+    }
+    match Store::adopt(rt.alloc(), connection) {
+        Ok(store) => Ok(store),
+        Err(refusal) => Err(refused(refusal, FileError::NoStore)),
+    }
+}
+
+// Stores the incarnation of a client that has none there.
+fn put_incarnation<S: Alter>(
+    connection: &mut Connection<S>,
+    client: ClientId,
+    inc: u32,
+) -> Result<(), FileError> {
+    match connection.execute(
+        "INSERT INTO clients (c, inc) VALUES (?1, ?2)",
+        params![client.0, inc],
+    ) {
+        Ok(_) => Ok(()),
+        Err(error) => Err(unread(error, FileError::Store(KeeperError::Refused))),
+    }
+}
+
 /// The store that is in the file. Makes no file. `NoStore` if the file has other tables.
 pub fn adopt(rt: &HostRuntime, path: &str) -> Result<FiledStore, FileError> {
     let connection = open_old(rt, path)?;
