@@ -45,7 +45,7 @@ impl StoreName {
         self.path.as_str()
     }
 
-    /// Whether a keeper has refused a put since the name led to another file or none, or the file was cut.
+    /// Whether a keeper has found that the name led to another file or none, or that the file was cut.
     pub fn is_lost(&self) -> bool {
         self.is_lost.load(Ordering::SeqCst)
     }
@@ -139,11 +139,20 @@ impl<'a, K: Drop> NamedKeeper<'a, K> {
         }
     }
 
-    /// The keeper under this one.
+    /// The keeper under this one. Looks at the file's name once more. It doesn't look at the log's: a close copies the log into
+    /// the file.
     pub fn into_inner(self) -> K
         ensures { result ≡ self.entry }
     {
+        if !self.is_file(look(self.rt, self.name.path.as_str())) {
+            self.name.lose();
+        }
         self.keeper
+    }
+
+    // Whether the look may have found the file, which isn't cut.
+    fn is_file(&self, found: Found) -> bool {
+        may_be_one(self.file, found) && !is_cut(self.file, found)
     }
 
     // Counts a put, and returns whether it is passed on. After a look that failed, the next put looks again.
@@ -167,7 +176,7 @@ impl<'a, K: Drop> NamedKeeper<'a, K> {
         ensures { self.new ≡ self.old }
     {
         let found = look(self.rt, self.name.path.as_str());
-        if !may_be_one(self.file, found) || is_cut(self.file, found) {
+        if !self.is_file(found) {
             return false;
         }
         if let Found::File { .. } = found {

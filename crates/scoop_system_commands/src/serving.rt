@@ -9,7 +9,7 @@ use crate::system_file::{read_system, report_fault};
 use crate::watching::{Served, Shown, level_of, open_server, run_watched};
 use jiff::Timestamp;
 use scoop_command_line::{NodeOptions, StoreChoice};
-use scoop_files::{FiledStore, NamedKeeper, StoreName, close};
+use scoop_files::{FiledStore, NamedKeeper, StoreName, close_named};
 use scoop_journal::Owner;
 use scoop_journal_keeper::JournaledKeeper;
 use scoop_keeper::{Keeper, MemoryKeeper};
@@ -247,7 +247,7 @@ fn serve_stored<L: Link + RefusesForged + Send, T: Threads + Wait + Clock + Net 
 // Closes the store of this name, over which a node was served.
 fn closed(ended: Result<FiledStore, RuntimeError>, name: &StoreName) -> Result<(), End> {
     match ended {
-        Ok(store) => Ok(close(store)?),
+        Ok(store) => Ok(close_named(store, name)?),
         Err(error) => Err(node_end(Some(name), error)),
     }
 }

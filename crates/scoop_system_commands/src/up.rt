@@ -8,7 +8,7 @@ use crate::owning::{check_owner, note_owner};
 use crate::stores::{open_client_store, open_node_store};
 use crate::system_file::{read_system, report_fault};
 use scoop_command_line::{StoreChoice, UpOptions};
-use scoop_files::{FiledStore, NamedKeeper, StoreName, close, report_file};
+use scoop_files::{FileError, FiledStore, NamedKeeper, StoreName, close, close_named, report_file};
 use scoop_journal::Owner;
 use scoop_keeper::{Keeper, MemoryKeeper};
 use scoop_message::{ClientId, OutOfMemory};
@@ -258,7 +258,7 @@ fn run_filed<T: Threads + Wait + Clock + Net + Sync>(
     store: FiledStore,
 ) -> Result<(), Status> {
     let (ran, store) = run_kept(rt, threads, plan, hosts, choice, store);
-    let closed = close_store(rt, choice.path().unwrap_or(""), store);
+    let closed = report_closed(rt, choice.path().unwrap_or(""), close(store));
     match ran {
         Ok(()) => closed,
         Err(status) => Err(status),
@@ -423,25 +423,33 @@ fn store_under<S: Alter + Drop>(keeper: Option<NamedKeeper<'_, Store<S>>>) -> Op
     }
 }
 
-// Closes the store of a node, which has this name.
+// Closes the store of a node, if there is one.
 fn close_kept(
     rt: &HostRuntime,
     name: Option<&StoreName>,
     store: Option<FiledStore>,
 ) -> Result<(), Status> {
-    let path = match name {
-        Some(name) => name.path(),
-        None => "",
-    };
     match store {
-        Some(store) => close_store(rt, path, store),
+        Some(store) => close_node(rt, name, store),
         None => Ok(()),
     }
 }
 
-// Closes a store.
-fn close_store(rt: &HostRuntime, path: &str, store: FiledStore) -> Result<(), Status> {
-    match close(store) {
+// Closes the store of a node, unless it has lost its name.
+fn close_node(rt: &HostRuntime, name: Option<&StoreName>, store: FiledStore) -> Result<(), Status> {
+    match name {
+        Some(name) => report_closed(rt, name.path(), close_named(store, name)),
+        None => report_closed(rt, "", close(store)),
+    }
+}
+
+// Reports why the store in this file isn't closed.
+fn report_closed(
+    rt: &HostRuntime,
+    path: &str,
+    closed: Result<(), FileError>,
+) -> Result<(), Status> {
+    match closed {
         Ok(()) => Ok(()),
         Err(error) => Err(report_file(rt, Hints::Always, path, error)),
     }

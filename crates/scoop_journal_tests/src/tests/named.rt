@@ -1,6 +1,8 @@
 //! Keepers whose file loses its name, and client stores that begin above an incarnation.
 
-use scoop_files::{FiledStore, NamedKeeper, StoreName, adopt_for, close, create_after};
+use scoop_files::{
+    FileError, FiledStore, NamedKeeper, StoreName, adopt_for, close, close_named, create_after,
+};
 use scoop_handler::HandlerState;
 use scoop_keeper::{Keeper, KeeperError, MemoryKeeper};
 use scoop_message::{ClientId, HandlerId};
@@ -135,5 +137,38 @@ fn a_new_store_begins_above_the_incarnation(rt: HostRuntime) -> Result<(), Fail>
     assert_eq!(rt; first_two(&rt, 0)?, (1, Some(2)));
     assert_eq!(rt; first_two(&rt, 41)?, (42, Some(43)));
     assert_eq!(rt; first_two(&rt, 4_294_967_294)?, (4_294_967_295, None));
+    Ok(())
+}
+
+// How a store is closed whose file or log was changed so after the last look, and the client's next incarnation in it then.
+fn closed_after(
+    rt: &HostRuntime,
+    changed: Change,
+) -> Result<(Result<(), FileError>, Option<u32>), Fail> {
+    let alloc = rt.alloc();
+    let path = path_of(rt, "closed")?;
+    let path = path.to_str().ok_or("a path")?;
+    let log = format!(in alloc; "{path}-wal")?;
+    let name = StoreName::new(alloc, path)?;
+    let keeper = NamedKeeper::new(rt, create_after(rt, path, CLIENT, 41)?, &name);
+    change(rt, path, log.as_str(), changed)?;
+    let closed = close_named(keeper.into_inner(), &name);
+    let next = match adopt_for(rt, path, CLIENT) {
+        Ok(store) => Some(next_in(store)?),
+        Err(_) => None,
+    };
+    let _gone = fs::remove_file(rt, path);
+    let _gone = fs::remove_file(rt, log.as_str());
+    Ok((closed, next))
+}
+
+#[test]
+fn the_end_looks_at_the_file_and_copies_a_deleted_log(rt: HostRuntime) -> Result<(), Fail> {
+    assert_eq!(rt; closed_after(&rt, Change::Nothing)?, (Ok(()), Some(42)));
+    assert_eq!(rt; closed_after(&rt, Change::LogDeleted)?, (Ok(()), Some(42)));
+    assert_eq!(rt;
+        closed_after(&rt, Change::Moved)?,
+        (Err(FileError::Lost), None)
+    );
     Ok(())
 }
