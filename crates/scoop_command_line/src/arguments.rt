@@ -62,20 +62,20 @@ fn placed<'a>(arg: Arg<'a>, name: &'static str, place: Place) -> Result<Arg<'a>,
         Place::RequiredOption => Ok(arg.long(name).required(true)),
         Place::OptionWithout(other) => arg.long(name).conflicts_with(other),
         Place::OptionWith(other) => arg.long(name).requires_arg(other),
-        Place::OptionWithButWithout(other, without) => {
-            with_and_without(arg.long(name), other, without)
+        Place::OptionWithButWithout(with, one, other) => {
+            with_and_without(arg.long(name), with, one, other)
         }
     }
 }
 
-// The argument, which is taken only with the one and never with the others.
+// The argument, which is taken only with the first and never with the others.
 fn with_and_without<'a>(
     arg: Arg<'a>,
     with: &'static str,
-    without: &'static [&'static str],
+    one: &'static str,
+    other: &'static str,
 ) -> Result<Arg<'a>, AllocError> {
-    match arg.requires_arg(with) {
-        Ok(arg) => arg.conflicts_with_all(without),
-        Err(error) => Err(error),
-    }
+    arg.requires_arg(with)?
+        .conflicts_with(one)?
+        .conflicts_with(other)
 }

@@ -39,9 +39,9 @@ pub(crate) enum Place {
     OptionWithout(&'static str),
     /// After `--name`, and only together with this option.
     OptionWith(&'static str),
-    /// The same, and never together with one of these. They are named too: clap excuses a missing option that an option
+    /// The same, and never together with the other two. They are named too: clap excuses a missing option that an option
     /// which is there excludes.
-    OptionWithButWithout(&'static str, &'static [&'static str]),
+    OptionWithButWithout(&'static str, &'static str, &'static str),
 }
 
 /// The value of an argument.

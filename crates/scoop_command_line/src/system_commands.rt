@@ -236,7 +236,7 @@ const CLIENT_ARGUMENTS: [ArgumentRow; 12] = [
     },
     ArgumentRow {
         name: "after",
-        place: Place::OptionWithButWithout("new", &["store", "cut"]),
+        place: Place::OptionWithButWithout("new", "store", "cut"),
         value: Value::Incarnation,
         value_name: "N",
         default: None,

@@ -140,11 +140,8 @@ fn a_new_store_begins_above_the_incarnation(rt: HostRuntime) -> Result<(), Fail>
     Ok(())
 }
 
-// How a store is closed whose file or log was changed so after the last look, and the client's next incarnation in it then.
-fn closed_after(
-    rt: &HostRuntime,
-    changed: Change,
-) -> Result<(Result<(), FileError>, Option<u32>), Fail> {
+// Whether a store whose file or log was changed after the last look is closed as lost, and then the client's next incarnation.
+fn closed_after(rt: &HostRuntime, changed: Change) -> Result<(bool, Option<u32>), Fail> {
     let alloc = rt.alloc();
     let path = path_of(rt, "closed")?;
     let path = path.to_str().ok_or("a path")?;
@@ -152,23 +149,26 @@ fn closed_after(
     let name = StoreName::new(alloc, path)?;
     let keeper = NamedKeeper::new(rt, create_after(rt, path, CLIENT, 41)?, &name);
     change(rt, path, log.as_str(), changed)?;
-    let closed = close_named(keeper.into_inner(), &name);
+    let is_lost = match close_named(keeper.into_inner(), &name) {
+        Err(FileError::Lost) => true,
+        closed => {
+            closed?;
+            false
+        }
+    };
     let next = match adopt_for(rt, path, CLIENT) {
         Ok(store) => Some(next_in(store)?),
         Err(_) => None,
     };
     let _gone = fs::remove_file(rt, path);
     let _gone = fs::remove_file(rt, log.as_str());
-    Ok((closed, next))
+    Ok((is_lost, next))
 }
 
 #[test]
 fn the_end_looks_at_the_file_and_copies_a_deleted_log(rt: HostRuntime) -> Result<(), Fail> {
-    assert_eq!(rt; closed_after(&rt, Change::Nothing)?, (Ok(()), Some(42)));
-    assert_eq!(rt; closed_after(&rt, Change::LogDeleted)?, (Ok(()), Some(42)));
-    assert_eq!(rt;
-        closed_after(&rt, Change::Moved)?,
-        (Err(FileError::Lost), None)
-    );
+    assert_eq!(rt; closed_after(&rt, Change::Nothing)?, (false, Some(42)));
+    assert_eq!(rt; closed_after(&rt, Change::LogDeleted)?, (false, Some(42)));
+    assert_eq!(rt; closed_after(&rt, Change::Moved)?, (true, None));
     Ok(())
 }
