@@ -241,8 +241,8 @@ const CLIENT_ARGUMENTS: [ArgumentRow; 12] = [
         value_name: "N",
         default: None,
         help: "Begins the new store above incarnation N, 0 to 4294967294: for a client whose store is lost, the last incarnation \
-            that any node has seen. The nodes' `scoop store` and /status.json show it. With a smaller N the client waits for \
-            answers that never come",
+            that any node has seen. The nodes' `scoop store` and /status.json show it. In doubt take a larger N. With a smaller one \
+            the client waits in vain, or repeats an incarnation, and its answers can't be trusted",
     },
     KEY,
     JOURNAL,
