@@ -2,7 +2,7 @@
 """Loses stores: python3 bench/lost.py --program PATH
 
 Under a running node, the file of its store or its log is moved, replaced or deleted. The node has to end within 64
-puts with status 3, `store: Refused` and a hint that names the cause. Then a client loses its store: a new one without
+puts, or at its own end, with status 3, `store: Refused` and a hint that names the cause. Then a client loses its store: a new one without
 --after waits in vain, and one above the incarnation that the node has seen gets its answers. Wrong uses of --after have to
 be refused with status 2. Prints a line for each case, and ends with status 1 if one isn't as it should be.
 """
@@ -18,7 +18,7 @@ HINT = "was moved, replaced, deleted or cut while the store was open"
 class System:
     """A folder with the file of a system with a node, a handler and a client, and their stores."""
 
-    def __init__(self, program):
+    def __init__(self, program, options):
         self.program, self.folder = program, tempfile.mkdtemp(prefix="lost")
         node, client = free_ports(2)
         self.file, self.store = os.path.join(self.folder, "system.toml"), os.path.join(self.folder, "node.db")
@@ -26,7 +26,7 @@ class System:
             f.write(f'[[node]]\nnumber = 1\naddress = "127.0.0.1:{node}"\n')
             f.write('[[handler]]\nnumber = 1\nnode = 1\nclass = "cell"\nwords = [0]\n')
             f.write(f'[[client]]\nnumber = {CLIENT}\naddress = "127.0.0.1:{client}"\n')
-        words = [program, "node", "1", "--system", self.file, "--new", self.store]
+        words = [program, "node", "1", "--system", self.file, "--new", self.store, *options]
         self.node = subprocess.Popen(words, stdout=subprocess.PIPE, stderr=subprocess.PIPE, text=True)
         line = self.node.stdout.readline()
         assert line.startswith("node 1"), (line, self.node.stderr.read())
@@ -62,6 +62,14 @@ def swap_under(system, change, name):
     return first.returncode == 0 and system.node.returncode == 3 and "scoop: store: Refused\n" in errors and HINT in errors
 
 
+def delete_before_end(system):
+    """The node's store is deleted after the last look. The node's turns end then."""
+    first = system.ask("--new", system.path("client.db"))
+    os.remove(system.store)
+    _, errors = system.node.communicate(timeout=60)
+    return first.returncode == 0 and system.node.returncode == 3 and "scoop: store: Refused\n" in errors and HINT in errors
+
+
 def lose_client(system):
     """A client's store is lost after three runs, and a new one begins above the third."""
     store = system.path("client.db")
@@ -82,12 +90,13 @@ def wrong_uses(system):
 
 
 CASES = {
-    "the file is deleted": lambda system: swap_under(system, os.remove, ""),
-    "the file is moved": lambda system: swap_under(system, lambda path: os.rename(path, path + ".moved"), ""),
-    "the file is replaced": lambda system: swap_under(system, replace, ""),
-    "the log is deleted": lambda system: swap_under(system, os.remove, "-wal"),
-    "a client's store is lost": lose_client,
-    "--after is used wrongly": wrong_uses,
+    "the file is deleted": ([], lambda system: swap_under(system, os.remove, "")),
+    "the file is moved": ([], lambda system: swap_under(system, lambda path: os.rename(path, path + ".moved"), "")),
+    "the file is replaced": ([], lambda system: swap_under(system, replace, "")),
+    "the log is deleted": ([], lambda system: swap_under(system, os.remove, "-wal")),
+    "the file is deleted before the end": (["--turns", "1000"], delete_before_end),
+    "a client's store is lost": ([], lose_client),
+    "--after is used wrongly": ([], wrong_uses),
 }
 
 
@@ -96,8 +105,8 @@ def main():
     parser.add_argument("--program", required=True)
     program = os.path.abspath(parser.parse_args().program)
     failed = 0
-    for name, case in CASES.items():
-        system = System(program)
+    for name, (options, case) in CASES.items():
+        system = System(program, options)
         try:
             passed = case(system)
         finally:
