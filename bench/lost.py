@@ -2,9 +2,10 @@
 """Loses stores: python3 bench/lost.py --program PATH
 
 Under a running node, the file of its store or its log is moved, replaced or deleted. The node has to end within 64
-puts, or at its own end, with status 3, `store: Refused` and a hint that names the cause. Then a client loses its store: a new one without
---after waits in vain, and one above the incarnation that the node has seen gets its answers. Wrong uses of --after have to
-be refused with status 2. Prints a line for each case, and ends with status 1 if one isn't as it should be.
+puts, or at its own end, with status 3, `store: Refused` and a hint that names the cause. Then a client loses its store:
+a new one without --after waits in vain, and one above the incarnation that the node has seen gets its answers. Wrong
+uses of --after have to be refused with status 2. Prints a line for each case, and ends with status 1 if one isn't as it
+should be.
 """
 import argparse, os, shutil, subprocess, sys, tempfile
 
@@ -50,6 +51,11 @@ def replace(path):
     os.rename(path + ".copy", path)
 
 
+def is_told(node, errors):
+    """Whether the node has ended with the status and the texts of a lost store."""
+    return node.returncode == 3 and "scoop: store: Refused\n" in errors and HINT in errors
+
+
 def swap_under(system, change, name):
     """The node's store, or its log, is changed after a block; the next sixteen have to end the node."""
     first = system.ask("--new", system.path("client.db"))
@@ -59,7 +65,7 @@ def swap_under(system, change, name):
         _, errors = system.node.communicate(timeout=10)
     except subprocess.TimeoutExpired:
         return False
-    return first.returncode == 0 and system.node.returncode == 3 and "scoop: store: Refused\n" in errors and HINT in errors
+    return first.returncode == 0 and is_told(system.node, errors)
 
 
 def delete_before_end(system):
@@ -67,7 +73,7 @@ def delete_before_end(system):
     first = system.ask("--new", system.path("client.db"))
     os.remove(system.store)
     _, errors = system.node.communicate(timeout=60)
-    return first.returncode == 0 and system.node.returncode == 3 and "scoop: store: Refused\n" in errors and HINT in errors
+    return first.returncode == 0 and is_told(system.node, errors)
 
 
 def lose_client(system):
@@ -79,7 +85,8 @@ def lose_client(system):
     later = system.ask("--store", system.path("new.db"))
     shown = subprocess.run([system.program, "store", system.path("new.db")], capture_output=True, text=True)
     good = all(ran.returncode == 0 and "answer 5" in ran.stdout for ran in runs + [again, later])
-    return good and vain.returncode == 3 and "answer" not in vain.stdout and shown.stdout == "client 7: last incarnation 5\n"
+    waits = vain.returncode == 3 and "answer" not in vain.stdout
+    return good and waits and shown.stdout == "client 7: last incarnation 5\n"
 
 
 def wrong_uses(system):
