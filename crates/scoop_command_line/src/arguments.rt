@@ -4,6 +4,9 @@ use crate::rows::{ArgumentRow, Place, Value};
 use clap::{Arg, ArgAction, value_parser};
 use std::alloc::{AllocError, Global};
 
+// The last incarnation after which another can come.
+const LAST: i64 = 4_294_967_294;
+
 /// The argument of the row. A class is one of the names.
 pub(crate) fn argument<'a>(
     alloc: Global,
@@ -39,6 +42,7 @@ fn with_parser<'a>(arg: Arg<'a>, value: Value, class_names: &'a [&'a str]) -> Ar
         Value::ClassName => arg.value_parser(class_names),
         Value::OneOf(words) => arg.value_parser(words),
         Value::U32 => arg.value_parser(value_parser!(u32)),
+        Value::Incarnation => arg.value_parser(value_parser!(u32).range(..=LAST)),
         Value::U64 => arg.value_parser(value_parser!(u64)),
     }
 }
@@ -58,5 +62,20 @@ fn placed<'a>(arg: Arg<'a>, name: &'static str, place: Place) -> Result<Arg<'a>,
         Place::RequiredOption => Ok(arg.long(name).required(true)),
         Place::OptionWithout(other) => arg.long(name).conflicts_with(other),
         Place::OptionWith(other) => arg.long(name).requires_arg(other),
+        Place::OptionWithButWithout(with, one, other) => {
+            with_and_without(arg.long(name), with, one, other)
+        }
     }
+}
+
+// The argument, which is taken only with the first and never with the others.
+fn with_and_without<'a>(
+    arg: Arg<'a>,
+    with: &'static str,
+    one: &'static str,
+    other: &'static str,
+) -> Result<Arg<'a>, AllocError> {
+    arg.requires_arg(with)?
+        .conflicts_with(one)?
+        .conflicts_with(other)
 }

@@ -119,6 +119,8 @@ pub struct ClientOptions<'a> {
     /// The system's file.
     pub system: &'a str,
     pub store: StoreChoice<'a>,
+    /// The last incarnation of a lost store, above which a new one begins.
+    pub after: Option<u32>,
     pub journal: JournalChoice<'a>,
     /// The key's file.
     pub key: Option<&'a str>,
@@ -261,6 +263,7 @@ fn client_options<'a>(given: &'a ArgMatches<'_>) -> ClientOptions<'a> {
         number: given.get_one::<u32>("number").unwrap_or(0),
         system: text_of(given, "system"),
         store: store_choice(given),
+        after: given.get_one::<u32>("after"),
         journal: journal_choice(given),
         key: given.get_str("key"),
         is_strict: given.get_flag("strict"),

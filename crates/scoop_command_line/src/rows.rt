@@ -39,6 +39,9 @@ pub(crate) enum Place {
     OptionWithout(&'static str),
     /// After `--name`, and only together with this option.
     OptionWith(&'static str),
+    /// The same, and never together with the other two. They are named too: clap excuses a missing option that an option
+    /// which is there excludes.
+    OptionWithButWithout(&'static str, &'static str, &'static str),
 }
 
 /// The value of an argument.
@@ -52,5 +55,7 @@ pub(crate) enum Value {
     /// One of these words.
     OneOf(&'static [&'static str]),
     U32,
+    /// An incarnation after which another can come: any `u32` but the last one.
+    Incarnation,
     U64,
 }

@@ -165,8 +165,9 @@ pub(crate) const CLIENT: CommandRow = CommandRow {
     usage: None,
     about: "Runs a client of a system, over UDP, with the commands of standard input",
     help: "Runs a client of the system in a file (`scoop check` shows it). It binds its port, and then takes its next \
-        incarnation from its store. Use --new for a client that never ran, and --store for one that did. It greets every \
-        handler, which frees what an earlier incarnation has held. Then it runs the lines, one after another.\n\n\
+        incarnation from its store. Use --new for a client that never ran, and --store for one that did. If its store is \
+        lost, use --new with --after N. It greets every handler, which frees what an earlier incarnation has held. Then it runs \
+        the lines, one after another.\n\n\
         Input: lines. Output: a line for each:\n\
         \x20 reserve H..         `reserved 7.1.1`: a block over 1 to 8 handlers\n\
         \x20 call H OP A..       `logged H N`: the call is in the client's log, as the block's N-th entry for the handler. It \
@@ -207,7 +208,7 @@ pub(crate) const CLIENT: CommandRow = CommandRow {
     arguments: &CLIENT_ARGUMENTS,
 };
 
-const CLIENT_ARGUMENTS: [ArgumentRow; 11] = [
+const CLIENT_ARGUMENTS: [ArgumentRow; 12] = [
     ArgumentRow {
         name: "number",
         place: Place::Word,
@@ -232,6 +233,16 @@ const CLIENT_ARGUMENTS: [ArgumentRow; 11] = [
         value_name: "FILE",
         default: None,
         help: "Resumes the store in this file: for a client that ran, the store that it made",
+    },
+    ArgumentRow {
+        name: "after",
+        place: Place::OptionWithButWithout("new", "store", "cut"),
+        value: Value::Incarnation,
+        value_name: "N",
+        default: None,
+        help: "Begins the new store above incarnation N, 0 to 4294967294: for a client whose store is lost, the last incarnation \
+            that any node has seen. The nodes' `scoop store` and /status.json show it. In doubt take a larger N. With a smaller one \
+            the client waits in vain, or repeats an incarnation, and its answers can't be trusted",
     },
     KEY,
     JOURNAL,

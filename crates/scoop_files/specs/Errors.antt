@@ -5,7 +5,7 @@ use Rattle.scoop_keeper.specs.Text.{error_text as keeper_text}
 use Rattle.scoop_keeper.specs.declared.keeper.KeeperError.{KeeperError}
 use Rattle.scoop_keeper.specs.declared.keeper.KeeperError.TheVariants as keeper
 use Rattle.scoop_files.specs.declared.error.FileError.{FileError}
-use Rattle.scoop_files.specs.declared.error.FileError.TheVariants.{NoFile, Taken, InUse, Unopened, Foreign, NoStore, NoIncarnation, Unclosed, Store}
+use Rattle.scoop_files.specs.declared.error.FileError.TheVariants.{NoFile, Taken, InUse, Unopened, Foreign, NoStore, NoIncarnation, Unclosed, Lost, Store}
 
 abbrev pub refusal_text : KeeperError → List ℕ
 refusal_text keeper.OutOfMemory = codes "out of memory"
@@ -22,6 +22,7 @@ error_text Unopened = codes "store: Refused"
 error_text Foreign = codes "store: Refused"
 error_text NoStore = codes "store: Refused"
 error_text Unclosed = codes "store: Refused"
+error_text Lost = codes "store: Refused"
 error_text (NoIncarnation c) = codes "store: NoIncarnation " ++ decimal c.0
 error_text (Store refusal) = refusal_text refusal
 
@@ -31,7 +32,8 @@ advice_text Taken = codes "the file has content: resume with --store if it is th
 advice_text InUse = codes "another program has it open: end that one"
 advice_text Unopened = codes "it can't be opened or made: check that its folder exists, and that you may read and write the file and its -wal"
 advice_text Foreign = codes "it is not a store: name another file"
-advice_text NoStore = codes "it has no tables of a store: name another file, or use --new if a kill came while the store was made"
+advice_text NoStore = codes "it has no tables of a store: first put the -wal file that belongs to it beside it. Use --new only for a file that never had a store"
 advice_text (NoIncarnation c) = codes "this client never ran with it: name the client's own store, or make one by --new if the client never ran"
 advice_text Unclosed = codes "its -wal could not be copied into it: keep both files, which have all that was answered, and resume with --store"
+advice_text Lost = codes "the file or its -wal was moved, replaced, deleted or cut while the store was open. If both were moved, move them back, and resume with --store; else the store is lost"
 advice_text (Store _) = []

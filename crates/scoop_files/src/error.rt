@@ -31,6 +31,8 @@ pub enum FileError {
     NoIncarnation(ClientId),
     /// The log can't be copied into the file.
     Unclosed,
+    /// The store's name led to another file or none, or the file was cut, while the store was open.
+    Lost,
     /// This refusal of the store.
     Store(KeeperError),
 }
@@ -59,13 +61,18 @@ impl FileError {
             }
             FileError::Foreign => "it is not a store: name another file",
             FileError::NoStore => {
-                "it has no tables of a store: name another file, or use --new if a kill came while the store was made"
+                "it has no tables of a store: first put the -wal file that belongs to it beside it. Use --new only for a file that \
+                never had a store"
             }
             FileError::NoIncarnation(_) => {
                 "this client never ran with it: name the client's own store, or make one by --new if the client never ran"
             }
             FileError::Unclosed => {
                 "its -wal could not be copied into it: keep both files, which have all that was answered, and resume with --store"
+            }
+            FileError::Lost => {
+                "the file or its -wal was moved, replaced, deleted or cut while the store was open. If both were moved, move them \
+                back, and resume with --store; else the store is lost"
             }
             FileError::Store(_) => "",
         }
@@ -86,7 +93,8 @@ impl fmt::Display for FileError {
             | FileError::Unopened
             | FileError::Foreign
             | FileError::NoStore
-            | FileError::Unclosed => f.write_str("store: Refused"),
+            | FileError::Unclosed
+            | FileError::Lost => f.write_str("store: Refused"),
             FileError::NoIncarnation(client) => write!(f, "store: NoIncarnation {client}"),
             FileError::Store(KeeperError::OutOfMemory) => f.write_str("out of memory"),
             FileError::Store(refusal) => write!(f, "store: {refusal}"),

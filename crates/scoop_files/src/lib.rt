@@ -1,8 +1,10 @@
 //! Stores in files: made, adopted, and closed.
 //!
-//! [`create`] makes a store in a file, [`adopt`] takes the one that is there, [`adopt_for`] does so if it has a client's
-//! incarnation, and [`close`] leaves the file whole. A [`FileError`] says what is wrong and what to do, and
-//! [`report_file`] prints it.
+//! - [`create`] makes a store in a file, and [`create_after`] one that begins above an incarnation.
+//! - [`adopt`] takes the store that is there, and [`adopt_for`] does so if it has a client's incarnation.
+//! - [`close`] leaves the file whole, and [`close_named`] does so unless the file has lost its name.
+//! - A [`NamedKeeper`] refuses once the file has lost its name.
+//! - A [`FileError`] says what is wrong and what to do, and [`report_file`] prints it.
 //!
 //! ```
 //! match open_store(rt, choice) {
@@ -24,9 +26,11 @@
 
 mod error;
 mod foreign;
+mod named;
 mod report;
 mod store;
 
 pub use error::FileError;
+pub use named::{NamedKeeper, StoreName};
 pub use report::report_file;
-pub use store::{FiledStore, adopt, adopt_for, close, create};
+pub use store::{FiledStore, adopt, adopt_for, close, close_named, create, create_after};

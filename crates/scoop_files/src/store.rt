@@ -2,6 +2,7 @@
 
 use crate::error::FileError;
 use crate::foreign::refuse_foreign;
+use crate::named::StoreName;
 use scoop_keeper::KeeperError;
 use scoop_message::ClientId;
 use scoop_record::{Store, adopt_tables};
@@ -18,6 +19,52 @@ pub fn create(rt: &HostRuntime, path: &str) -> Result<FiledStore, FileError> {
     match Store::create(rt.alloc(), connection) {
         Ok(store) => Ok(store),
         Err(refusal) => Err(refused(refusal, FileError::Taken)),
+    }
+}
+
+/// A new store in the file as [`create`] makes it, in which `last` is this client's incarnation: the next one is one more.
+pub fn create_after(
+    rt: &HostRuntime,
+    path: &str,
+    client: ClientId,
+    last: u32,
+) -> Result<FiledStore, FileError> {
+    match create(rt, path) {
+        Ok(store) => begun_after(rt.alloc(), store, client, last),
+        Err(error) => Err(error),
+    }
+}
+
+// The new store, in which this is the client's incarnation.
+fn begun_after<S: Alter + Drop>(
+    alloc: Global,
+    store: Store<S>,
+    client: ClientId,
+    last: u32,
+) -> Result<Store<S>, FileError> {
+    let mut connection = store.into_connection();
+    match put_incarnation(&mut connection, client, last) {
+        Ok(()) => {}
+        Err(error) => return Err(error),
+    }
+    match Store::adopt(alloc, connection) {
+        Ok(store) => Ok(store),
+        Err(refusal) => Err(refused(refusal, FileError::NoStore)),
+    }
+}
+
+// Stores the incarnation of a client that has none there.
+fn put_incarnation<S: Alter>(
+    connection: &mut Connection<S>,
+    client: ClientId,
+    inc: u32,
+) -> Result<(), FileError> {
+    match connection.execute(
+        "INSERT INTO clients (c, inc) VALUES (?1, ?2)",
+        params![client.0, inc],
+    ) {
+        Ok(_) => Ok(()),
+        Err(error) => Err(unread(error, FileError::Store(KeeperError::Refused))),
     }
 }
 
@@ -78,6 +125,14 @@ pub fn close(store: FiledStore) -> Result<(), FileError> {
         Ok(()) => Ok(()),
         Err(error) => Err(unread(error, FileError::Unclosed)),
     }
+}
+
+/// The same for the store of this name, unless that is lost: then it is `Lost`, and the log isn't copied.
+pub fn close_named(store: FiledStore, name: &StoreName) -> Result<(), FileError> {
+    if name.is_lost() {
+        return Err(FileError::Lost);
+    }
+    close(store)
 }
 
 // Opens the file as a database, if there is one.

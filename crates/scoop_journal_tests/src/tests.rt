@@ -4,4 +4,5 @@ mod audits;
 mod files;
 mod keepers;
 mod lines;
+mod named;
 mod programs;

@@ -46,7 +46,8 @@ fn report_no_store(rt: &HostRuntime) -> Status {
     hint(
         rt,
         Hints::Always,
-        "use --new FILE for a client that never ran, and --store FILE to resume the store that it made",
+        "use --new FILE for a client that never ran, and --store FILE to resume the store that it made. If that store is lost, \
+        use --new FILE --after N",
     );
     Status(2)
 }
@@ -150,7 +151,7 @@ fn run_journaled<T: Net>(
     let owner = Owner::Client(plan.place().client);
     let journal = open_journal(rt, options.journal, owner)?;
     let journal = journal.as_ref();
-    let ended = run_at(rt, net, options.store, plan, key, journal, task);
+    let ended = run_at(rt, net, options, plan, key, journal, task);
     with_journal(journal, ended)
 }
 
@@ -158,7 +159,7 @@ fn run_journaled<T: Net>(
 fn run_at<T: Net>(
     rt: &HostRuntime,
     net: &T,
-    store: StoreChoice<'_>,
+    options: &ClientOptions<'_>,
     plan: &ClientPlan<'_>,
     key: Option<Key>,
     journal: Option<&JournalFile>,
@@ -168,9 +169,9 @@ fn run_at<T: Net>(
     match key {
         Some(key) => {
             let link = SealedLink::new(link, key);
-            run_measured(rt, net, store, plan, journal, link, task)
+            run_measured(rt, net, options, plan, journal, link, task)
         }
-        None => run_measured(rt, net, store, plan, journal, link, task),
+        None => run_measured(rt, net, options, plan, journal, link, task),
     }
 }
 
@@ -178,7 +179,7 @@ fn run_at<T: Net>(
 fn run_measured<L: Link, T: Net>(
     rt: &HostRuntime,
     net: &T,
-    store: StoreChoice<'_>,
+    options: &ClientOptions<'_>,
     plan: &ClientPlan<'_>,
     journal: Option<&JournalFile>,
     link: L,
@@ -188,20 +189,21 @@ fn run_measured<L: Link, T: Net>(
     let client = plan.place().client;
     let clock = SystemTimes::new(rt);
     let link = MeasuredLink::new(rt.alloc(), link, clock, handlers, client.0)?;
-    run_stored(rt, net, store, plan, journal, link, task)
+    run_stored(rt, net, options, plan, journal, link, task)
 }
 
-// Runs the client over the store of this choice, and closes it.
+// Runs the client over the store of its options, and closes it.
 fn run_stored<L: Link, T: Net>(
     rt: &HostRuntime,
     net: &T,
-    choice: StoreChoice<'_>,
+    options: &ClientOptions<'_>,
     plan: &ClientPlan<'_>,
     journal: Option<&JournalFile>,
     link: L,
     task: Task<'_>,
 ) -> Result<(), End> {
-    let mut store = open_client_store(rt, choice, plan.place().client)?;
+    let choice = options.store;
+    let mut store = open_client_store(rt, choice, options.after, plan.place().client)?;
     let ran = run_over(rt, net, choice, plan, &mut store, journal, link, task);
     let closed = close(store);
     ran?;

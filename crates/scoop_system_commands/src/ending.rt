@@ -1,7 +1,7 @@
 //! The ends of a node or a client, and their reports.
 
 use scoop_errors::PartyError;
-use scoop_files::{FileError, report_file};
+use scoop_files::{FileError, StoreName, report_file};
 use scoop_journal::OpenError;
 use scoop_message::{HandlerId, OutOfMemory};
 use scoop_report::{FOLDER, Hints, Status, hint, hint_of_file, is_folder, report};
@@ -19,7 +19,7 @@ const JOURNAL_STATUS: u8 = 3;
 /// Why a node or a client ends early.
 #[derive(Clone, Copy)]
 pub(crate) enum End {
-    /// Its store in this file isn't opened or closed.
+    /// Its store isn't opened or closed, or has lost its name.
     File(FileError),
     /// It doesn't begin or go on.
     Runtime(RuntimeError),
@@ -63,6 +63,14 @@ impl From<OutOfMemory> for End {
 impl From<ClientStop> for End {
     fn from(stop: ClientStop) -> End {
         End::Lines(stop)
+    }
+}
+
+/// The end of a node whose store has this name, if it has one. It is the store's if that has lost its name.
+pub(crate) fn node_end(name: Option<&StoreName>, error: RuntimeError) -> End {
+    match name {
+        Some(name) if name.is_lost() => End::File(FileError::Lost),
+        _ => End::Runtime(error),
     }
 }
 

@@ -1,8 +1,9 @@
 //! A node that runs in a thread of this process.
 
-use crate::ending::{End, Party, report_end};
+use crate::ending::{Party, node_end, report_end};
 use crate::watching::clients_of;
 use scoop_admission::{AdmittingLink, NoReport};
+use scoop_files::StoreName;
 use scoop_keeper::Keeper;
 use scoop_link::UdpLink;
 use scoop_message::OutOfMemory;
@@ -16,21 +17,29 @@ use std::sync::Wait;
 use std::thread::Threads;
 use std::time::Clock;
 
-/// Reports why a node ends early, whose store is in this file if it has one.
+/// Reports why a node ends early, whose store has this name if it has one.
 pub(crate) fn report_node<'a>(
     rt: &HostRuntime,
     system: &'a System,
     address: SocketAddr,
-    store: Option<&'a str>,
+    name: Option<&'a StoreName>,
     error: RuntimeError,
 ) -> Status {
     let party = Party {
         system,
         address,
-        store,
+        store: path_of(name),
         journal: None,
     };
-    report_end(rt, &party, End::Runtime(error))
+    report_end(rt, &party, node_end(name, error))
+}
+
+// The file of the store with this name.
+fn path_of(name: Option<&StoreName>) -> Option<&str> {
+    match name {
+        Some(name) => Some(name.path()),
+        None => None,
+    }
 }
 
 type HostLink = AdmittingLink<UdpLink, NoReport>;
@@ -38,18 +47,18 @@ type HostLink = AdmittingLink<UdpLink, NoReport>;
 /// A node with its link and its keeper. Its thread has both while the node runs. It hears only the clients of the system's
 /// file.
 #[derive(Drop)]
-pub(crate) struct Host<K: Keeper<Global>> {
+pub(crate) struct Host<'a, K: Keeper<Global>> {
     plan: NodePlan,
     address: SocketAddr,
     serving: Serving,
     link: Option<HostLink>,
     keeper: Option<K>,
-    // The file of its store, if it has one.
-    path: Option<String>,
+    // The name of its store, if it has one.
+    name: Option<&'a StoreName>,
     error: Option<RuntimeError>,
 }
 
-impl<K: Keeper<Global> + Send> Host<K> {
+impl<'a, K: Keeper<Global> + Send> Host<'a, K> {
     /// The node at this place over its port and this keeper.
     pub(crate) fn open<T: Net>(
         rt: &HostRuntime,
@@ -58,8 +67,8 @@ impl<K: Keeper<Global> + Send> Host<K> {
         place: &NodePlace,
         serving: Serving,
         keeper: K,
-        path: Option<String>,
-    ) -> Result<Host<K>, RuntimeError> {
+        name: Option<&'a StoreName>,
+    ) -> Result<Host<'a, K>, RuntimeError> {
         let plan = NodePlan::of(rt.alloc(), system, place)?;
         let link = open_node_link(net, rt.alloc(), system, place)?;
         let clients = clients_of(rt.alloc(), system)?;
@@ -69,7 +78,7 @@ impl<K: Keeper<Global> + Send> Host<K> {
             serving,
             link: Some(AdmittingLink::new(link, clients, NoReport)),
             keeper: Some(keeper),
-            path,
+            name,
             error: None,
         })
     }
@@ -123,17 +132,14 @@ impl<K: Keeper<Global> + Send> Host<K> {
     /// Reports why the node ended early, if it did.
     pub(crate) fn report(&self, rt: &HostRuntime, system: &System) -> Result<(), Status> {
         match self.error {
-            Some(error) => {
-                let path = self.path.as_deref();
-                Err(report_node(rt, system, self.address, path, error))
-            }
+            Some(error) => Err(report_node(rt, system, self.address, self.name, error)),
             None => Ok(()),
         }
     }
 
-    /// The keeper, unless the node ended early, and the file of its store.
-    pub(crate) fn into_keeper(self) -> (Option<K>, Option<String>) {
-        let Host { keeper, path, .. } = self;
-        (keeper, path)
+    /// The keeper, unless the node ended early, and the name of its store.
+    pub(crate) fn into_keeper(self) -> (Option<K>, Option<&'a StoreName>) {
+        let Host { keeper, name, .. } = self;
+        (keeper, name)
     }
 }

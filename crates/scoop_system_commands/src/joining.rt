@@ -42,16 +42,17 @@ impl<'a, 'p, 'k, K: Keeper<Global>, T: Net> Asking<'a, 'p, 'k, K, T> {
 
 /// Runs the nodes, each in a thread, while the client runs. Then it asks the nodes to end, and joins all threads. Returns the
 /// nodes, and the end of the client.
-pub(crate) fn run_beside<K, T>(
+pub(crate) fn run_beside<'h, K, C, T>(
     rt: &HostRuntime,
     threads: &T,
-    hosts: Vec<Host<K>>,
+    hosts: Vec<Host<'h, K>>,
     plan: &ClientPlan<'_>,
-    keeper: &mut K,
+    keeper: &mut C,
     link: UdpLink,
-) -> (Vec<Host<K>>, Result<(), End>)
+) -> (Vec<Host<'h, K>>, Result<(), End>)
 where
     K: Keeper<Global> + Send,
+    C: Keeper<Global>,
     T: Threads + Wait + Clock + Net + Sync,
 {
     let ending = Ending::new();
@@ -66,16 +67,17 @@ where
 }
 
 // Starts a thread for each node, runs the client in this one, and waits for all.
-fn host_beside<K, T>(
+fn host_beside<'h, K, C, T>(
     threads: &T,
     alloc: Global,
     notes: Stderr,
-    mut hosts: Vec<Host<K>>,
+    mut hosts: Vec<Host<'h, K>>,
     ending: &Ending,
-    asking: Asking<'_, '_, '_, K, T>,
-) -> (Vec<Host<K>>, Result<(), End>)
+    asking: Asking<'_, '_, '_, C, T>,
+) -> (Vec<Host<'h, K>>, Result<(), End>)
 where
     K: Keeper<Global> + Send,
+    C: Keeper<Global>,
     T: Threads + Wait + Clock + Net + Sync,
 {
     let lent = hosts.as_mut_slice();

@@ -1,6 +1,6 @@
 //! `scoop node`: a node of a system, over UDP.
 
-use crate::ending::{End, Party, report_end, report_range};
+use crate::ending::{End, Party, node_end, report_end, report_range};
 use crate::journaling::{open_journal, with_journal};
 use crate::keys::read_key;
 use crate::owning::{check_owner, note_owner};
@@ -9,7 +9,7 @@ use crate::system_file::{read_system, report_fault};
 use crate::watching::{Served, Shown, level_of, open_server, run_watched};
 use jiff::Timestamp;
 use scoop_command_line::{NodeOptions, StoreChoice};
-use scoop_files::{FiledStore, close};
+use scoop_files::{FiledStore, NamedKeeper, StoreName, close_named};
 use scoop_journal::Owner;
 use scoop_journal_keeper::JournaledKeeper;
 use scoop_keeper::{Keeper, MemoryKeeper};
@@ -221,8 +221,9 @@ fn serve_over<L: Link + RefusesForged + Send, T: Threads + Wait + Clock + Net + 
     if let StoreChoice::None = choice {
         return serve_unstored(rt, threads, served, server, link);
     }
+    let name = StoreName::new(rt.alloc(), choice.path().unwrap_or(""))?;
     match open_node_store(rt, choice) {
-        Ok(store) => serve_stored(rt, threads, choice, served, server, store, link),
+        Ok(store) => serve_stored(rt, threads, choice, served, server, store, &name, link),
         Err(error) => Err(End::from(error)),
     }
 }
@@ -236,17 +237,23 @@ fn serve_stored<L: Link + RefusesForged + Send, T: Threads + Wait + Clock + Net 
     served: &Served<'_>,
     server: &mut Option<Server>,
     store: FiledStore,
+    name: &StoreName,
     link: L,
 ) -> Result<(), End> {
-    closed(serve_kept(rt, threads, choice, served, server, store, link))
+    let ended = serve_kept(rt, threads, choice, served, server, store, name, link);
+    closed(ended, name)
 }
 
-// Closes the store over which a node was served.
-fn closed(served: Result<FiledStore, RuntimeError>) -> Result<(), End> {
-    Ok(close(served?)?)
+// Closes the store of this name, over which a node was served.
+fn closed(ended: Result<FiledStore, RuntimeError>, name: &StoreName) -> Result<(), End> {
+    match ended {
+        Ok(store) => Ok(close_named(store, name)?),
+        Err(error) => Err(node_end(Some(name), error)),
+    }
 }
 
-// Serves the node over a store in any place, which knows its owner from then on, and returns the store.
+// Serves the node over a store in any place, which knows its owner from then on, and returns the store. It ends if the store
+// loses this name.
 fn serve_kept<S, L, T>(
     rt: &HostRuntime,
     threads: &T,
@@ -254,6 +261,7 @@ fn serve_kept<S, L, T>(
     served: &Served<'_>,
     server: &mut Option<Server>,
     store: Store<S>,
+    name: &StoreName,
     link: L,
 ) -> Result<Store<S>, RuntimeError>
 where
@@ -263,7 +271,11 @@ where
 {
     let about = &served.shown.about;
     note_owner(rt, choice, about.system, Owner::Node(about.place.number));
-    serve_with(rt, threads, served, server, store, link)
+    let keeper = NamedKeeper::new(rt, store, name);
+    match serve_with(rt, threads, served, server, keeper, link) {
+        Ok(keeper) => Ok(keeper.into_inner()),
+        Err(error) => Err(error),
+    }
 }
 
 // Serves the node over a record that is in memory alone.

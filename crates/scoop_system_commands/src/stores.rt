@@ -1,7 +1,7 @@
 //! The stores of a system's parties, in files.
 
 use scoop_command_line::StoreChoice;
-use scoop_files::{FileError, FiledStore, adopt, adopt_for, create};
+use scoop_files::{FileError, FiledStore, adopt, adopt_for, create, create_after};
 use scoop_message::ClientId;
 
 /// The store of a node by this choice. `NoFile` if it is no store; the other errors are the file's.
@@ -16,14 +16,18 @@ pub(crate) fn open_node_store(
     }
 }
 
-/// The same for this client.
+/// The same for this client. A new store begins above the incarnation `after`, if there is one.
 pub(crate) fn open_client_store(
     rt: &HostRuntime,
     choice: StoreChoice<'_>,
+    after: Option<u32>,
     client: ClientId,
 ) -> Result<FiledStore, FileError> {
     match choice {
-        StoreChoice::New(path) => create(rt, path),
+        StoreChoice::New(path) => match after {
+            Some(last) => create_after(rt, path, client, last),
+            None => create(rt, path),
+        },
         StoreChoice::Old(path) => adopt_for(rt, path, client),
         StoreChoice::None => Err(FileError::NoFile),
     }

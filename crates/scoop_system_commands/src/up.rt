@@ -8,7 +8,7 @@ use crate::owning::{check_owner, note_owner};
 use crate::stores::{open_client_store, open_node_store};
 use crate::system_file::{read_system, report_fault};
 use scoop_command_line::{StoreChoice, UpOptions};
-use scoop_files::{FiledStore, close, report_file};
+use scoop_files::{FileError, FiledStore, NamedKeeper, StoreName, close, close_named, report_file};
 use scoop_journal::Owner;
 use scoop_keeper::{Keeper, MemoryKeeper};
 use scoop_message::{ClientId, OutOfMemory};
@@ -118,7 +118,7 @@ fn run_unstored_in<T: Threads + Wait + Clock + Net + Sync>(
     threads: &T,
     serving: Serving,
     plan: &ClientPlan<'_>,
-    hosts: &mut Vec<Host<MemoryKeeper>>,
+    hosts: &mut Vec<Host<'_, MemoryKeeper>>,
     keeper: &mut MemoryKeeper,
 ) -> Result<(), Status> {
     for place in plan.system().nodes() {
@@ -142,26 +142,26 @@ fn run_unstored_in<T: Threads + Wait + Clock + Net + Sync>(
 }
 
 // Adds the node at this place, over its port and this keeper.
-fn add_host<K: Keeper<Global> + Send, T: Net>(
+fn add_host<'a, K: Keeper<Global> + Send, T: Net>(
     rt: &HostRuntime,
     net: &T,
     system: &System,
     place: &NodePlace,
     serving: Serving,
     keeper: K,
-    path: Option<String>,
-    hosts: &mut Vec<Host<K>>,
+    name: Option<&'a StoreName>,
+    hosts: &mut Vec<Host<'a, K>>,
 ) -> Result<(), Status> {
-    match Host::open(rt, net, system, place, serving, keeper, path) {
+    match Host::open(rt, net, system, place, serving, keeper, name) {
         Ok(host) => keep(rt, host, hosts),
         Err(error) => Err(report_node(rt, system, place.address, None, error)),
     }
 }
 
-fn keep<K: Keeper<Global>>(
+fn keep<'a, K: Keeper<Global>>(
     rt: &HostRuntime,
-    host: Host<K>,
-    hosts: &mut Vec<Host<K>>,
+    host: Host<'a, K>,
+    hosts: &mut Vec<Host<'a, K>>,
 ) -> Result<(), Status> {
     match hosts.push(host) {
         Ok(()) => Ok(()),
@@ -178,30 +178,71 @@ fn run_stored<T: Threads + Wait + Clock + Net + Sync>(
     dir: &str,
 ) -> Result<(), Status> {
     make_folder(rt, dir)?;
+    let mut names = Vec::new(rt.alloc());
+    add_names(rt, plan.system(), dir, &mut names)?;
+    run_named(rt, threads, serving, plan, dir, names.as_slice())
+}
+
+// Adds the names of the nodes' stores in this folder.
+fn add_names(
+    rt: &HostRuntime,
+    system: &System,
+    dir: &str,
+    names: &mut Vec<StoreName>,
+) -> Result<(), Status> {
+    for place in system.nodes() {
+        let path = store_path(rt, dir, "node", place.number)?;
+        add_name(rt, &path, names)?;
+    }
+    Ok(())
+}
+
+fn add_name(rt: &HostRuntime, path: &str, names: &mut Vec<StoreName>) -> Result<(), Status> {
+    let added = match StoreName::new(rt.alloc(), path) {
+        Ok(name) => names.push(name).is_ok(),
+        Err(_) => false,
+    };
+    if added {
+        Ok(())
+    } else {
+        Err(report_plainly(rt, RuntimeError::from(OutOfMemory)))
+    }
+}
+
+// Runs the parties over stores in this folder. Those of the nodes have these names, which the nodes borrow.
+fn run_named<T: Threads + Wait + Clock + Net + Sync>(
+    rt: &HostRuntime,
+    threads: &T,
+    serving: Serving,
+    plan: &ClientPlan<'_>,
+    dir: &str,
+    names: &[StoreName],
+) -> Result<(), Status> {
     let mut hosts = Vec::new(rt.alloc());
-    let ran = run_stored_in(rt, threads, serving, plan, dir, &mut hosts);
+    let ran = run_stored_in(rt, threads, serving, plan, dir, names, &mut hosts);
     let ended = close_hosts(rt, plan.system(), hosts);
     ran?;
     ended
 }
 
 // The same over these nodes, which are none yet.
-fn run_stored_in<T: Threads + Wait + Clock + Net + Sync>(
-    rt: &HostRuntime,
+fn run_stored_in<'a, T: Threads + Wait + Clock + Net + Sync>(
+    rt: &'a HostRuntime,
     threads: &T,
     serving: Serving,
     plan: &ClientPlan<'_>,
     dir: &str,
-    hosts: &mut Vec<Host<FiledStore>>,
+    names: &'a [StoreName],
+    hosts: &mut Vec<Host<'a, NamedKeeper<'a, FiledStore>>>,
 ) -> Result<(), Status> {
-    for place in plan.system().nodes() {
-        add_stored(rt, threads, plan.system(), place, serving, dir, hosts)?;
+    for (place, name) in plan.system().nodes().iter().zip(names.iter()) {
+        add_stored(rt, threads, plan.system(), place, serving, name, hosts)?;
     }
     let client = plan.place().client;
     let path = store_path(rt, dir, "client", client.0)?;
     let choice = choice_of(rt, &path)?;
     check_owner(rt, choice, plan.system(), Owner::Client(client))?;
-    match open_client_store(rt, choice, client) {
+    match open_client_store(rt, choice, None, client) {
         Ok(store) => run_filed(rt, threads, plan, hosts, choice, store),
         Err(error) => Err(report_file(rt, Hints::Always, &path, error)),
     }
@@ -212,12 +253,12 @@ fn run_filed<T: Threads + Wait + Clock + Net + Sync>(
     rt: &HostRuntime,
     threads: &T,
     plan: &ClientPlan<'_>,
-    hosts: &mut Vec<Host<FiledStore>>,
+    hosts: &mut Vec<Host<'_, NamedKeeper<'_, FiledStore>>>,
     choice: StoreChoice<'_>,
     store: FiledStore,
 ) -> Result<(), Status> {
     let (ran, store) = run_kept(rt, threads, plan, hosts, choice, store);
-    let closed = close_store(rt, choice.path().unwrap_or(""), store);
+    let closed = report_closed(rt, choice.path().unwrap_or(""), close(store));
     match ran {
         Ok(()) => closed,
         Err(status) => Err(status),
@@ -229,7 +270,7 @@ fn run_kept<S: Alter + Drop + Send, T: Threads + Wait + Clock + Net + Sync>(
     rt: &HostRuntime,
     threads: &T,
     plan: &ClientPlan<'_>,
-    hosts: &mut Vec<Host<Store<S>>>,
+    hosts: &mut Vec<Host<'_, NamedKeeper<'_, Store<S>>>>,
     choice: StoreChoice<'_>,
     mut store: Store<S>,
 ) -> (Result<(), Status>, Store<S>) {
@@ -239,72 +280,73 @@ fn run_kept<S: Alter + Drop + Send, T: Threads + Wait + Clock + Net + Sync>(
     (ran, store)
 }
 
-// Adds the node at this place, over its store.
-fn add_stored<T: Net>(
-    rt: &HostRuntime,
+// Adds the node at this place, over its store of this name.
+fn add_stored<'a, T: Net>(
+    rt: &'a HostRuntime,
     net: &T,
     system: &System,
     place: &NodePlace,
     serving: Serving,
-    dir: &str,
-    hosts: &mut Vec<Host<FiledStore>>,
+    name: &'a StoreName,
+    hosts: &mut Vec<Host<'a, NamedKeeper<'a, FiledStore>>>,
 ) -> Result<(), Status> {
-    let path = store_path(rt, dir, "node", place.number)?;
-    let choice = choice_of(rt, &path)?;
+    let choice = choice_of(rt, name.path())?;
     check_owner(rt, choice, system, Owner::Node(place.number))?;
-    add_filed(rt, net, system, place, serving, choice, hosts)
+    add_filed(rt, net, system, place, serving, choice, name, hosts)
 }
 
 // Adds the node over the store in this file. A function that names the files' type does one thing alone: the prover takes too
 // many steps at more.
-fn add_filed<T: Net>(
-    rt: &HostRuntime,
+fn add_filed<'a, T: Net>(
+    rt: &'a HostRuntime,
     net: &T,
     system: &System,
     place: &NodePlace,
     serving: Serving,
     choice: StoreChoice<'_>,
-    hosts: &mut Vec<Host<FiledStore>>,
+    name: &'a StoreName,
+    hosts: &mut Vec<Host<'a, NamedKeeper<'a, FiledStore>>>,
 ) -> Result<(), Status> {
     match open_node_store(rt, choice) {
-        Ok(store) => add_opened(rt, net, system, place, serving, choice, store, hosts),
-        Err(error) => {
-            let path = choice.path().unwrap_or("");
-            Err(report_file(rt, Hints::Always, path, error))
-        }
+        Ok(store) => add_opened(rt, net, system, place, serving, choice, name, store, hosts),
+        Err(error) => Err(report_file(rt, Hints::Always, name.path(), error)),
     }
 }
 
 // Adds the node over the store that was opened by this choice, and goes on with what it holds if it is old.
-fn add_opened<S: Alter + Drop + Send, T: Net>(
-    rt: &HostRuntime,
+fn add_opened<'a, S: Alter + Drop + Send, T: Net>(
+    rt: &'a HostRuntime,
     net: &T,
     system: &System,
     place: &NodePlace,
     serving: Serving,
     choice: StoreChoice<'_>,
+    name: &'a StoreName,
     store: Store<S>,
-    hosts: &mut Vec<Host<Store<S>>>,
+    hosts: &mut Vec<Host<'a, NamedKeeper<'a, Store<S>>>>,
 ) -> Result<(), Status> {
     note_owner(rt, choice, system, Owner::Node(place.number));
     let serving = match choice {
         StoreChoice::Old(_) => serving.going_on(),
         StoreChoice::New(_) | StoreChoice::None => serving,
     };
-    let Ok(path) = String::from_str(rt.alloc(), choice.path().unwrap_or("")) else {
-        return Err(report_plainly(rt, RuntimeError::from(OutOfMemory)));
-    };
-    add_host(rt, net, system, place, serving, store, Some(path), hosts)
+    let keeper = NamedKeeper::new(rt, store, name);
+    add_host(rt, net, system, place, serving, keeper, Some(name), hosts)
 }
 
 // Runs the nodes beside the client, and reports why the client ends early.
-fn run_together<K: Keeper<Global> + Send, T: Threads + Wait + Clock + Net + Sync>(
+fn run_together<K, C, T>(
     rt: &HostRuntime,
     threads: &T,
-    hosts: &mut Vec<Host<K>>,
+    hosts: &mut Vec<Host<'_, K>>,
     plan: &ClientPlan<'_>,
-    keeper: &mut K,
-) -> Result<(), Status> {
+    keeper: &mut C,
+) -> Result<(), Status>
+where
+    K: Keeper<Global> + Send,
+    C: Keeper<Global>,
+    T: Threads + Wait + Clock + Net + Sync,
+{
     let place = plan.place();
     let link = match open_client_link(threads, rt.alloc(), plan.system(), &place) {
         Ok(link) => link,
@@ -334,7 +376,7 @@ fn report_client(rt: &HostRuntime, plan: &ClientPlan<'_>, end: End) -> Status {
 fn close_hosts(
     rt: &HostRuntime,
     system: &System,
-    hosts: Vec<Host<FiledStore>>,
+    hosts: Vec<Host<'_, NamedKeeper<'_, FiledStore>>>,
 ) -> Result<(), Status> {
     let mut ended = Ok(());
     for host in hosts {
@@ -347,40 +389,67 @@ fn close_hosts(
 }
 
 // Reports why a node ended early, or closes its store.
-fn close_host(rt: &HostRuntime, system: &System, host: Host<FiledStore>) -> Result<(), Status> {
-    match store_of(rt, system, host) {
-        Ok((store, path)) => close_kept(rt, path, store),
-        Err(status) => Err(status),
-    }
-}
-
-// Reports why a node ended early, or returns its store and the file of that.
-fn store_of<S: Alter + Drop + Send>(
+fn close_host(
     rt: &HostRuntime,
     system: &System,
-    host: Host<Store<S>>,
-) -> Result<(Option<Store<S>>, Option<String>), Status> {
-    match host.report(rt, system) {
-        Ok(()) => Ok(host.into_keeper()),
+    host: Host<'_, NamedKeeper<'_, FiledStore>>,
+) -> Result<(), Status> {
+    match store_of(rt, system, host) {
+        Ok((store, name)) => close_kept(rt, name, store),
         Err(status) => Err(status),
     }
 }
 
-// Closes the store of a node, which is in this file.
+// Reports why a node ended early, or returns its store and the name of that.
+fn store_of<'a, S: Alter + Drop + Send>(
+    rt: &HostRuntime,
+    system: &System,
+    host: Host<'a, NamedKeeper<'_, Store<S>>>,
+) -> Result<(Option<Store<S>>, Option<&'a StoreName>), Status> {
+    match host.report(rt, system) {
+        Ok(()) => {
+            let (keeper, name) = host.into_keeper();
+            Ok((store_under(keeper), name))
+        }
+        Err(status) => Err(status),
+    }
+}
+
+// The store under this keeper, if there is one.
+fn store_under<S: Alter + Drop>(keeper: Option<NamedKeeper<'_, Store<S>>>) -> Option<Store<S>> {
+    match keeper {
+        Some(keeper) => Some(keeper.into_inner()),
+        None => None,
+    }
+}
+
+// Closes the store of a node, if there is one.
 fn close_kept(
     rt: &HostRuntime,
-    path: Option<String>,
+    name: Option<&StoreName>,
     store: Option<FiledStore>,
 ) -> Result<(), Status> {
     match store {
-        Some(store) => close_store(rt, path.as_deref().unwrap_or(""), store),
+        Some(store) => close_node(rt, name, store),
         None => Ok(()),
     }
 }
 
-// Closes a store.
-fn close_store(rt: &HostRuntime, path: &str, store: FiledStore) -> Result<(), Status> {
-    match close(store) {
+// Closes the store of a node, unless it has lost its name.
+fn close_node(rt: &HostRuntime, name: Option<&StoreName>, store: FiledStore) -> Result<(), Status> {
+    match name {
+        Some(name) => report_closed(rt, name.path(), close_named(store, name)),
+        None => report_closed(rt, "", close(store)),
+    }
+}
+
+// Reports why the store in this file isn't closed.
+fn report_closed(
+    rt: &HostRuntime,
+    path: &str,
+    closed: Result<(), FileError>,
+) -> Result<(), Status> {
+    match closed {
         Ok(()) => Ok(()),
         Err(error) => Err(report_file(rt, Hints::Always, path, error)),
     }

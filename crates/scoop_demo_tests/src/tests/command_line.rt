@@ -9,7 +9,7 @@ use std::process::Abort;
 // A command line, and parts of its output, in order.
 type Case<'a> = (&'a [&'a str], &'a [&'a str]);
 
-const WRONG: [Case; 12] = [
+const WRONG: [Case; 16] = [
     (
         &["scoop", "answer", "--new", "a", "--store", "b"],
         &["error: the argument '--new <FILE>' cannot be used with '--store <FILE>'"],
@@ -64,6 +64,42 @@ const WRONG: [Case; 12] = [
     (
         &["scoop", "client", "7", "--new", "a", "--store", "b"],
         &["error: the argument '--new <FILE>' cannot be used with '--store <FILE>'"],
+    ),
+    (
+        &["scoop", "client", "7", "--system", "a", "--after", "3"],
+        &[
+            "error: the following required arguments were not provided:\n\
+            \x20 --new <FILE>\n",
+        ],
+    ),
+    (
+        &[
+            "scoop", "client", "7", "--system", "a", "--store", "b", "--after", "3",
+        ],
+        &["error: the argument '", "' cannot be used with"],
+    ),
+    (
+        &[
+            "scoop", "client", "7", "--system", "a", "--cut", "--after", "3",
+        ],
+        &["error: the argument '", "' cannot be used with"],
+    ),
+    (
+        &[
+            "scoop",
+            "client",
+            "7",
+            "--system",
+            "a",
+            "--new",
+            "b",
+            "--after",
+            "4294967295",
+        ],
+        &[
+            "error: invalid value '4294967295' for '--after <N>'",
+            "4294967295 is not in 0..=4294967294",
+        ],
     ),
 ];
 
@@ -173,6 +209,7 @@ const HELP: [Case; 10] = [
         &[
             "Runs a client of the system",
             "Use --new for a client that never ran",
+            "use --new with --after N",
             "condition failed T",
             "Statuses: 0; 1 for the file or the key",
             "for lines that got `refused`, `answer refused` or `condition failed`",
@@ -180,6 +217,8 @@ const HELP: [Case; 10] = [
             "scoop client 7 --system examples/bank.toml --new",
             "scoop client 7 --system examples/bank.toml --store /tmp/client-7.db --cut",
             "Usage: scoop client [OPTIONS] --system <FILE> <N>",
+            "--after <N>",
+            "0 to 4294967294",
             "--strict",
             "--lines <FILE>",
             "--cut",

@@ -1,0 +1,230 @@
+//! A keeper that looks whether its file still has its name.
+
+ghost use Rattle.std.specs.Prelude.{◌≡◌, ◌⊎◌, Err};
+
+use scoop_handler::{HandlerState, Heard};
+use scoop_keeper::{Keeper, KeeperError};
+use scoop_message::{ClientId, HandlerId, Message, OutOfMemory};
+use std::alloc::Global;
+use std::fs;
+use std::io::ErrorKind;
+use std::marker::Model;
+use std::os::unix::fs::MetadataExt;
+use std::sync::atomic::{AtomicBool, Ordering};
+
+// How many puts go after a look without another one.
+const BETWEEN: u32 = 63;
+
+/// The name of a store's file. The keeper over the store borrows it, and notes here if the store has lost it.
+#[derive(Drop)]
+pub struct StoreName {
+    path: String,
+    log: String,
+    is_lost: AtomicBool,
+}
+
+impl StoreName {
+    /// The name of the store in the file of this path.
+    pub fn new(alloc: Global, path: &str) -> Result<StoreName, OutOfMemory> {
+        let log = match format!(in alloc; "{path}-wal") {
+            Ok(log) => log,
+            Err(_) => return Err(OutOfMemory),
+        };
+        match String::from_str(alloc, path) {
+            Ok(path) => Ok(StoreName {
+                path,
+                log,
+                is_lost: AtomicBool::new(false),
+            }),
+            Err(_) => Err(OutOfMemory),
+        }
+    }
+
+    /// The path of the store's file.
+    pub fn path(&self) -> &str {
+        self.path.as_str()
+    }
+
+    /// Whether a keeper has found that the name led to another file or none, or that the file was cut.
+    pub fn is_lost(&self) -> bool {
+        self.is_lost.load(Ordering::SeqCst)
+    }
+
+    fn lose(&self) {
+        self.is_lost.store(true, Ordering::SeqCst);
+    }
+}
+
+// The file that a name leads to, if it does.
+#[derive(Clone, Copy)]
+enum Found {
+    // This file, of this device, with this length.
+    File { dev: u64, ino: u64, len: u64 },
+    Nothing,
+    // The system doesn't say.
+    Unknown,
+}
+
+fn look(rt: &HostRuntime, path: &str) -> Found {
+    match fs::metadata(rt, path) {
+        Ok(about) => Found::File {
+            dev: about.dev(),
+            ino: about.ino(),
+            len: about.len(),
+        },
+        Err(error) => match error.kind() {
+            ErrorKind::NotFound | ErrorKind::NotADirectory => Found::Nothing,
+            _ => Found::Unknown,
+        },
+    }
+}
+
+// Whether two looks may have found the same file.
+fn may_be_one(first: Found, second: Found) -> bool {
+    match (first, second) {
+        (Found::Unknown, _) | (_, Found::Unknown) => true,
+        (
+            Found::File { dev, ino, .. },
+            Found::File {
+                dev: other_dev,
+                ino: other_ino,
+                ..
+            },
+        ) => dev == other_dev && ino == other_ino,
+        _ => false,
+    }
+}
+
+// Whether the second look found a shorter file than the first one. A database in use never becomes shorter.
+fn is_cut(first: Found, second: Found) -> bool {
+    match (first, second) {
+        (Found::File { len, .. }, Found::File { len: other_len, .. }) => other_len < len,
+        _ => false,
+    }
+}
+
+/// A keeper that passes every call on to the one under it, over the store of this name. It looks at the name at its first put,
+/// and at every 64th one after it. The put is `Refused` if the name leads to another file than when the keeper was made, or to
+/// none, or if the file was cut. The log is looked at too, if it stands beside the name: if the name is a link, it doesn't.
+/// Contracts see the keeper under it.
+#[derive(Drop)]
+pub struct NamedKeeper<'a, K> {
+    keeper: K,
+    rt: &'a HostRuntime,
+    name: &'a StoreName,
+    file: Found,
+    log: Found,
+    // How many puts go before the next look.
+    left: u32,
+}
+
+impl<'a, K> Model for NamedKeeper<'a, K> {
+    ghost Value = { K };
+
+    ghost view = { λ n. n.keeper };
+}
+
+impl<'a, K: Drop> NamedKeeper<'a, K> {
+    /// Looks after the name of this keeper's store, which is open.
+    pub fn new(rt: &'a HostRuntime, keeper: K, name: &'a StoreName) -> NamedKeeper<'a, K>
+        ensures { result ≡ keeper }
+    {
+        NamedKeeper {
+            keeper,
+            rt,
+            name,
+            file: look(rt, name.path.as_str()),
+            log: look(rt, name.log.as_str()),
+            left: 0,
+        }
+    }
+
+    /// The keeper under this one. Looks at the file's name once more. It doesn't look at the log's: a close copies the log into
+    /// the file.
+    pub fn into_inner(self) -> K
+        ensures { result ≡ self.entry }
+    {
+        if !self.is_file(look(self.rt, self.name.path.as_str())) {
+            self.name.lose();
+        }
+        self.keeper
+    }
+
+    // Whether the look may have found the file, which isn't cut.
+    fn is_file(&self, found: Found) -> bool {
+        may_be_one(self.file, found) && !is_cut(self.file, found)
+    }
+
+    // Counts a put, and returns whether it is passed on. After a look that failed, the next put looks again.
+    fn passes(&mut self) -> bool
+        ensures { self.new ≡ self.old }
+    {
+        if self.left > 0 {
+            self.left -= 1;
+            return true;
+        }
+        if !self.has_name() {
+            self.name.lose();
+            return false;
+        }
+        self.left = BETWEEN;
+        true
+    }
+
+    // Whether the name still leads to the file, which isn't cut, and to its log.
+    fn has_name(&mut self) -> bool
+        ensures { self.new ≡ self.old }
+    {
+        let found = look(self.rt, self.name.path.as_str());
+        if !self.is_file(found) {
+            return false;
+        }
+        if let Found::File { .. } = found {
+            self.file = found;
+        }
+        match self.log {
+            Found::File { .. } => may_be_one(self.log, look(self.rt, self.name.log.as_str())),
+            Found::Nothing | Found::Unknown => true,
+        }
+    }
+}
+
+impl<'a, K: Keeper<Global>> Keeper<Global> for NamedKeeper<'a, K> {
+    ghost use Rattle.scoop_keeper.specs.declared.keeper.KeeperError.{KeeperError};
+
+    ghost handlers = { λ n. K.handlers n };
+
+    ghost incarnations = { λ n. K.incarnations n };
+
+    ghost is_honest = { λ n. K.is_honest n };
+
+    // A put that isn't passed on is refused, and changes nothing.
+    ghost put_gives = { λ old state result new. K.put_gives old state result new ⊎ ((result ≡ Err KeeperError.Refused) × (new ≡ old)) };
+
+    ghost load_gives = { λ old handler result new. K.load_gives old handler result new };
+
+    ghost next_gives = { λ old client result new. K.next_gives old client result new };
+
+    fn put_handler(&mut self, state: &HandlerState) -> Result<(), KeeperError> {
+        if !self.passes() {
+            return Err(KeeperError::Refused);
+        }
+        self.keeper.put_handler(state)
+    }
+
+    fn load_handler(&mut self, handler: HandlerId) -> Result<Option<HandlerState>, KeeperError> {
+        self.keeper.load_handler(handler)
+    }
+
+    fn next_incarnation(&mut self, client: ClientId) -> Result<u32, KeeperError> {
+        self.keeper.next_incarnation(client)
+    }
+
+    fn note_heard(&mut self, message: &Message, heard: &Heard) -> Result<(), KeeperError> {
+        self.keeper.note_heard(message, heard)
+    }
+
+    fn note_finished(&mut self, handler: HandlerId) -> Result<(), KeeperError> {
+        self.keeper.note_finished(handler)
+    }
+}
