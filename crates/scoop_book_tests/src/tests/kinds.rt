@@ -19,21 +19,22 @@ fn calls() -> Option<Entries> {
     Entries::of(&[call, call, call, call]).ok()
 }
 
-/// A query, and the block's End.
-fn last() -> Option<Entries> {
+/// A query.
+fn query() -> Option<Entry> {
     let args = Args::of(&[5]).ok()?;
-    Entries::of(&[Entry::Query(Request { op: SET, args }), Entry::End]).ok()
+    Some(Entry::Query(Request { op: SET, args }))
 }
 
 /// A message of each kind. A handler drops those that go to clients.
 fn messages() -> Option<[Message; 13]> {
     let (client, block) = (ClientId(7), block(7));
+    let last = Entries::of(&[query()?, Entry::End]).ok()?;
     Some([
         Message::Hello(ONE, client, 1),
         Message::Lock(ONE, block),
         Message::Open(ONE, block),
         Message::Log(ONE, block, 1, calls()?),
-        Message::Log(ONE, block, 5, last()?),
+        Message::Log(ONE, block, 5, last),
         Message::Unlock(ONE, block),
         Message::Welcome(ONE, client, 1),
         Message::Locked(ONE, block),
@@ -82,7 +83,7 @@ fn runs(book: &mut MemoryBook, made: &mut Made) -> Option<()> {
         .ok()
 }
 
-/// All of it, with one Begin that finds nothing. The query is asked for again at the end, and its answer is kept.
+/// All of it, with one Begin that finds nothing. At the end the query is asked for again, and gets the kept answer.
 fn makes(alloc: Global, book: &mut MemoryBook) -> Option<Made> {
     let mut made = Vec::new(alloc);
     for message in &messages()? {
@@ -94,7 +95,8 @@ fn makes(alloc: Global, book: &mut MemoryBook) -> Option<Made> {
     if begins(book, &mut made)?.is_some() {
         return None;
     }
-    hears(book, Message::Log(ONE, block(7), 5, last()?), &mut made)?;
+    let again = Entries::of(&[query()?]).ok()?;
+    hears(book, Message::Log(ONE, block(7), 5, again), &mut made)?;
     Some(made)
 }
 
