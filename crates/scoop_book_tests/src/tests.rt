@@ -6,6 +6,7 @@ ghost use Rattle.scoop_book.specs.Books.{IsHear};
 mod book_growths;
 mod examples;
 mod growths;
+mod kinds;
 mod limits;
 mod refusing;
 mod threads;

@@ -10,7 +10,7 @@ use scoop_book::{CloseRefusal, Event, Node, OpenError, Pass, Reply};
 use scoop_errors::PartyError;
 use scoop_keeper::MemoryKeeper;
 use scoop_link::{Peers, UdpLink};
-use scoop_message::HandlerId;
+use scoop_message::{HandlerId, OutOfMemory};
 use scoop_netloop::{OpenGate, ServeEnd, serve};
 use scoop_object::{Behaviour, Class};
 use std::alloc::Global;
@@ -110,13 +110,20 @@ impl<B: Behaviour> Host<B> {
     }
 
     /// Closes the node. Returns its history, which matches its threads' records.
-    pub(crate) fn close<R: Wait>(self, rt: &R) -> Result<Vec<(u32, Event, Reply)>, PartyError> {
+    pub(crate) fn close<R: Wait>(
+        self,
+        rt: &R,
+        alloc: Global,
+    ) -> Result<Vec<(u32, Event, Reply)>, PartyError> {
         let Host { node, passes, .. } = self;
         let Some(passes) = passes else {
             return Err(PartyError::NotClosed(CloseRefusal::MissingPass));
         };
         match node.close(rt, passes.list) {
-            Ok(closed) => Ok(closed.history),
+            Ok(closed) => match closed.history.to_vec(alloc) {
+                Ok(history) => Ok(history),
+                Err(OutOfMemory) => Err(PartyError::OutOfMemory),
+            },
             Err(error) => Err(PartyError::from(error.cause)),
         }
     }

@@ -44,7 +44,7 @@ fn close_all<B: Behaviour, R: Wait>(
 ) -> Result<Histories, PartyError> {
     let mut histories = Vec::new(alloc);
     for host in hosts {
-        let history = host.close(rt)?;
+        let history = host.close(rt, alloc)?;
         histories.push(history).map_err(OutOfMemory::from)?;
     }
     Ok(histories)

@@ -2,7 +2,7 @@
 
 use super::growths::{ACTS, Act, Heap, message_of};
 use super::{ONE, cells};
-use scoop_book::{Book, BookError, Event, FinishRefusal, Reply};
+use scoop_book::{Book, BookError, Event, FinishRefusal, History, Reply};
 use scoop_handler::Done;
 use scoop_keeper::MemoryKeeper;
 use scoop_message::Words;
@@ -22,10 +22,20 @@ fn opens<'a>(alloc: Global, heap: Heap<'a>) -> Option<HeapBook<'a>> {
     Book::open(heap, handlers, MemoryKeeper::new(heap)).ok()
 }
 
+/// The last entry of a history.
+fn last<'a>(history: &History<Heap<'a>>) -> Option<(u32, Event, Reply)> {
+    let mut entries = history.reader();
+    let mut last = None;
+    for _ in 0..history.len() {
+        last = entries.next_entry();
+    }
+    last
+}
+
 /// A book's history and the words of its handler.
 fn shown<'a>(book: &HeapBook<'a>) -> (Last, Option<Words>) {
     let history = book.history();
-    ((history.len(), history.last().copied()), book.words(ONE))
+    ((history.len(), last(history)), book.words(ONE))
 }
 
 fn hears<'a>(

@@ -1,10 +1,11 @@
-//! The example of the crate's doc.
+//! The examples of the docs of `scoop_book` and `scoop_packed`.
 
 use super::{MemoryBook, ONE, SET, block, book};
 use scoop_book::Event;
 use scoop_handler::{Heard, Ran};
 use scoop_keeper::Keeper;
-use scoop_message::{Args, ClientId, Entries, Entry, Message, Request};
+use scoop_message::{Args, Block, ClientId, Entries, Entry, HandlerId, Message, Request};
+use scoop_packed::{Reader, put_message};
 use std::process::Abort;
 use std::test::Fail;
 
@@ -43,5 +44,23 @@ fn a_block_sets_a_cell(rt: HostRuntime) -> Result<(), Fail> {
     sends(&mut book)?;
     runs(&rt, &mut book)?;
     assert!(rt; stored(book) == Some(5));
+    Ok(())
+}
+
+#[test]
+fn a_lock_takes_five_words(rt: HostRuntime) -> Result<(), Fail> {
+    let block = Block {
+        client: ClientId(7),
+        inc: 2,
+        num: 3,
+    };
+    let lock = Message::Lock(HandlerId(1), block);
+    let mut words = Vec::new(rt.alloc());
+    words.reserve(51)?;
+    put_message(&mut words, &lock);
+    assert_eq!(rt; words.len(), 5);
+    let mut reader = Reader::new(&words);
+    let kind = reader.word();
+    assert_eq!(rt; reader.message(kind), lock);
     Ok(())
 }

@@ -74,7 +74,10 @@ fn a_book_hears_and_runs(rt: HostRuntime) -> Result<(), Fail> {
     sends(&rt, &mut book);
     let unknown = refusal(&mut book, hello(3, 7));
     runs(&rt, &mut book);
-    is_run(&rt, book.history());
+    let Ok(history) = book.history().to_vec(rt.alloc()) else {
+        return Err("out of memory".into());
+    };
+    is_run(&rt, &history);
     assert!(rt; unknown == Some(BookError::UnknownHandler));
     Ok(())
 }

@@ -131,19 +131,27 @@ fn unclosed<R: Wait>(
 }
 
 /// Closes the node: how many entries its history has, and how many of each pass.
-fn closed<R: Wait>(rt: &R, node: MemoryNode, given: Vec<Pass>) -> Option<(usize, usize, usize)> {
+fn closed<R: Wait>(
+    rt: &R,
+    alloc: Global,
+    node: MemoryNode,
+    given: Vec<Pass>,
+) -> Option<(usize, usize, usize)> {
     let closed = node.close(rt, given).ok()?;
-    let history = closed.history.as_slice();
+    let Ok(history) = closed.history.to_vec(alloc) else {
+        return None;
+    };
     Some((
         history.len(),
-        entries_of(history, 0),
-        entries_of(history, 1),
+        entries_of(&history, 0),
+        entries_of(&history, 1),
     ))
 }
 
 /// The node is closed neither with one pass nor with a stranger's, but with its own.
 fn closes<R: Wait>(
     rt: &R,
+    alloc: Global,
     node: MemoryNode,
     given: Vec<Pass>,
     stranger: Pass,
@@ -154,7 +162,7 @@ fn closes<R: Wait>(
     let (differs, node, mut given) = unclosed(rt, node, given)?;
     drop(given.pop());
     given.push(second).ok()?;
-    Some(((missing, differs), closed(rt, node, given)?))
+    Some(((missing, differs), closed(rt, alloc, node, given)?))
 }
 
 #[test]
@@ -163,7 +171,7 @@ fn two_threads_work_and_the_node_is_closed(rt: HostRuntime) -> Result<(), Fail> 
     let stranger = strange(alloc).ok_or("a stranger")?;
     let (node, passes) = opened(alloc, 2).ok_or("cells")??;
     let (second, given) = worked(&rt, alloc, &node, passes).ok_or("passes")?;
-    let (causes, entries) = closes(&rt, node, given, stranger, second).ok_or("closed")?;
+    let (causes, entries) = closes(&rt, alloc, node, given, stranger, second).ok_or("closed")?;
     assert!(rt; causes == (CloseRefusal::MissingPass, CloseRefusal::PassDiffers(1)));
     assert!(rt; entries == (1000, 500, 500));
     Ok(())

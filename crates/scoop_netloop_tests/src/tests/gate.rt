@@ -292,8 +292,11 @@ where
 
 // The executor's pass has the run of the entry.
 fn has_run(rt: &impl Abort, pass: &Pass) {
-    let begun = pass.events().first().map(|(_, reply)| *reply);
-    assert_eq!(rt; begun, Some(Reply::Began(Some((FIRST, 1)))));
+    let mut entries = pass.events().reader();
+    let Some((_, _, begun)) = entries.next_entry() else {
+        panic!(rt; "no entry");
+    };
+    assert_eq!(rt; begun, Reply::Began(Some((FIRST, 1))));
     assert_eq!(rt; pass.events().len(), 3);
 }
 

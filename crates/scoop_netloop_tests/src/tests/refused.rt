@@ -2,7 +2,7 @@
 
 use super::accounts::{book, node};
 use super::frames::{first_messages, tape};
-use scoop_book::{Book, Event, Node, Pass, Reply};
+use scoop_book::{Book, Event, History, Node, Pass, Reply};
 use scoop_handler::{Done, Heard, Ran};
 use scoop_keeper::MemoryKeeper;
 use scoop_link::TapeLink;
@@ -89,10 +89,13 @@ fn all_happen(
 }
 
 /// The history happens again at a book that has just opened.
-fn replays(rt: &impl Abort, alloc: Global, history: &[(u32, Event, Reply)]) {
+fn replays<'a>(rt: &impl Abort, alloc: Global, history: &History<Heap<'a>>) {
+    let Ok(history) = history.to_vec(alloc) else {
+        panic!(rt; "out of memory");
+    };
     let mut book = book(rt, alloc, alloc);
     let mut out = None;
-    all_happen(rt, &mut book, &mut out, history);
+    all_happen(rt, &mut book, &mut out, &history);
 }
 
 /// A loop in which the growth of this number is refused. All passes come back.
