@@ -242,7 +242,8 @@ fn log_choice(given: &ArgMatches<'_>) -> LogChoice {
     }
 }
 
-fn node_options<'a>(given: &'a ArgMatches<'_>) -> NodeOptions<'a> {
+/// The options of a node in its matches.
+pub fn node_options<'a>(given: &'a ArgMatches<'_>) -> NodeOptions<'a> {
     NodeOptions {
         number: given.get_one::<u32>("number").unwrap_or(0),
         system: text_of(given, "system"),
@@ -258,7 +259,8 @@ fn node_options<'a>(given: &'a ArgMatches<'_>) -> NodeOptions<'a> {
     }
 }
 
-fn client_options<'a>(given: &'a ArgMatches<'_>) -> ClientOptions<'a> {
+/// The options of a client in its matches. Those of its lines are as without them if the command has none.
+pub fn client_options<'a>(given: &'a ArgMatches<'_>) -> ClientOptions<'a> {
     ClientOptions {
         number: given.get_one::<u32>("number").unwrap_or(0),
         system: text_of(given, "system"),

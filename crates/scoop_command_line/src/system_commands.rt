@@ -51,7 +51,7 @@ pub(crate) const NODE: CommandRow = CommandRow {
     arguments: &NODE_ARGUMENTS,
 };
 
-const NODE_ARGUMENTS: [ArgumentRow; 13] = [
+pub(crate) const NODE_ARGUMENTS: [ArgumentRow; 13] = [
     ArgumentRow {
         name: "number",
         place: Place::Word,
@@ -120,7 +120,7 @@ const NODE_ARGUMENTS: [ArgumentRow; 13] = [
         value: Value::U32,
         value_name: "N",
         default: Some("100000"),
-        help: "The entries of its history, 2 to 1000000, after which the node reopens; an entry takes about 1.1 KB of memory",
+        help: "The entries of its history, 2 to 1000000, after which the node reopens; an entry takes some 110 bytes of memory",
     },
     ArgumentRow {
         name: "turns",
@@ -208,7 +208,7 @@ pub(crate) const CLIENT: CommandRow = CommandRow {
     arguments: &CLIENT_ARGUMENTS,
 };
 
-const CLIENT_ARGUMENTS: [ArgumentRow; 12] = [
+pub(crate) const CLIENT_ARGUMENTS: [ArgumentRow; 12] = [
     ArgumentRow {
         name: "number",
         place: Place::Word,
