@@ -44,3 +44,18 @@ impl Objects for Tables {
         }
     }
 }
+
+/// Makes what the maker behind the reference makes.
+impl<'o, O: Objects> Objects for &'o O {
+    type Object = O::Object;
+
+    fn object(
+        &self,
+        alloc: Global,
+        handler: HandlerId,
+        class: &Class,
+        words: Words,
+    ) -> Result<Option<O::Object>, OutOfMemory> {
+        (**self).object(alloc, handler, class, words)
+    }
+}

@@ -2,30 +2,25 @@
 
 use crate::ending::{End, Party, report_end, report_plainly, report_range};
 use crate::journaling::{open_journal, with_journal};
-use crate::keyboard::Keyboard;
 use crate::keys::read_key;
 use crate::owning::{check_owner, note_owner};
 use crate::stores::open_client_store;
 use crate::system_file::{read_system, read_text, report_fault};
+use crate::tasks::{ClientTask, Cut, Input, Program, Script};
 use crate::typed_lines::TypedLines;
 use scoop_command_line::{ClientOptions, StoreChoice};
 use scoop_files::close;
-use scoop_journal::{Journal, JournalFile, Owner};
+use scoop_journal::{JournalFile, Owner};
 use scoop_keeper::Keeper;
-use scoop_lines::LineSource;
 use scoop_link::Link;
-use scoop_message::{ClientId, OutOfMemory};
-use scoop_pacing::{MeasuredLink, SlowNotes, SystemTimes};
+use scoop_message::ClientId;
+use scoop_pacing::{MeasuredLink, SystemTimes};
 use scoop_report::{Hints, Status, hint, report};
-use scoop_runtime::{
-    Backoff, ClientPlan, FileFault, Interrupt, check_script, client_cut, client_run,
-    open_client_link,
-};
+use scoop_runtime::{ClientPlan, ClientProgram, FileFault, check_script, open_client_link};
 use scoop_seal::{Key, SealedLink};
 use scoop_system::System;
 use std::alloc::Global;
-use std::io;
-use std::io::{BufWriter, IsTerminal, Stderr};
+use std::io::IsTerminal;
 use std::net::Net;
 
 /// Runs the client of the options. Its system, its key and its port come first, and then its store.
@@ -52,17 +47,6 @@ fn report_no_store(rt: &HostRuntime) -> Status {
     Status(2)
 }
 
-// The task of a client.
-#[derive(Clone, Copy)]
-enum Task<'a> {
-    // The lines of standard input.
-    Input,
-    // The lines of this text.
-    Script(&'a str),
-    // The cut of a run that was killed.
-    Cut,
-}
-
 // Runs the client of this system, which is borrowed, so that no early return has to drop it.
 fn run_in<T: Net>(
     rt: &HostRuntime,
@@ -71,14 +55,44 @@ fn run_in<T: Net>(
     system: &System,
 ) -> Result<(), Status> {
     if options.only_cuts {
-        return run_task(rt, net, options, system, Task::Cut);
+        return run_task(rt, net, options, system, false, &mut Cut);
     }
     let Some(path) = options.lines else {
-        return run_task(rt, net, options, system, Task::Input);
+        let is_typed = rt.stdin().is_terminal();
+        return run_task(rt, net, options, system, is_typed, &mut Input { net });
     };
     let text = read_text(rt, path)?;
     check_lines(rt, options, system, path, &text)?;
-    run_task(rt, net, options, system, Task::Script(&text))
+    run_task(rt, net, options, system, false, &mut Script { text: &text })
+}
+
+/// Runs a program as the client of the options. With `only_cuts` it cuts the block of a run that was killed, and the program
+/// doesn't run. The order of what it opens and refuses is that of [`run_client`].
+pub fn run_own_client<T: Net, G: ClientProgram>(
+    rt: &HostRuntime,
+    net: &T,
+    options: &ClientOptions<'_>,
+    program: &mut G,
+) -> Result<(), Status> {
+    if let StoreChoice::None = options.store {
+        return Err(report_no_store(rt));
+    }
+    let system = read_system(rt, options.system)?;
+    run_program_in(rt, net, options, &system, program)
+}
+
+// Runs the program in this system, which is borrowed, so that no early return has to drop it.
+fn run_program_in<T: Net, G: ClientProgram>(
+    rt: &HostRuntime,
+    net: &T,
+    options: &ClientOptions<'_>,
+    system: &System,
+    program: &mut G,
+) -> Result<(), Status> {
+    if options.only_cuts {
+        return run_task(rt, net, options, system, false, &mut Cut);
+    }
+    run_task(rt, net, options, system, false, &mut Program { program })
 }
 
 // Checks the lines of a file, before anything is sent.
@@ -98,13 +112,14 @@ fn check_lines(
     }
 }
 
-// Runs the client for this task.
-fn run_task<T: Net>(
+// Runs the client for this task. A user may type its lines.
+fn run_task<T: Net, C: ClientTask>(
     rt: &HostRuntime,
     net: &T,
     options: &ClientOptions<'_>,
     system: &System,
-    task: Task<'_>,
+    is_typed: bool,
+    task: &mut C,
 ) -> Result<(), Status> {
     let client = ClientId(options.number);
     let Some(place) = system.client(client) else {
@@ -115,7 +130,6 @@ fn run_task<T: Net>(
             FileFault::NoClient,
         ));
     };
-    let is_typed = matches!(task, Task::Input) && rt.stdin().is_terminal();
     let made = if options.is_strict {
         ClientPlan::new_strict(system, *place, options.turns, is_typed)
     } else {
@@ -140,13 +154,13 @@ fn run_task<T: Net>(
 }
 
 // Runs the client with its journal, if it writes one.
-fn run_journaled<T: Net>(
+fn run_journaled<T: Net, C: ClientTask>(
     rt: &HostRuntime,
     net: &T,
     options: &ClientOptions<'_>,
     plan: &ClientPlan<'_>,
     key: Option<Key>,
-    task: Task<'_>,
+    task: &mut C,
 ) -> Result<(), End> {
     let owner = Owner::Client(plan.place().client);
     let journal = open_journal(rt, options.journal, owner)?;
@@ -156,55 +170,53 @@ fn run_journaled<T: Net>(
 }
 
 // Runs the client at its place.
-fn run_at<T: Net>(
+fn run_at<T: Net, C: ClientTask>(
     rt: &HostRuntime,
     net: &T,
     options: &ClientOptions<'_>,
     plan: &ClientPlan<'_>,
     key: Option<Key>,
     journal: Option<&JournalFile>,
-    task: Task<'_>,
+    task: &mut C,
 ) -> Result<(), End> {
     let link = open_client_link(net, rt.alloc(), plan.system(), &plan.place())?;
     match key {
         Some(key) => {
             let link = SealedLink::new(link, key);
-            run_measured(rt, net, options, plan, journal, link, task)
+            run_measured(rt, options, plan, journal, link, task)
         }
-        None => run_measured(rt, net, options, plan, journal, link, task),
+        None => run_measured(rt, options, plan, journal, link, task),
     }
 }
 
 // Runs the client over this link, whose round trips decide when a datagram goes again.
-fn run_measured<L: Link, T: Net>(
+fn run_measured<L: Link, C: ClientTask>(
     rt: &HostRuntime,
-    net: &T,
     options: &ClientOptions<'_>,
     plan: &ClientPlan<'_>,
     journal: Option<&JournalFile>,
     link: L,
-    task: Task<'_>,
+    task: &mut C,
 ) -> Result<(), End> {
     let handlers = plan.system().handlers().len();
     let client = plan.place().client;
     let clock = SystemTimes::new(rt);
     let link = MeasuredLink::new(rt.alloc(), link, clock, handlers, client.0)?;
-    run_stored(rt, net, options, plan, journal, link, task)
+    run_stored(rt, options, plan, journal, link, task)
 }
 
 // Runs the client over the store of its options, and closes it.
-fn run_stored<L: Link, T: Net>(
+fn run_stored<L: Link, C: ClientTask>(
     rt: &HostRuntime,
-    net: &T,
     options: &ClientOptions<'_>,
     plan: &ClientPlan<'_>,
     journal: Option<&JournalFile>,
     link: L,
-    task: Task<'_>,
+    task: &mut C,
 ) -> Result<(), End> {
     let choice = options.store;
     let mut store = open_client_store(rt, choice, options.after, plan.place().client)?;
-    let ran = run_over(rt, net, choice, plan, &mut store, journal, link, task);
+    let ran = run_over(rt, choice, plan, &mut store, journal, link, task);
     let closed = close(store);
     ran?;
     Ok(closed?)
@@ -212,15 +224,14 @@ fn run_stored<L: Link, T: Net>(
 
 // Runs the client over this store and this link. Its store knows its owner from then on. A function that names the files' type
 // does one thing alone: the prover takes too many steps at more.
-fn run_over<K: Keeper<Global>, L: Link, T: Net>(
+fn run_over<K: Keeper<Global>, L: Link, C: ClientTask>(
     rt: &HostRuntime,
-    net: &T,
     choice: StoreChoice<'_>,
     plan: &ClientPlan<'_>,
     store: &mut K,
     journal: Option<&JournalFile>,
     link: L,
-    task: Task<'_>,
+    task: &mut C,
 ) -> Result<(), End> {
     note_owner(
         rt,
@@ -228,71 +239,5 @@ fn run_over<K: Keeper<Global>, L: Link, T: Net>(
         plan.system(),
         Owner::Client(plan.place().client),
     );
-    match task {
-        Task::Input => {
-            let mut lines = Keyboard::new(rt, net, plan.system());
-            run_lines(rt, plan, store, journal, link, &mut lines)
-        }
-        Task::Script(text) => {
-            let mut lines = TypedLines::new(text.as_bytes());
-            run_lines(rt, plan, store, journal, link, &mut lines)
-        }
-        Task::Cut => run_cut(rt, plan, store, journal, link),
-    }
-}
-
-// Standard error, for at most one line a second.
-fn slow_notes(rt: &HostRuntime) -> SlowNotes<Stderr, SystemTimes<'_, HostRuntime>> {
-    SlowNotes::new(rt.stderr(), SystemTimes::new(rt))
-}
-
-// Runs the client with these lines.
-fn run_lines<K: Keeper<Global>, L: Link, I: LineSource + Interrupt>(
-    rt: &HostRuntime,
-    plan: &ClientPlan<'_>,
-    store: &mut K,
-    journal: Option<&JournalFile>,
-    link: L,
-    lines: &mut I,
-) -> Result<(), End> {
-    let alloc = rt.alloc();
-    let mut output = BufWriter::new(alloc, io::writer(rt)).map_err(|_| OutOfMemory)?;
-    client_run(
-        alloc,
-        plan,
-        store,
-        link,
-        journal.map(|file| Journal::new(alloc, file)),
-        lines,
-        slow_notes(rt),
-        slow_notes(rt),
-        &mut Backoff::new(rt, plan.place().client),
-        &mut output,
-        &mut rt.stderr(),
-    )?;
-    Ok(())
-}
-
-// Cuts the block of a run that was killed.
-fn run_cut<K: Keeper<Global>, L: Link>(
-    rt: &HostRuntime,
-    plan: &ClientPlan<'_>,
-    store: &mut K,
-    journal: Option<&JournalFile>,
-    link: L,
-) -> Result<(), End> {
-    let alloc = rt.alloc();
-    let mut output = BufWriter::new(alloc, io::writer(rt)).map_err(|_| OutOfMemory)?;
-    client_cut(
-        alloc,
-        plan,
-        store,
-        link,
-        journal.map(|file| Journal::new(alloc, file)),
-        slow_notes(rt),
-        slow_notes(rt),
-        &mut output,
-        &mut rt.stderr(),
-    )?;
-    Ok(())
+    task.run(rt, plan, store, journal, link)
 }

@@ -16,6 +16,9 @@ const STATUS: u8 = 3;
 // The status when a journal isn't opened or written.
 const JOURNAL_STATUS: u8 = 3;
 
+// The status of a program that ends inside a block.
+const OPEN_BLOCK_STATUS: u8 = 1;
+
 /// Why a node or a client ends early.
 #[derive(Clone, Copy)]
 pub(crate) enum End {
@@ -25,6 +28,8 @@ pub(crate) enum End {
     Runtime(RuntimeError),
     /// A client stops at one of its lines.
     Lines(ClientStop),
+    /// A program ends inside a block.
+    OpenBlock,
     /// A node's status can't be served at this address.
     Status(SocketAddr),
     /// Its journal isn't opened.
@@ -97,6 +102,7 @@ pub(crate) fn report_end(rt: &HostRuntime, party: &Party<'_>, end: End) -> Statu
             }
             status
         }
+        End::OpenBlock => report_open_block(rt),
         End::Status(address) => report_status(rt, address),
         End::Journal(error) => report_journal(rt, party, error, error.advice()),
         End::Unwritten => report_journal(
@@ -121,6 +127,17 @@ fn report_journal<E: Display + Drop>(
     report(rt, why);
     hint_of_file(rt, Hints::Always, path, advice);
     Status(JOURNAL_STATUS)
+}
+
+// Reports that a program ends inside a block.
+fn report_open_block(rt: &HostRuntime) -> Status {
+    report(rt, "the program ended inside a block");
+    hint(
+        rt,
+        Hints::Always,
+        "end each block before the program returns; this block is not done as a whole",
+    );
+    Status(OPEN_BLOCK_STATUS)
 }
 
 // Reports that a status can't be served at its address.
