@@ -114,18 +114,18 @@ fn a_deleted_file_is_noticed_at_the_64th_put_after_a_look(rt: HostRuntime) -> Re
 }
 
 // The next incarnation of the client in this store, which is closed then.
-fn next_in(mut store: FiledStore) -> Result<u32, Fail> {
+fn next_in(mut store: FiledStore) -> Result<Result<u32, KeeperError>, Fail> {
     let inc = store.next_incarnation(CLIENT);
     close(store)?;
-    Ok(inc?)
+    Ok(inc)
 }
 
 // The first two incarnations of a client whose store begins above this one.
 fn first_two(rt: &HostRuntime, last: u32) -> Result<(u32, Option<u32>), Fail> {
     let path = path_of(rt, "after")?;
     let path = path.to_str().ok_or("a path")?;
-    let first = next_in(create_after(rt, path, CLIENT, last)?)?;
-    let second = next_in(adopt_for(rt, path, CLIENT)?).ok();
+    let first = next_in(create_after(rt, path, CLIENT, last)?)??;
+    let second = next_in(adopt_for(rt, path, CLIENT)?)?.ok();
     let log = format!(in rt.alloc(); "{path}-wal")?;
     fs::remove_file(rt, path)?;
     let _gone = fs::remove_file(rt, log.as_str());
@@ -157,7 +157,7 @@ fn closed_after(rt: &HostRuntime, changed: Change) -> Result<(bool, Option<u32>)
         }
     };
     let next = match adopt_for(rt, path, CLIENT) {
-        Ok(store) => Some(next_in(store)?),
+        Ok(store) => Some(next_in(store)??),
         Err(_) => None,
     };
     let _gone = fs::remove_file(rt, path);
