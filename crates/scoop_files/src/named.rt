@@ -144,7 +144,8 @@ impl<'a, K: Drop> NamedKeeper<'a, K> {
     pub fn into_inner(self) -> K
         ensures { result ≡ self.entry }
     {
-        if !self.is_file(look(self.rt, self.name.path.as_str())) {
+        let found = look(self.rt, self.name.path.as_str());
+        if !self.is_file(found) {
             self.name.lose();
         }
         self.keeper
