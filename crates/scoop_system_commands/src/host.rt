@@ -47,18 +47,16 @@ type HostLink = AdmittingLink<UdpLink, NoReport>;
 /// A node with its link and its keeper. Its thread has both while the node runs. It hears only the clients of the system's
 /// file.
 #[derive(Drop)]
-pub(crate) struct Host<'a, K: Keeper<Global>> {
+pub(crate) struct Host<K: Keeper<Global>> {
     plan: NodePlan,
     address: SocketAddr,
     serving: Serving,
     link: Option<HostLink>,
     keeper: Option<K>,
-    // The name of its store, if it has one.
-    name: Option<&'a StoreName>,
     error: Option<RuntimeError>,
 }
 
-impl<'a, K: Keeper<Global> + Send> Host<'a, K> {
+impl<K: Keeper<Global> + Send> Host<K> {
     /// The node at this place over its port and this keeper.
     pub(crate) fn open<T: Net>(
         rt: &HostRuntime,
@@ -67,8 +65,7 @@ impl<'a, K: Keeper<Global> + Send> Host<'a, K> {
         place: &NodePlace,
         serving: Serving,
         keeper: K,
-        name: Option<&'a StoreName>,
-    ) -> Result<Host<'a, K>, RuntimeError> {
+    ) -> Result<Host<K>, RuntimeError> {
         let plan = NodePlan::of(rt.alloc(), system, place)?;
         let link = open_node_link(net, rt.alloc(), system, place)?;
         let clients = clients_of(rt.alloc(), system)?;
@@ -78,7 +75,6 @@ impl<'a, K: Keeper<Global> + Send> Host<'a, K> {
             serving,
             link: Some(AdmittingLink::new(link, clients, NoReport)),
             keeper: Some(keeper),
-            name,
             error: None,
         })
     }
@@ -129,17 +125,21 @@ impl<'a, K: Keeper<Global> + Send> Host<'a, K> {
         )
     }
 
-    /// Reports why the node ended early, if it did.
-    pub(crate) fn report(&self, rt: &HostRuntime, system: &System) -> Result<(), Status> {
+    /// Reports why the node ended early, if it did. Its store has this name, if it has one.
+    pub(crate) fn report<'a>(
+        &self,
+        rt: &HostRuntime,
+        system: &'a System,
+        name: Option<&'a StoreName>,
+    ) -> Result<(), Status> {
         match self.error {
-            Some(error) => Err(report_node(rt, system, self.address, self.name, error)),
+            Some(error) => Err(report_node(rt, system, self.address, name, error)),
             None => Ok(()),
         }
     }
 
-    /// The keeper, unless the node ended early, and the name of its store.
-    pub(crate) fn into_keeper(self) -> (Option<K>, Option<&'a StoreName>) {
-        let Host { keeper, name, .. } = self;
-        (keeper, name)
+    /// The keeper, unless the node ended early.
+    pub(crate) fn into_keeper(self) -> Option<K> {
+        self.keeper
     }
 }

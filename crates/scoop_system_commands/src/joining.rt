@@ -42,14 +42,14 @@ impl<'a, 'p, 'k, K: Keeper<Global>, T: Net> Asking<'a, 'p, 'k, K, T> {
 
 /// Runs the nodes, each in a thread, while the client runs. Then it asks the nodes to end, and joins all threads. Returns the
 /// nodes, and the end of the client.
-pub(crate) fn run_beside<'h, K, C, T>(
+pub(crate) fn run_beside<K, C, T>(
     rt: &HostRuntime,
     threads: &T,
-    hosts: Vec<Host<'h, K>>,
+    hosts: Vec<Host<K>>,
     plan: &ClientPlan<'_>,
     keeper: &mut C,
     link: UdpLink,
-) -> (Vec<Host<'h, K>>, Result<(), End>)
+) -> (Vec<Host<K>>, Result<(), End>)
 where
     K: Keeper<Global> + Send,
     C: Keeper<Global>,
@@ -67,14 +67,14 @@ where
 }
 
 // Starts a thread for each node, runs the client in this one, and waits for all.
-fn host_beside<'h, K, C, T>(
+fn host_beside<K, C, T>(
     threads: &T,
     alloc: Global,
     notes: Stderr,
-    mut hosts: Vec<Host<'h, K>>,
+    mut hosts: Vec<Host<K>>,
     ending: &Ending,
     asking: Asking<'_, '_, '_, C, T>,
-) -> (Vec<Host<'h, K>>, Result<(), End>)
+) -> (Vec<Host<K>>, Result<(), End>)
 where
     K: Keeper<Global> + Send,
     C: Keeper<Global>,

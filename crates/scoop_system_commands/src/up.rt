@@ -118,7 +118,7 @@ fn run_unstored_in<T: Threads + Wait + Clock + Net + Sync>(
     threads: &T,
     serving: Serving,
     plan: &ClientPlan<'_>,
-    hosts: &mut Vec<Host<'_, MemoryKeeper>>,
+    hosts: &mut Vec<Host<MemoryKeeper>>,
     keeper: &mut MemoryKeeper,
 ) -> Result<(), Status> {
     for place in plan.system().nodes() {
@@ -130,38 +130,36 @@ fn run_unstored_in<T: Threads + Wait + Clock + Net + Sync>(
             place,
             serving,
             record,
-            None,
             hosts,
         )?;
     }
     run_together(rt, threads, hosts, plan, keeper)?;
     for host in hosts.iter() {
-        host.report(rt, plan.system())?;
+        host.report(rt, plan.system(), None)?;
     }
     Ok(())
 }
 
 // Adds the node at this place, over its port and this keeper.
-fn add_host<'a, K: Keeper<Global> + Send, T: Net>(
+fn add_host<K: Keeper<Global> + Send, T: Net>(
     rt: &HostRuntime,
     net: &T,
     system: &System,
     place: &NodePlace,
     serving: Serving,
     keeper: K,
-    name: Option<&'a StoreName>,
-    hosts: &mut Vec<Host<'a, K>>,
+    hosts: &mut Vec<Host<K>>,
 ) -> Result<(), Status> {
-    match Host::open(rt, net, system, place, serving, keeper, name) {
+    match Host::open(rt, net, system, place, serving, keeper) {
         Ok(host) => keep(rt, host, hosts),
         Err(error) => Err(report_node(rt, system, place.address, None, error)),
     }
 }
 
-fn keep<'a, K: Keeper<Global>>(
+fn keep<K: Keeper<Global>>(
     rt: &HostRuntime,
-    host: Host<'a, K>,
-    hosts: &mut Vec<Host<'a, K>>,
+    host: Host<K>,
+    hosts: &mut Vec<Host<K>>,
 ) -> Result<(), Status> {
     match hosts.push(host) {
         Ok(()) => Ok(()),
@@ -220,7 +218,7 @@ fn run_named<T: Threads + Wait + Clock + Net + Sync>(
 ) -> Result<(), Status> {
     let mut hosts = Vec::new(rt.alloc());
     let ran = run_stored_in(rt, threads, serving, plan, dir, names, &mut hosts);
-    let ended = close_hosts(rt, plan.system(), hosts);
+    let ended = close_hosts(rt, plan.system(), names, hosts);
     ran?;
     ended
 }
@@ -233,7 +231,7 @@ fn run_stored_in<'a, T: Threads + Wait + Clock + Net + Sync>(
     plan: &ClientPlan<'_>,
     dir: &str,
     names: &'a [StoreName],
-    hosts: &mut Vec<Host<'a, NamedKeeper<'a, FiledStore>>>,
+    hosts: &mut Vec<Host<NamedKeeper<'a, FiledStore>>>,
 ) -> Result<(), Status> {
     for (place, name) in plan.system().nodes().iter().zip(names.iter()) {
         add_stored(rt, threads, plan.system(), place, serving, name, hosts)?;
@@ -253,7 +251,7 @@ fn run_filed<T: Threads + Wait + Clock + Net + Sync>(
     rt: &HostRuntime,
     threads: &T,
     plan: &ClientPlan<'_>,
-    hosts: &mut Vec<Host<'_, NamedKeeper<'_, FiledStore>>>,
+    hosts: &mut Vec<Host<NamedKeeper<'_, FiledStore>>>,
     choice: StoreChoice<'_>,
     store: FiledStore,
 ) -> Result<(), Status> {
@@ -270,7 +268,7 @@ fn run_kept<S: Alter + Drop + Send, T: Threads + Wait + Clock + Net + Sync>(
     rt: &HostRuntime,
     threads: &T,
     plan: &ClientPlan<'_>,
-    hosts: &mut Vec<Host<'_, NamedKeeper<'_, Store<S>>>>,
+    hosts: &mut Vec<Host<NamedKeeper<'_, Store<S>>>>,
     choice: StoreChoice<'_>,
     mut store: Store<S>,
 ) -> (Result<(), Status>, Store<S>) {
@@ -288,7 +286,7 @@ fn add_stored<'a, T: Net>(
     place: &NodePlace,
     serving: Serving,
     name: &'a StoreName,
-    hosts: &mut Vec<Host<'a, NamedKeeper<'a, FiledStore>>>,
+    hosts: &mut Vec<Host<NamedKeeper<'a, FiledStore>>>,
 ) -> Result<(), Status> {
     let choice = choice_of(rt, name.path())?;
     check_owner(rt, choice, system, Owner::Node(place.number))?;
@@ -305,7 +303,7 @@ fn add_filed<'a, T: Net>(
     serving: Serving,
     choice: StoreChoice<'_>,
     name: &'a StoreName,
-    hosts: &mut Vec<Host<'a, NamedKeeper<'a, FiledStore>>>,
+    hosts: &mut Vec<Host<NamedKeeper<'a, FiledStore>>>,
 ) -> Result<(), Status> {
     match open_node_store(rt, choice) {
         Ok(store) => add_opened(rt, net, system, place, serving, choice, name, store, hosts),
@@ -323,7 +321,7 @@ fn add_opened<'a, S: Alter + Drop + Send, T: Net>(
     choice: StoreChoice<'_>,
     name: &'a StoreName,
     store: Store<S>,
-    hosts: &mut Vec<Host<'a, NamedKeeper<'a, Store<S>>>>,
+    hosts: &mut Vec<Host<NamedKeeper<'a, Store<S>>>>,
 ) -> Result<(), Status> {
     note_owner(rt, choice, system, Owner::Node(place.number));
     let serving = match choice {
@@ -331,14 +329,14 @@ fn add_opened<'a, S: Alter + Drop + Send, T: Net>(
         StoreChoice::New(_) | StoreChoice::None => serving,
     };
     let keeper = NamedKeeper::new(rt, store, name);
-    add_host(rt, net, system, place, serving, keeper, Some(name), hosts)
+    add_host(rt, net, system, place, serving, keeper, hosts)
 }
 
 // Runs the nodes beside the client, and reports why the client ends early.
 fn run_together<K, C, T>(
     rt: &HostRuntime,
     threads: &T,
-    hosts: &mut Vec<Host<'_, K>>,
+    hosts: &mut Vec<Host<K>>,
     plan: &ClientPlan<'_>,
     keeper: &mut C,
 ) -> Result<(), Status>
@@ -372,15 +370,17 @@ fn report_client(rt: &HostRuntime, plan: &ClientPlan<'_>, end: End) -> Status {
     report_end(rt, &party, end)
 }
 
-// Closes the stores of the nodes. Returns the status of the first node that ended early.
+// Closes the stores of the nodes, which have these names in the same order. Returns the status of the first node that ended
+// early.
 fn close_hosts(
     rt: &HostRuntime,
     system: &System,
-    hosts: Vec<Host<'_, NamedKeeper<'_, FiledStore>>>,
+    names: &[StoreName],
+    hosts: Vec<Host<NamedKeeper<'_, FiledStore>>>,
 ) -> Result<(), Status> {
     let mut ended = Ok(());
-    for host in hosts {
-        let closed = close_host(rt, system, host);
+    for (host, name) in hosts.into_iter().zip(names.iter()) {
+        let closed = close_host(rt, system, name, host);
         if ended.is_ok() {
             ended = closed;
         }
@@ -388,29 +388,28 @@ fn close_hosts(
     ended
 }
 
-// Reports why a node ended early, or closes its store.
+// Reports why a node ended early, or closes its store of this name.
 fn close_host(
     rt: &HostRuntime,
     system: &System,
-    host: Host<'_, NamedKeeper<'_, FiledStore>>,
+    name: &StoreName,
+    host: Host<NamedKeeper<'_, FiledStore>>,
 ) -> Result<(), Status> {
-    match store_of(rt, system, host) {
-        Ok((store, name)) => close_kept(rt, name, store),
+    match store_of(rt, system, name, host) {
+        Ok(store) => close_kept(rt, name, store),
         Err(status) => Err(status),
     }
 }
 
-// Reports why a node ended early, or returns its store and the name of that.
+// Reports why a node ended early, or returns its store.
 fn store_of<'a, S: Alter + Drop + Send>(
     rt: &HostRuntime,
-    system: &System,
-    host: Host<'a, NamedKeeper<'_, Store<S>>>,
-) -> Result<(Option<Store<S>>, Option<&'a StoreName>), Status> {
-    match host.report(rt, system) {
-        Ok(()) => {
-            let (keeper, name) = host.into_keeper();
-            Ok((store_under(keeper), name))
-        }
+    system: &'a System,
+    name: &'a StoreName,
+    host: Host<NamedKeeper<'_, Store<S>>>,
+) -> Result<Option<Store<S>>, Status> {
+    match host.report(rt, system, Some(name)) {
+        Ok(()) => Ok(store_under(host.into_keeper())),
         Err(status) => Err(status),
     }
 }
@@ -423,23 +422,15 @@ fn store_under<S: Alter + Drop>(keeper: Option<NamedKeeper<'_, Store<S>>>) -> Op
     }
 }
 
-// Closes the store of a node, if there is one.
+// Closes the store of a node, if there is one, unless it has lost its name.
 fn close_kept(
     rt: &HostRuntime,
-    name: Option<&StoreName>,
+    name: &StoreName,
     store: Option<FiledStore>,
 ) -> Result<(), Status> {
     match store {
-        Some(store) => close_node(rt, name, store),
+        Some(store) => report_closed(rt, name.path(), close_named(store, name)),
         None => Ok(()),
-    }
-}
-
-// Closes the store of a node, unless it has lost its name.
-fn close_node(rt: &HostRuntime, name: Option<&StoreName>, store: FiledStore) -> Result<(), Status> {
-    match name {
-        Some(name) => report_closed(rt, name.path(), close_named(store, name)),
-        None => report_closed(rt, "", close(store)),
     }
 }
 
