@@ -16,16 +16,15 @@
 //! ```
 #![tactic(auto)]
 
-mod arguments;
 mod objects;
 
-use arguments::{report_command_line, words};
 use clap::ArgMatches;
 use objects::{answer_with_object, show_with_objects};
 use scoop_classes::DemoClass;
 use scoop_command_line::{Asked, asked_in, parse};
 use scoop_local_commands::{frame, play};
 use scoop_report::Status;
+use scoop_start::{report_command_line, words};
 use scoop_system_commands::{check, explain, make_key, run_client, run_up, serve_node, show_store};
 use std::net::Net;
 use std::process::ExitCode;

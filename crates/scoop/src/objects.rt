@@ -1,11 +1,11 @@
 //! The objects in boxes, for the commands that run them.
 
-use crate::arguments::report_memory;
 use scoop_classes::{AccountObject, CellObject, CounterObject, DemoClass, ExchangeObject};
 use scoop_command_line::{AnswerOptions, DemoOptions};
 use scoop_local_commands::{answer, demonstrate, report_no_class};
 use scoop_object::Boxed;
 use scoop_report::Status;
+use scoop_start::report_memory;
 use std::net::Net;
 use std::sync::Wait;
 use std::thread::Threads;

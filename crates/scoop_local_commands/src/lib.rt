@@ -14,5 +14,5 @@ mod showing;
 pub use answering::answer;
 pub use framing::frame;
 pub use playing::play;
-pub use reports::{report_arguments, report_no_class, report_run};
+pub use reports::report_no_class;
 pub use showing::demonstrate;

@@ -8,17 +8,6 @@ use scoop_files::{FileError, report_file};
 use scoop_netloop::ServeEnd;
 use scoop_report::{Hints, Status, hint, hint_of_file, report};
 
-/// Reports that the program's arguments aren't text.
-pub fn report_arguments(rt: &HostRuntime) -> Status {
-    report(rt, "the arguments are not text");
-    hint(
-        rt,
-        Hints::Always,
-        "write each argument in UTF-8, including file names",
-    );
-    Status(2)
-}
-
 /// Reports that no class has the name that was given.
 pub fn report_no_class(rt: &HostRuntime) -> Status {
     report(rt, "no such class");
@@ -31,7 +20,7 @@ pub fn report_no_class(rt: &HostRuntime) -> Status {
 }
 
 /// Reports that a run over the lines of an input ended early.
-pub fn report_run(rt: &HostRuntime, hints: Hints, error: RunError) -> Status {
+pub(crate) fn report_run(rt: &HostRuntime, hints: Hints, error: RunError) -> Status {
     report(rt, error);
     hint(rt, hints, error.advice());
     Status(error.status())

@@ -1,10 +1,11 @@
-//! The program's arguments, and the report of a wrong command line.
+//! The words of the command line, and the report of wrong ones.
 
 use clap::Error;
 use clap::error::ErrorKind as CommandLineFault;
-use scoop_demo::RunError;
-use scoop_local_commands::{report_arguments, report_run};
-use scoop_report::{Hints, Status};
+use scoop_errors::PartyError;
+use scoop_message::OutOfMemory;
+use scoop_report::{Hints, Status, hint, report};
+use scoop_texts::RuntimeError;
 use std::env;
 use std::io::ErrorKind;
 
@@ -22,9 +23,27 @@ pub fn words(rt: &HostRuntime) -> Result<Vec<String>, Status> {
     }
 }
 
+// Reports that the program's arguments aren't text.
+fn report_arguments(rt: &HostRuntime) -> Status {
+    report(rt, "the arguments are not text");
+    hint(
+        rt,
+        Hints::Always,
+        "write each argument in UTF-8, including file names",
+    );
+    Status(2)
+}
+
+// Reports why a program ends before it has begun.
+fn report_error(rt: &HostRuntime, error: RuntimeError) -> Status {
+    report(rt, error);
+    hint(rt, Hints::Always, error.advice());
+    Status(error.status())
+}
+
 /// Reports that memory was refused.
 pub fn report_memory(rt: &HostRuntime) -> Status {
-    report_run(rt, Hints::Always, RunError::OutOfMemory)
+    report_error(rt, RuntimeError::from(OutOfMemory))
 }
 
 /// Prints help or the version, or what is wrong with the command line. The status is 0 after help or the version, 2 for
@@ -39,6 +58,6 @@ pub fn report_command_line(rt: &HostRuntime, error: &Error) -> Status {
     } else if printed.is_ok() {
         Status(0)
     } else {
-        report_run(rt, Hints::Always, RunError::Write)
+        report_error(rt, RuntimeError::from(PartyError::Write))
     }
 }

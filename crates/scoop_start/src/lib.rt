@@ -1,0 +1,113 @@
+//! The start of programs of one's own: a node with its own objects, and a client whose commands are calls.
+//!
+//! The call [`start_node`] is a whole node, with the options of `scoop node`. The call [`start_client`] is a whole client,
+//! with those of `scoop client` without its lines.
+//!
+//! The example is a client that buys three things, if there are as many.
+//!
+//! ```
+//! struct Buyer;
+//!
+//! impl ClientProgram for Buyer {
+//!     fn run<C: Calls>(&mut self, client: &mut C) -> Result<(), RuntimeError> {
+//!         client.reserve(&[TILL, SHELF])?;
+//!         if let Answer::Value(left) = client.query(SHELF, LEFT, &[])? {
+//!             if left >= 3 {
+//!                 client.call(SHELF, ORDER, &[3])?;
+//!                 client.call(TILL, PAY, &[30])?;
+//!             }
+//!         }
+//!         client.end()
+//!     }
+//! }
+//!
+//! fn main(rt: HostRuntime) -> ExitCode {
+//!     start_client(&rt, &rt, &mut Buyer)
+//! }
+//! ```
+#![tactic(auto)]
+
+mod words;
+
+pub use words::{report_command_line, report_memory, words};
+
+use clap::ArgMatches;
+use scoop_command_line::{client_options, node_options, parse_client, parse_node};
+use scoop_report::Status;
+use scoop_runtime::{ClientProgram, Objects};
+use scoop_system_commands::{run_own_client, serve_own_node};
+use std::net::Net;
+use std::process::ExitCode;
+use std::sync::Wait;
+use std::thread::Threads;
+use std::time::Clock;
+
+/// Runs the node of the program's words, whose objects these make, and returns the program's status. The second handle, which is
+/// the first one too, starts threads and opens sockets.
+pub fn start_node<T: Threads + Wait + Clock + Net + Sync, O: Objects + Sync>(
+    rt: &HostRuntime,
+    threads: &T,
+    objects: &O,
+) -> ExitCode {
+    code(node(rt, threads, objects))
+}
+
+fn node<T: Threads + Wait + Clock + Net + Sync, O: Objects + Sync>(
+    rt: &HostRuntime,
+    threads: &T,
+    objects: &O,
+) -> Result<(), Status> {
+    let words = words(rt)?;
+    match parse_node(rt.alloc(), words.as_slice()) {
+        Ok(matches) => serve(rt, threads, &matches, objects),
+        Err(error) => Err(report_command_line(rt, &error)),
+    }
+}
+
+// The matches are borrowed, so that no early return has to drop them.
+fn serve<T: Threads + Wait + Clock + Net + Sync, O: Objects + Sync>(
+    rt: &HostRuntime,
+    threads: &T,
+    matches: &ArgMatches<'_>,
+    objects: &O,
+) -> Result<(), Status> {
+    serve_own_node(rt, threads, &node_options(matches), objects)
+}
+
+/// Runs this program as the client of the program's words, and returns the program's status. The second handle, which is the
+/// first one too, opens sockets.
+pub fn start_client<T: Net, G: ClientProgram>(
+    rt: &HostRuntime,
+    net: &T,
+    program: &mut G,
+) -> ExitCode {
+    code(client(rt, net, program))
+}
+
+fn client<T: Net, G: ClientProgram>(
+    rt: &HostRuntime,
+    net: &T,
+    program: &mut G,
+) -> Result<(), Status> {
+    let words = words(rt)?;
+    match parse_client(rt.alloc(), words.as_slice()) {
+        Ok(matches) => run(rt, net, &matches, program),
+        Err(error) => Err(report_command_line(rt, &error)),
+    }
+}
+
+fn run<T: Net, G: ClientProgram>(
+    rt: &HostRuntime,
+    net: &T,
+    matches: &ArgMatches<'_>,
+    program: &mut G,
+) -> Result<(), Status> {
+    run_own_client(rt, net, &client_options(matches), program)
+}
+
+fn code(ended: Result<(), Status>) -> ExitCode {
+    match ended {
+        Ok(()) => ExitCode::from(0),
+        Err(Status(status)) => ExitCode::from(status),
+    }
+}
