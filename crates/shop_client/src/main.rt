@@ -19,6 +19,7 @@ const WANTED: u64 = 3;
 const PRICE: u64 = 10;
 
 // Buys three things in one block over shelf and till, if there are as many.
+#[derive(Clone, Copy)]
 struct Buyer<'r> {
     rt: &'r HostRuntime,
 }
