@@ -38,7 +38,7 @@ fn path_of(rt: &HostRuntime, name: &str) -> Result<PathBuf, Fail> {
     Ok(env::temp_dir(rt)?.join(alloc, name.as_str())?)
 }
 
-fn change(rt: &HostRuntime, path: &str, log: &str, change: Change) -> Result<(), Fail> {
+fn make_change(rt: &HostRuntime, path: &str, log: &str, change: Change) -> Result<(), Fail> {
     match change {
         Change::Nothing => {}
         Change::Grown => fs::write(rt, path, "a longer store")?,
@@ -64,7 +64,7 @@ fn first_put(rt: &HostRuntime, changed: Change) -> Result<(Result<(), KeeperErro
     let name = StoreName::new(alloc, path)?;
     let state = read_image(alloc, ONE, &IMAGE, &[])?;
     let mut keeper = NamedKeeper::new(rt, MemoryKeeper::new(alloc), &name);
-    change(rt, path, log.as_str(), changed)?;
+    make_change(rt, path, log.as_str(), changed)?;
     let put = keeper.put_handler(&state);
     let _gone = fs::remove_file(rt, path);
     let _gone = fs::remove_file(rt, log.as_str());
@@ -148,7 +148,7 @@ fn closed_after(rt: &HostRuntime, changed: Change) -> Result<(bool, Option<u32>)
     let log = format!(in alloc; "{path}-wal")?;
     let name = StoreName::new(alloc, path)?;
     let keeper = NamedKeeper::new(rt, create_after(rt, path, CLIENT, 41)?, &name);
-    change(rt, path, log.as_str(), changed)?;
+    make_change(rt, path, log.as_str(), changed)?;
     let is_lost = match close_named(keeper.into_inner(), &name) {
         Err(FileError::Lost) => true,
         closed => {
