@@ -47,14 +47,13 @@ fn messages() -> Option<[Message; 13]> {
 }
 
 /// The book hears the message.
-fn hears(book: &mut MemoryBook, message: Message, made: &mut Made) -> Option<()> {
+fn hears(book: &mut MemoryBook, message: &Message, made: &mut Made) -> Option<()> {
     // Names types that are held here, of which the prover has to be told.
     let _parts: Option<(Entry, Request)> = None;
-    let event = Event::Hear(message);
-    let Ok(reply) = book.step(3, event) else {
+    let Ok(reply) = book.step(3, Event::Hear(*message)) else {
         return None;
     };
-    made.push((3, event, reply)).ok()
+    made.push((3, Event::Hear(*message), reply)).ok()
 }
 
 /// The next entry leaves, if there is one.
@@ -87,7 +86,7 @@ fn runs(book: &mut MemoryBook, made: &mut Made) -> Option<()> {
 fn makes(alloc: Global, book: &mut MemoryBook) -> Option<Made> {
     let mut made = Vec::new(alloc);
     for message in &messages()? {
-        hears(book, *message, &mut made)?;
+        hears(book, message, &mut made)?;
     }
     for _ in 0..6 {
         runs(book, &mut made)?;
@@ -96,7 +95,7 @@ fn makes(alloc: Global, book: &mut MemoryBook) -> Option<Made> {
         return None;
     }
     let again = Entries::of(&[query()?]).ok()?;
-    hears(book, Message::Log(ONE, block(7), 5, again), &mut made)?;
+    hears(book, &Message::Log(ONE, block(7), 5, again), &mut made)?;
     Some(made)
 }
 
