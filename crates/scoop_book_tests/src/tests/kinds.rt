@@ -12,11 +12,13 @@ use std::test::Fail;
 /// Entries as they were made, each with the reply that the call returned.
 type Made = Vec<(u32, Event, Reply)>;
 
-/// The longest Log: four calls with four arguments each.
-fn calls() -> Option<Entries> {
+/// Types that are held here, of which the prover has to be told.
+type Parts = Option<(Message, Heard, Ran, Entry, Request)>;
+
+/// A call with four arguments.
+fn call() -> Option<Entry> {
     let args = Args::of(&[1, u64::MAX, 1 << 32, 4]).ok()?;
-    let call = Entry::Call(Request { op: SET, args });
-    Entries::of(&[call, call, call, call]).ok()
+    Some(Entry::Call(Request { op: SET, args }))
 }
 
 /// A query.
@@ -25,15 +27,16 @@ fn query() -> Option<Entry> {
     Some(Entry::Query(Request { op: SET, args }))
 }
 
-/// A message of each kind. A handler drops those that go to clients.
+/// A message of each kind, the longest Log too. A handler drops those that go to clients.
 fn messages() -> Option<[Message; 13]> {
     let (client, block) = (ClientId(7), block(7));
+    let calls = Entries::of(&[call()?, call()?, call()?, call()?]).ok()?;
     let last = Entries::of(&[query()?, Entry::End]).ok()?;
     Some([
         Message::Hello(ONE, client, 1),
         Message::Lock(ONE, block),
         Message::Open(ONE, block),
-        Message::Log(ONE, block, 1, calls()?),
+        Message::Log(ONE, block, 1, calls),
         Message::Log(ONE, block, 5, last),
         Message::Unlock(ONE, block),
         Message::Welcome(ONE, client, 1),
@@ -48,8 +51,7 @@ fn messages() -> Option<[Message; 13]> {
 
 /// The book hears the message.
 fn hears(book: &mut MemoryBook, message: &Message, made: &mut Made) -> Option<()> {
-    // Names types that are held here, of which the prover has to be told.
-    let _parts: Option<(Entry, Request)> = None;
+    let _parts: Parts = None;
     let Ok(reply) = book.step(3, Event::Hear(*message)) else {
         return None;
     };
@@ -58,7 +60,7 @@ fn hears(book: &mut MemoryBook, message: &Message, made: &mut Made) -> Option<()
 
 /// The next entry leaves, if there is one.
 fn begins(book: &mut MemoryBook, made: &mut Made) -> Option<Option<Job<Table>>> {
-    let _parts: Option<(Entry, Request)> = None;
+    let _parts: Parts = None;
     let Ok(job) = book.begin(u32::MAX, ONE) else {
         return None;
     };
@@ -73,7 +75,7 @@ fn begins(book: &mut MemoryBook, made: &mut Made) -> Option<Option<Job<Table>>> 
 
 /// The next entry leaves, and has run.
 fn runs(book: &mut MemoryBook, made: &mut Made) -> Option<()> {
-    let _parts: Option<(Entry, Request)> = None;
+    let _parts: Parts = None;
     let job = begins(book, made)??;
     let Ok(ran) = book.finish(0, job.work()) else {
         return None;
@@ -101,8 +103,7 @@ fn makes(alloc: Global, book: &mut MemoryBook) -> Option<Made> {
 
 /// The history has exactly these entries, also as a list.
 fn is_read_back(rt: &impl Abort, alloc: Global, book: &MemoryBook, made: &[(u32, Event, Reply)]) {
-    // Names types that are held here, of which the prover has to be told.
-    let _parts: Option<(Message, Heard, Ran)> = None;
+    let _parts: Parts = None;
     let mut entries = book.history().reader();
     for entry in made {
         assert!(rt; entries.next_entry() == Some(*entry));
