@@ -2,8 +2,8 @@
 
 ghost use Rattle.std.specs.Prelude.{◌≡◌, IfOk, IfSome};
 
-use scoop_message::{HandlerId, OutOfMemory, Words};
-use scoop_object::{Behaviour, Class, Table};
+use scoop_message::{Answer, HandlerId, OutOfMemory, Request, Words};
+use scoop_object::{Behaviour, Class, Object, Table, WrongWords};
 use std::alloc::Global;
 
 /// A maker of the objects of a node's handlers. The maker [`Tables`] interprets the table of each class. A program may
@@ -57,5 +57,43 @@ impl<'o, O: Objects> Objects for &'o O {
         words: Words,
     ) -> Result<Option<O::Object>, OutOfMemory> {
         (**self).object(alloc, handler, class, words)
+    }
+}
+
+/// An object of a program's own type, which a handler runs without a box.
+#[derive(Drop)]
+pub struct Native<O: Object> {
+    object: O,
+}
+
+impl<O: Object> Native<O> {
+    /// This object.
+    pub fn new(object: O) -> Native<O>
+        ensures class { ⟦<Native<O> as Behaviour>⟧.class result ≡ O.class object }
+        ensures words { ⟦<Native<O> as Behaviour>⟧.words result ≡ O.words object }
+    {
+        Native { object }
+    }
+}
+
+impl<O: Object> Behaviour for Native<O> {
+    ghost class = { λ n. O.class n.object };
+
+    ghost words = { λ n. O.words n.object };
+
+    fn words(&self) -> Words {
+        self.object.words()
+    }
+
+    fn apply(&mut self, request: &Request) -> Answer {
+        self.object.apply(request)
+    }
+
+    fn restore(&mut self, new: Words) -> Result<(), WrongWords> {
+        self.object.restore(new)
+    }
+
+    fn has_class(&self, other: &Class) -> bool {
+        self.object.has_class(other)
     }
 }

@@ -14,6 +14,7 @@ mod node_and_client;
 mod own_objects;
 mod pausing;
 mod printing;
+mod programs;
 mod replay;
 mod storm;
 mod systems;

@@ -5,8 +5,8 @@
 
 use own_object::StockObject;
 use scoop_message::{HandlerId, OutOfMemory, Words};
-use scoop_object::{Boxed, Class};
-use scoop_runtime::Objects;
+use scoop_object::Class;
+use scoop_runtime::{Native, Objects};
 use scoop_start::start_node;
 use std::alloc::Global;
 use std::process::ExitCode;
@@ -16,20 +16,17 @@ use std::process::ExitCode;
 struct Shelves;
 
 impl Objects for Shelves {
-    type Object = Boxed;
+    type Object = Native<StockObject>;
 
     fn object(
         &self,
-        alloc: Global,
+        _alloc: Global,
         _handler: HandlerId,
         _class: &Class,
         words: Words,
-    ) -> Result<Option<Boxed>, OutOfMemory> {
+    ) -> Result<Option<Native<StockObject>>, OutOfMemory> {
         match words.as_slice() {
-            [left, ordered] => match Box::new(alloc, StockObject::new(*left, *ordered)) {
-                Ok(shelf) => Ok(Some(Boxed::new(shelf))),
-                Err(_) => Err(OutOfMemory),
-            },
+            [left, ordered] => Ok(Some(Native::new(StockObject::new(*left, *ordered)))),
             _ => Ok(None),
         }
     }

@@ -19,7 +19,7 @@ use std::thread;
 use std::thread::Threads;
 use std::time::Clock;
 
-const ACCOUNTS: &str = "\
+pub(super) const ACCOUNTS: &str = "\
 [[node]]
 number = 1
 address = \"127.0.0.1:NODE\"
