@@ -1,5 +1,5 @@
 -- Each line of a client takes steps of its driver, whatever its outcome.
-use Rattle.std.proofs.Common.{◌≡◌, ℕ, Bool, false, List, [], ◌++◌, Option, Some, None, Result, Ok, Err, inl, inr, sym, subst}
+use Rattle.std.proofs.Common.{◌≡◌, ℕ, Bool, false, List, [], ◌++◌, Option, Some, None, Result, Ok, Err, inl, inr, refl, sym, subst}
 use Rattle.std.specs.Prelude.{OnOk}
 use Rattle.scoop_message.specs.declared.name.HandlerId.{HandlerId}
 use Rattle.scoop_message.specs.declared.request.Answer.{Answer}
@@ -11,6 +11,8 @@ use Rattle.scoop_client.specs.State.{phase_of}
 use Rattle.scoop_driver.specs.declared.error.DriverError.{DriverError}
 use Rattle.scoop_driver.specs.State.{Seen}
 use Rattle.scoop_driver.specs.Calls.{Called, Queried}
+use Rattle.scoop_driver.specs.Waiting.{WaitsWith}
+use Rattle.scoop_driver.specs.Wishes.{Wish as Waited}
 use Rattle.scoop_driver.proofs.StepLists.{goes_nothing, goes_on}
 use Rattle.scoop_system.specs.declared.line.ClientLine.{ClientLine}
 use Rattle.scoop_system.specs.declared.line.ClientLine.TheVariants as line
@@ -61,6 +63,12 @@ gives_up_then (Err e) s t u gives idle turned = drives_turning DoGiveUp 0 (Ok (t
 pub drives_gave_up : (r : Result (Unit {0}) DriverError) (s t : Seen) → GivesUp r s t → Drives s t
 drives_gave_up (Ok done) s t gave = drives_given s t gave
 drives_gave_up (Err e) s t drives = drives
+
+-- a wait for a condition, unless a handler of it is outside its block
+pub drives_waited : (outside : Option HandlerId) (w : Waited) (turns tries : ℕ) (r : Result ℕ DriverError) (answers : List Answer) (s t : Seen)
+    → ((h : HandlerId) → outside ≡ Some h → t ≡ s) → (outside ≡ None → WaitsWith w turns tries r answers s t) → Drives s t
+drives_waited None w turns tries r answers s t stays waits = let waited = waits refl in (waited.0, waited.1.goes)
+drives_waited (Some h) w turns tries r answers s t stays waits = drives_same s t (stays h refl)
 
 -- ---- outside a block that waits for its condition
 

@@ -130,7 +130,7 @@ impl<'j, L: Link, J: Write + Drop> Session<'j, L, J> {
 
     /// Takes the session apart, and returns its link and its journal. Its client ends.
     pub fn into_parts(self) -> (L, &'j mut Option<Journal<J>>)
-        ensures { result.0 ≡ self.driver.link }
+        ensures { result.0 ≡ self.entry.driver.link }
     {
         let Session { driver, .. } = self;
         let (link, diary) = driver.into_parts();
@@ -357,6 +357,7 @@ impl<'j, L: Link, J: Write + Drop> Session<'j, L, J> {
     fn unlock(&mut self, handlers: &[HandlerId]) -> Result<(), DriverError>
         ensures unlocked { OnOk result (IsFalse (owes_unlock self.new.driver.seen.client handlers.now)) }
         ensures turned { TakesTurnsOnly self.old.driver.seen self.new.driver.seen }
+        ensures turns { self.new.driver.turns ≡ self.old.driver.turns }
     {
         for taken in 0..self.turns {
             if !self.owes_unlock(handlers) {

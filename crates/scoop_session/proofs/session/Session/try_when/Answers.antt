@@ -1,0 +1,7 @@
+use Rattle.std.proofs.Common.{ap}
+use Rattle.scoop_session.proofs.Driven.{drives_waited}
+use Rattle.scoop_session.proofs.session.Session.try_when.Goals as goal
+
+pub returns-clause-drives : goal.returns-clause-drives
+returns-clause-drives g c =
+    drives_waited _ _ _ _ _ _ _ _ (λ h is. ap (λ d. d.seen) (rw is at c.when_all.ensures.outside).1) c.when_all.ensures.waits
