@@ -1,4 +1,4 @@
-use Rattle.std.proofs.Common.{◌≡◌, ◌∙◌}
+use Rattle.std.proofs.Common.{◌∙◌}
 use Rattle.scoop_session.proofs.Turned.{turned_more}
 use Rattle.scoop_session.proofs.session.Session.unlock.Goals as goal
 
