@@ -63,7 +63,7 @@ fn runs<'a>(rt: &impl Abort, heap: Heap<'a>, book: &mut HeapBook<'a>, number: u6
         assert_eq!(rt; ran, Err(BookError::OutOfMemory));
     } else {
         assert_eq!(rt; ran, Ok(()));
-        assert_eq!(rt; book.history().len(), before + 3);
+        assert_eq!(rt; Some(book.history().len()), before.checked_add(3));
     }
     assert!(rt; before <= book.history().len());
     refused
