@@ -243,9 +243,9 @@ where
         answers: &mut [Answer],
         tries: u32,
     ) -> Result<u32, RuntimeError> {
-        let outcome =
-            self.session
-                .try_when(handlers, condition, body, answers, tries, &mut self.pause);
+        let outcome = self
+            .session
+            .try_when(handlers, condition, body, answers, tries, &mut self.pause);
         self.told(outcome)
     }
 }

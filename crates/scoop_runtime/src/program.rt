@@ -69,7 +69,16 @@ where
         Ok(link) => link,
         Err(error) => return ProgramEnd::unbegun(RuntimeError::from(error)),
     };
-    match Caller::begin(alloc, plan, &known, keeper, link, &mut journal, pause, notes) {
+    match Caller::begin(
+        alloc,
+        plan,
+        &known,
+        keeper,
+        link,
+        &mut journal,
+        pause,
+        notes,
+    ) {
         Ok(caller) => run_calls(program, caller),
         Err(error) => ProgramEnd::unbegun(error),
     }

@@ -29,8 +29,6 @@
 
 mod words;
 
-pub use words::{report_command_line, report_memory, words};
-
 use clap::ArgMatches;
 use scoop_command_line::{client_options, node_options, parse_client, parse_node};
 use scoop_report::Status;
@@ -41,6 +39,7 @@ use std::process::ExitCode;
 use std::sync::Wait;
 use std::thread::Threads;
 use std::time::Clock;
+pub use words::{report_command_line, report_memory, words};
 
 /// Runs the node of the program's words, whose objects these make, and returns the program's status. The second handle, which is
 /// the first one too, starts threads and opens sockets.

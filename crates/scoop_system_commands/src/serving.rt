@@ -224,7 +224,11 @@ fn serve_at<T: Threads + Wait + Clock + Net + Sync, O: Objects + Sync>(
 }
 
 // Serves the node over the store of this choice, if there is one.
-fn serve_over<L: Link + RefusesForged + Send, T: Threads + Wait + Clock + Net + Sync, O: Objects + Sync>(
+fn serve_over<
+    L: Link + RefusesForged + Send,
+    T: Threads + Wait + Clock + Net + Sync,
+    O: Objects + Sync,
+>(
     rt: &HostRuntime,
     threads: &T,
     choice: StoreChoice<'_>,
@@ -244,7 +248,11 @@ fn serve_over<L: Link + RefusesForged + Send, T: Threads + Wait + Clock + Net + 
 
 // Serves the node over this store, and closes it. A function that names the files' type does one thing alone: the prover
 // takes too many steps at more.
-fn serve_stored<L: Link + RefusesForged + Send, T: Threads + Wait + Clock + Net + Sync, O: Objects + Sync>(
+fn serve_stored<
+    L: Link + RefusesForged + Send,
+    T: Threads + Wait + Clock + Net + Sync,
+    O: Objects + Sync,
+>(
     rt: &HostRuntime,
     threads: &T,
     choice: StoreChoice<'_>,
@@ -294,7 +302,11 @@ where
 }
 
 // Serves the node over a record that is in memory alone.
-fn serve_unstored<L: Link + RefusesForged + Send, T: Threads + Wait + Clock + Net + Sync, O: Objects + Sync>(
+fn serve_unstored<
+    L: Link + RefusesForged + Send,
+    T: Threads + Wait + Clock + Net + Sync,
+    O: Objects + Sync,
+>(
     rt: &HostRuntime,
     threads: &T,
     served: &Served<'_, O>,

@@ -123,15 +123,7 @@ fn run_unstored_in<T: Threads + Wait + Clock + Net + Sync>(
 ) -> Result<(), Status> {
     for place in plan.system().nodes() {
         let record = MemoryKeeper::new(rt.alloc());
-        add_host(
-            rt,
-            threads,
-            plan.system(),
-            place,
-            serving,
-            record,
-            hosts,
-        )?;
+        add_host(rt, threads, plan.system(), place, serving, record, hosts)?;
     }
     run_together(rt, threads, hosts, plan, keeper)?;
     for host in hosts.iter() {
@@ -423,11 +415,7 @@ fn store_under<S: Alter + Drop>(keeper: Option<NamedKeeper<'_, Store<S>>>) -> Op
 }
 
 // Closes the store of a node, if there is one, unless it has lost its name.
-fn close_kept(
-    rt: &HostRuntime,
-    name: &StoreName,
-    store: Option<FiledStore>,
-) -> Result<(), Status> {
+fn close_kept(rt: &HostRuntime, name: &StoreName, store: Option<FiledStore>) -> Result<(), Status> {
     match store {
         Some(store) => report_closed(rt, name.path(), close_named(store, name)),
         None => Ok(()),

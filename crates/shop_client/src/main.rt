@@ -9,13 +9,17 @@ use scoop_start::start_client;
 use std::process::ExitCode;
 
 const SHELF: HandlerId = HandlerId(1);
+
 const TILL: HandlerId = HandlerId(2);
 
 const ORDER: u16 = 1;
+
 const LEFT: u16 = 2;
+
 const DEPOSIT: u16 = 1;
 
 const WANTED: u64 = 3;
+
 const PRICE: u64 = 10;
 
 // Buys three things in one block over shelf and till, if there are as many.
