@@ -11,7 +11,8 @@ use scoop_keeper::MemoryKeeper;
 use scoop_link::UdpLink;
 use scoop_message::{Answer, Block, ClientId, HandlerId};
 use scoop_runtime::{
-    Calls, ClientPlan, ClientProgram, Ending, ProgramEnd, RuntimeError, Unended, program_run,
+    Caller, Calls, ClientPlan, ClientProgram, Ending, ProgramEnd, RuntimeError, Unended,
+    program_run,
 };
 use scoop_system::System;
 use std::alloc::Global;
@@ -44,6 +45,8 @@ enum Then {
     Ends,
     // It returns inside its block.
     Returns,
+    // The same, and the client is let go.
+    IsLetGo,
     // It reserves again inside its block, which is refused.
     Fails,
 }
@@ -62,7 +65,7 @@ impl ClientProgram for Payer {
         client.call(TWO, DEPOSIT, &[5])?;
         match self.then {
             Then::Ends => client.end(),
-            Then::Returns => Ok(()),
+            Then::Returns | Then::IsLetGo => Ok(()),
             Then::Fails => match client.reserve(&[ONE]) {
                 Ok(_) => Ok(()),
                 Err(error) => Err(error),
@@ -71,10 +74,10 @@ impl ClientProgram for Payer {
     }
 }
 
-// The end of a program, and its notes.
+// The end of a program, if it was told, and its notes.
 #[derive(Drop)]
 struct Told {
-    end: ProgramEnd,
+    end: Option<ProgramEnd>,
     notes: Vec<u8>,
 }
 
@@ -99,7 +102,36 @@ fn run_payer(alloc: Global, system: &System, link: UdpLink, payer: &mut Payer) -
         NoPause,
         &mut notes,
     );
-    Some(Told { end, notes })
+    Some(Told {
+        end: Some(end),
+        notes,
+    })
+}
+
+// Makes the calls of a client, and lets it go inside its block.
+fn let_go(alloc: Global, system: &System, link: UdpLink, payer: &mut Payer) -> Option<Told> {
+    let place = *system.client(ClientId(7))?;
+    let Ok(plan) = ClientPlan::new(system, place, TURNS, false) else {
+        return None;
+    };
+    let mut keeper = MemoryKeeper::new(alloc);
+    let mut journal = None::<Journal<Vec<u8>>>;
+    let mut notes = Vec::new(alloc);
+    let known = [ONE, TWO];
+    let begun = Caller::begin(
+        alloc,
+        &plan,
+        &known,
+        &mut keeper,
+        link,
+        &mut journal,
+        NoPause,
+        &mut notes,
+    );
+    let mut caller = begun.ok()?;
+    let _ended = payer.run(&mut caller);
+    drop(caller);
+    Some(Told { end: None, notes })
 }
 
 // Runs the program beside the node.
@@ -119,7 +151,10 @@ fn run_beside<R: Threads + Wait + Clock + Sync>(
             let _served = serve(rt, alloc, system, 1, 10_000, u64::MAX, keeper, node, ended);
         });
         let told = if spawned.is_ok() {
-            run_payer(alloc, system, link, payer)
+            match payer.then {
+                Then::IsLetGo => let_go(alloc, system, link, payer),
+                _ => run_payer(alloc, system, link, payer),
+            }
         } else {
             None
         };
@@ -128,13 +163,12 @@ fn run_beside<R: Threads + Wait + Clock + Sync>(
     })
 }
 
-// Runs a program that does this, and checks how it ends, what becomes of its block, and its notes.
+// Runs a program that does this, and checks its end and its notes.
 fn runs<R: Threads + Wait + Clock + Net + Sync + Abort>(
     rt: &R,
     alloc: Global,
     then: Then,
-    ended: Result<(), RuntimeError>,
-    unended: Unended,
+    end: Option<ProgramEnd>,
     notes: &str,
 ) -> Result<(), Fail> {
     let words = ["NODE", "SEVEN", "EIGHT"];
@@ -147,28 +181,36 @@ fn runs<R: Threads + Wait + Clock + Net + Sync + Abort>(
         balance: None,
     };
     let told = run_beside(rt, alloc, &system, node, link, &mut payer).ok_or("it didn't run")?;
-    assert_eq!(rt; told.end.ended, ended);
-    assert_eq!(rt; told.end.unended, unended);
+    assert_eq!(rt; told.end, end);
     assert!(rt; told.notes.as_slice() == notes.as_bytes());
     assert_eq!(rt; payer.balance, Some(Answer::Value(100)));
     Ok(())
 }
 
+fn end_of(ended: Result<(), RuntimeError>, unended: Unended) -> Option<ProgramEnd> {
+    Some(ProgramEnd { ended, unended })
+}
+
 #[test]
 fn a_program_makes_its_calls_and_ends_its_block(rt: HostRuntime) -> Result<(), Fail> {
-    runs(&rt, rt.alloc(), Then::Ends, Ok(()), Unended::Nothing, "")
+    let end = end_of(Ok(()), Unended::Nothing);
+    runs(&rt, rt.alloc(), Then::Ends, end, "")
 }
 
 #[test]
 fn a_program_that_returns_inside_a_block_cuts_it(rt: HostRuntime) -> Result<(), Fail> {
-    let cut = Unended::Cut(BLOCK);
-    runs(&rt, rt.alloc(), Then::Returns, Ok(()), cut, "cut 7.1.1\n")
+    let end = end_of(Ok(()), Unended::Cut(BLOCK));
+    runs(&rt, rt.alloc(), Then::Returns, end, "cut 7.1.1\n")
+}
+
+#[test]
+fn a_client_that_is_let_go_inside_a_block_cuts_it(rt: HostRuntime) -> Result<(), Fail> {
+    runs(&rt, rt.alloc(), Then::IsLetGo, None, "cut 7.1.1\n")
 }
 
 #[test]
 fn a_refused_call_is_the_programs_error(rt: HostRuntime) -> Result<(), Fail> {
     let refused = PartyError::Driver(DriverError::Client(ClientError::NotIdle));
-    let ended = Err(RuntimeError::Ended(refused));
-    let cut = Unended::Cut(BLOCK);
-    runs(&rt, rt.alloc(), Then::Fails, ended, cut, "cut 7.1.1\n")
+    let end = end_of(Err(RuntimeError::Ended(refused)), Unended::Cut(BLOCK));
+    runs(&rt, rt.alloc(), Then::Fails, end, "cut 7.1.1\n")
 }
