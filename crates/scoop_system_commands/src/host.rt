@@ -49,6 +49,8 @@ type HostLink = AdmittingLink<UdpLink, NoReport>;
 #[derive(Drop)]
 pub(crate) struct Host<K: Keeper<Global>> {
     plan: NodePlan,
+    // Its place among the nodes of the file.
+    index: usize,
     address: SocketAddr,
     serving: Serving,
     link: Option<HostLink>,
@@ -57,12 +59,13 @@ pub(crate) struct Host<K: Keeper<Global>> {
 }
 
 impl<K: Keeper<Global> + Send> Host<K> {
-    /// The node at this place over its port and this keeper.
+    /// The node at this place over its port and this keeper. It has this index among the nodes of the file.
     pub(crate) fn open<T: Net>(
         rt: &HostRuntime,
         net: &T,
         system: &System,
         place: &NodePlace,
+        index: usize,
         serving: Serving,
         keeper: K,
     ) -> Result<Host<K>, RuntimeError> {
@@ -71,6 +74,7 @@ impl<K: Keeper<Global> + Send> Host<K> {
         let clients = clients_of(rt.alloc(), system)?;
         Ok(Host {
             plan,
+            index,
             address: place.address,
             serving,
             link: Some(AdmittingLink::new(link, clients, NoReport)),
@@ -136,6 +140,11 @@ impl<K: Keeper<Global> + Send> Host<K> {
             Some(error) => Err(report_node(rt, system, self.address, name, error)),
             None => Ok(()),
         }
+    }
+
+    /// Its place among the nodes of the file.
+    pub(crate) fn index(&self) -> usize {
+        self.index
     }
 
     /// The keeper, unless the node ended early.

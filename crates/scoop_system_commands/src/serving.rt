@@ -17,9 +17,7 @@ use scoop_link::Link;
 use scoop_message::OutOfMemory;
 use scoop_record::Store;
 use scoop_report::{Hints, Status, hint, report};
-use scoop_runtime::{
-    FileFault, NodePlan, Objects, OutOfRange, RuntimeError, Serving, Tables, open_node_link,
-};
+use scoop_runtime::{FileFault, NodePlan, OutOfRange, RuntimeError, Serving, open_node_link};
 use scoop_seal::{Key, SealedLink};
 use scoop_status::About;
 use scoop_status_server::Server;
@@ -38,23 +36,13 @@ pub fn serve_node<T: Threads + Wait + Clock + Net + Sync>(
     threads: &T,
     options: &NodeOptions<'_>,
 ) -> Result<(), Status> {
-    serve_own_node(rt, threads, options, &Tables)
-}
-
-/// The same for a node whose objects these make.
-pub fn serve_own_node<T: Threads + Wait + Clock + Net + Sync, O: Objects + Sync>(
-    rt: &HostRuntime,
-    threads: &T,
-    options: &NodeOptions<'_>,
-    objects: &O,
-) -> Result<(), Status> {
     require_store(rt, options)?;
     let serving = match serving_of(options) {
         Ok(serving) => serving,
         Err(range) => return Err(report_range(rt, range)),
     };
     let system = read_system(rt, options.system)?;
-    serve_in(rt, threads, options, &serving, &system, objects)
+    serve_in(rt, threads, options, &serving, &system)
 }
 
 // A node has either a store or the option `--volatile`.
@@ -85,13 +73,12 @@ fn serving_of(options: &NodeOptions<'_>) -> Result<Serving, OutOfRange> {
 }
 
 // Serves the node of this system, which is borrowed, so that no early return has to drop it.
-fn serve_in<T: Threads + Wait + Clock + Net + Sync, O: Objects + Sync>(
+fn serve_in<T: Threads + Wait + Clock + Net + Sync>(
     rt: &HostRuntime,
     threads: &T,
     options: &NodeOptions<'_>,
     serving: &Serving,
     system: &System,
-    objects: &O,
 ) -> Result<(), Status> {
     let number = options.number;
     let Some(place) = system.node(number) else {
@@ -122,7 +109,7 @@ fn serve_in<T: Threads + Wait + Clock + Net + Sync, O: Objects + Sync>(
         log: level_of(options),
         status: status_of(rt, options, place)?,
     };
-    match serve_journaled(rt, threads, options, serving, &shown, key, objects) {
+    match serve_journaled(rt, threads, options, serving, &shown, key) {
         Ok(()) => Ok(()),
         Err(end) => Err(report_end(rt, &party, end)),
     }
@@ -180,19 +167,18 @@ fn status_of(
 }
 
 // Serves the node with its journal, if it writes one.
-fn serve_journaled<'a, T: Threads + Wait + Clock + Net + Sync, O: Objects + Sync>(
+fn serve_journaled<'a, T: Threads + Wait + Clock + Net + Sync>(
     rt: &HostRuntime,
     threads: &T,
     options: &NodeOptions<'_>,
     serving: &'a Serving,
     shown: &'a Shown<'a>,
     key: Option<Key>,
-    objects: &O,
 ) -> Result<(), End> {
     let (system, place) = (shown.about.system, &shown.about.place);
     let journal = open_journal(rt, options.journal, Owner::Node(place.number))?;
     let journal = journal.as_ref();
-    let plan = NodePlan::of(rt.alloc(), system, place)?.with(objects);
+    let plan = NodePlan::of(rt.alloc(), system, place)?;
     let served = Served {
         plan: &plan,
         serving,
@@ -204,11 +190,11 @@ fn serve_journaled<'a, T: Threads + Wait + Clock + Net + Sync, O: Objects + Sync
 }
 
 // Serves the node at its place. Its ports come first, and then its store.
-fn serve_at<T: Threads + Wait + Clock + Net + Sync, O: Objects + Sync>(
+fn serve_at<T: Threads + Wait + Clock + Net + Sync>(
     rt: &HostRuntime,
     threads: &T,
     store: StoreChoice<'_>,
-    served: &Served<'_, O>,
+    served: &Served<'_>,
     key: Option<Key>,
 ) -> Result<(), End> {
     let shown = served.shown;
@@ -224,15 +210,11 @@ fn serve_at<T: Threads + Wait + Clock + Net + Sync, O: Objects + Sync>(
 }
 
 // Serves the node over the store of this choice, if there is one.
-fn serve_over<
-    L: Link + RefusesForged + Send,
-    T: Threads + Wait + Clock + Net + Sync,
-    O: Objects + Sync,
->(
+fn serve_over<L: Link + RefusesForged + Send, T: Threads + Wait + Clock + Net + Sync>(
     rt: &HostRuntime,
     threads: &T,
     choice: StoreChoice<'_>,
-    served: &Served<'_, O>,
+    served: &Served<'_>,
     server: &mut Option<Server>,
     link: L,
 ) -> Result<(), End> {
@@ -248,15 +230,11 @@ fn serve_over<
 
 // Serves the node over this store, and closes it. A function that names the files' type does one thing alone: the prover
 // takes too many steps at more.
-fn serve_stored<
-    L: Link + RefusesForged + Send,
-    T: Threads + Wait + Clock + Net + Sync,
-    O: Objects + Sync,
->(
+fn serve_stored<L: Link + RefusesForged + Send, T: Threads + Wait + Clock + Net + Sync>(
     rt: &HostRuntime,
     threads: &T,
     choice: StoreChoice<'_>,
-    served: &Served<'_, O>,
+    served: &Served<'_>,
     server: &mut Option<Server>,
     store: FiledStore,
     name: &StoreName,
@@ -276,11 +254,11 @@ fn closed(ended: Result<FiledStore, RuntimeError>, name: &StoreName) -> Result<(
 
 // Serves the node over a store in any place, which knows its owner from then on, and returns the store. It ends if the store
 // loses this name.
-fn serve_kept<S, L, T, O>(
+fn serve_kept<S, L, T>(
     rt: &HostRuntime,
     threads: &T,
     choice: StoreChoice<'_>,
-    served: &Served<'_, O>,
+    served: &Served<'_>,
     server: &mut Option<Server>,
     store: Store<S>,
     name: &StoreName,
@@ -290,7 +268,6 @@ where
     S: Alter + Drop + Send,
     L: Link + RefusesForged + Send,
     T: Threads + Wait + Clock + Net + Sync,
-    O: Objects + Sync,
 {
     let about = &served.shown.about;
     note_owner(rt, choice, about.system, Owner::Node(about.place.number));
@@ -302,14 +279,10 @@ where
 }
 
 // Serves the node over a record that is in memory alone.
-fn serve_unstored<
-    L: Link + RefusesForged + Send,
-    T: Threads + Wait + Clock + Net + Sync,
-    O: Objects + Sync,
->(
+fn serve_unstored<L: Link + RefusesForged + Send, T: Threads + Wait + Clock + Net + Sync>(
     rt: &HostRuntime,
     threads: &T,
-    served: &Served<'_, O>,
+    served: &Served<'_>,
     server: &mut Option<Server>,
     link: L,
 ) -> Result<(), End> {
@@ -323,10 +296,10 @@ fn serve_unstored<
 }
 
 // Serves the node over this keeper, and returns the keeper. The node writes its journal, if it has one.
-fn serve_with<K, L, T, O>(
+fn serve_with<K, L, T>(
     rt: &HostRuntime,
     threads: &T,
-    served: &Served<'_, O>,
+    served: &Served<'_>,
     server: &mut Option<Server>,
     keeper: K,
     link: L,
@@ -335,7 +308,6 @@ where
     K: Keeper<Global> + Send,
     L: Link + RefusesForged + Send,
     T: Threads + Wait + Clock + Net + Sync,
-    O: Objects + Sync,
 {
     let Some(journal) = served.journal else {
         return run_watched(rt, threads, served, server, keeper, link);

@@ -142,7 +142,8 @@ fn add_host<K: Keeper<Global> + Send, T: Net>(
     keeper: K,
     hosts: &mut Vec<Host<K>>,
 ) -> Result<(), Status> {
-    match Host::open(rt, net, system, place, serving, keeper) {
+    let index = hosts.len();
+    match Host::open(rt, net, system, place, index, serving, keeper) {
         Ok(host) => keep(rt, host, hosts),
         Err(error) => Err(report_node(rt, system, place.address, None, error)),
     }
@@ -362,8 +363,8 @@ fn report_client(rt: &HostRuntime, plan: &ClientPlan<'_>, end: End) -> Status {
     report_end(rt, &party, end)
 }
 
-// Closes the stores of the nodes, which have these names in the same order. Returns the status of the first node that ended
-// early.
+// Closes the stores of the nodes, which have these names in the order of the file. Returns the status of the first node that
+// ended early.
 fn close_hosts(
     rt: &HostRuntime,
     system: &System,
@@ -371,8 +372,8 @@ fn close_hosts(
     hosts: Vec<Host<NamedKeeper<'_, FiledStore>>>,
 ) -> Result<(), Status> {
     let mut ended = Ok(());
-    for (host, name) in hosts.into_iter().zip(names.iter()) {
-        let closed = close_host(rt, system, name, host);
+    for host in hosts {
+        let closed = close_host(rt, system, names, host);
         if ended.is_ok() {
             ended = closed;
         }
@@ -380,13 +381,14 @@ fn close_hosts(
     ended
 }
 
-// Reports why a node ended early, or closes its store of this name.
+// Reports why a node ended early, or closes its store.
 fn close_host(
     rt: &HostRuntime,
     system: &System,
-    name: &StoreName,
+    names: &[StoreName],
     host: Host<NamedKeeper<'_, FiledStore>>,
 ) -> Result<(), Status> {
+    let name = names.get(host.index());
     match store_of(rt, system, name, host) {
         Ok(store) => close_kept(rt, name, store),
         Err(status) => Err(status),
@@ -397,10 +399,10 @@ fn close_host(
 fn store_of<'a, S: Alter + Drop + Send>(
     rt: &HostRuntime,
     system: &'a System,
-    name: &'a StoreName,
+    name: Option<&'a StoreName>,
     host: Host<NamedKeeper<'_, Store<S>>>,
 ) -> Result<Option<Store<S>>, Status> {
-    match host.report(rt, system, Some(name)) {
+    match host.report(rt, system, name) {
         Ok(()) => Ok(store_under(host.into_keeper())),
         Err(status) => Err(status),
     }
@@ -414,11 +416,23 @@ fn store_under<S: Alter + Drop>(keeper: Option<NamedKeeper<'_, Store<S>>>) -> Op
     }
 }
 
-// Closes the store of a node, if there is one, unless it has lost its name.
-fn close_kept(rt: &HostRuntime, name: &StoreName, store: Option<FiledStore>) -> Result<(), Status> {
+// Closes the store of a node, if there is one.
+fn close_kept(
+    rt: &HostRuntime,
+    name: Option<&StoreName>,
+    store: Option<FiledStore>,
+) -> Result<(), Status> {
     match store {
-        Some(store) => report_closed(rt, name.path(), close_named(store, name)),
+        Some(store) => close_node(rt, name, store),
         None => Ok(()),
+    }
+}
+
+// Closes the store of a node, unless it has lost its name.
+fn close_node(rt: &HostRuntime, name: Option<&StoreName>, store: FiledStore) -> Result<(), Status> {
+    match name {
+        Some(name) => report_closed(rt, name.path(), close_named(store, name)),
+        None => report_closed(rt, "", close(store)),
     }
 }
 

@@ -11,7 +11,7 @@ use scoop_link::Link;
 use scoop_message::{ClientId, OutOfMemory};
 use scoop_pacing::{SlowNotes, SystemTimes};
 use scoop_report::report;
-use scoop_runtime::{NodePlan, Objects, RuntimeError, Serving, node_run};
+use scoop_runtime::{NodePlan, RuntimeError, Serving, node_run};
 use scoop_status::{About, Log};
 use scoop_status_server::{Server, show};
 use scoop_system::System;
@@ -38,9 +38,9 @@ pub(crate) struct Shown<'a> {
 }
 
 /// A node that is served, with its journal if it writes one, and how it is shown.
-#[derive(Drop)]
-pub(crate) struct Served<'a, O: Objects> {
-    pub(crate) plan: &'a NodePlan<O>,
+#[derive(Clone, Copy)]
+pub(crate) struct Served<'a> {
+    pub(crate) plan: &'a NodePlan,
     pub(crate) serving: &'a Serving,
     pub(crate) journal: Option<&'a JournalFile>,
     pub(crate) shown: &'a Shown<'a>,
@@ -111,8 +111,8 @@ fn clients_shown(alloc: Global, shown: &Shown<'_>) -> Result<Vec<ClientId>, OutO
 
 // A node under its watch, before it runs.
 #[derive(Drop)]
-struct WatchedNode<'s, 'w, K: Keeper<Global>, L: Link, T, O: Objects> {
-    plan: &'s NodePlan<O>,
+struct WatchedNode<'s, 'w, K: Keeper<Global>, L: Link, T> {
+    plan: &'s NodePlan,
     serving: &'s Serving,
     watch: &'w Watch,
     clients: Vec<ClientId>,
@@ -120,12 +120,11 @@ struct WatchedNode<'s, 'w, K: Keeper<Global>, L: Link, T, O: Objects> {
     link: WatchedLink<'w, L>,
 }
 
-impl<'s, 'w, K, L, T, O> WatchedNode<'s, 'w, K, L, T, O>
+impl<'s, 'w, K, L, T> WatchedNode<'s, 'w, K, L, T>
 where
     K: Keeper<Global> + Send,
     L: Link + RefusesForged,
     T: Threads + Wait + Clock + Sync,
-    O: Objects + Sync,
 {
     // Runs the node, lets its watch end, and returns the keeper.
     fn run(
@@ -179,10 +178,10 @@ where
 }
 
 // Runs a node that hears these clients alone.
-fn run_admitting<K, L, S, E, W, T, O>(
+fn run_admitting<K, L, S, E, W, T>(
     threads: &T,
     alloc: Global,
-    plan: &NodePlan<O>,
+    plan: &NodePlan,
     serving: &Serving,
     keeper: K,
     link: L,
@@ -198,7 +197,6 @@ where
     E: Write + Drop,
     W: Write,
     T: Threads + Wait + Clock + Sync,
-    O: Objects + Sync,
 {
     let link = AdmittingLink::new(link, clients, strangers);
     node_run(threads, alloc, plan, serving, keeper, link, notes, output)
@@ -206,10 +204,10 @@ where
 
 /// Runs the node over this keeper and link, with its watch over both, and returns the keeper. It hears only the clients of its
 /// file. The server of its status, if it has one, and its log run beside it.
-pub(crate) fn run_watched<K, L, T, O>(
+pub(crate) fn run_watched<K, L, T>(
     rt: &HostRuntime,
     threads: &T,
-    served: &Served<'_, O>,
+    served: &Served<'_>,
     server: &mut Option<Server>,
     keeper: K,
     link: L,
@@ -218,7 +216,6 @@ where
     K: Keeper<Global> + Send,
     L: Link + RefusesForged + Send,
     T: Threads + Wait + Clock + Sync,
-    O: Objects + Sync,
 {
     let clients = clients_shown(rt.alloc(), served.shown)?;
     let watch = watch_of(rt.alloc(), served.shown);
@@ -234,19 +231,18 @@ where
 }
 
 // Starts a thread for the node, shows the node in this one until it has ended, and returns its keeper.
-fn show_beside<K, L, T, O>(
+fn show_beside<K, L, T>(
     rt: &HostRuntime,
     threads: &T,
     watch: &Watch,
     shown: &Shown<'_>,
     server: Option<Server>,
-    node: WatchedNode<'_, '_, K, L, T, O>,
+    node: WatchedNode<'_, '_, K, L, T>,
 ) -> Result<K, RuntimeError>
 where
     K: Keeper<Global> + Send,
     L: Link + RefusesForged + Send,
     T: Threads + Wait + Clock + Sync,
-    O: Objects + Sync,
 {
     let (alloc, output, notes) = (rt.alloc(), rt.stdout(), rt.stderr());
     let about = &shown.about;
