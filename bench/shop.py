@@ -1,9 +1,9 @@
 #!/usr/bin/env python3
-"""Runs the shop: python3 bench/shop.py --program SCOOP --node SHOP_NODE --client SHOP_CLIENT
+"""Runs the shop: python3 bench/shop.py --program SCOOP --client SHOP_CLIENT
 
-The three programs run as GUIDE says, with a key, stores and journals, on free ports. The client buys three times, and then the
+Both programs run as GUIDE says, with a key, stores and journals, on free ports. The client buys three times, and then the
 shelf has too few. The shelf's node is killed between two purchases and resumed; a client is killed inside its run, cut by
---cut, and runs again. A node and a client with wrong words, and a client whose node is down, end with their texts. In the
+--cut, and runs again. A client with wrong words, or whose nodes are down, ends with its text. In the
 end `scoop audit` has to explain the journals. Ends with status 1 if something isn't as it should be.
 """
 import argparse, os, shutil, signal, subprocess, sys, tempfile, time
@@ -15,7 +15,7 @@ TOP = os.path.dirname(os.path.dirname(os.path.abspath(__file__)))
 
 class Shop:
     def __init__(self, options):
-        self.scoop, self.node, self.client = (os.path.abspath(p) for p in (options.program, options.node, options.client))
+        self.scoop, self.client = (os.path.abspath(p) for p in (options.program, options.client))
         self.folder = tempfile.mkdtemp(prefix="shop")
         with open(os.path.join(TOP, "examples", "shop.toml")) as f:
             text = f.read()
@@ -67,17 +67,17 @@ def told(run):
 
 def main():
     parser = argparse.ArgumentParser(description=__doc__, formatter_class=argparse.RawDescriptionHelpFormatter)
-    for name in ("program", "node", "client"):
+    for name in ("program", "client"):
         parser.add_argument("--" + name, required=True)
     shop = Shop(parser.parse_args())
     try:
         down = shop.run("7", "--system", shop.system, "--new", shop.path("early.db"), "--key", shop.key, "--turns", "20")
         expect("a client whose nodes are down", told(down)[:2], (3, ""))
-        shop.start("shelf", [shop.node], 1)
+        shop.start("shelf", [shop.scoop, "node"], 1)
         shop.start("till", [shop.scoop, "node"], 2)
         expect("the first purchase", told(shop.buy()), (0, "bought\n", []))
         shop.kill("shelf")
-        shop.start("shelf", [shop.node], 1)
+        shop.start("shelf", [shop.scoop, "node"], 1)
         expect("one after the shelf's node was killed", told(shop.buy()), (0, "bought\n", []))
         stopped = subprocess.Popen([shop.client, *shop.words("buyer", 7)], stdout=subprocess.PIPE, stderr=subprocess.PIPE)
         time.sleep(0.004)
@@ -90,9 +90,6 @@ def main():
         expect("the last purchase", last, (0, "sold out\n", []))
         expect("a wrong option", shop.run("7", "--lines", "x").returncode, 2)
         expect("a client without a store", told(shop.run("7", "--system", shop.system))[::2], (2, ["scoop: a client needs a store"]))
-        wrong = shop.run("2", "--system", shop.system, "--volatile", "--turns", "1", program=shop.node)
-        expect("a node whose object has another class", told(wrong)[::2], (3, wrong.stderr.splitlines()[:1]))
-        print("  " + wrong.stderr.splitlines()[-1])
         for name in list(shop.running):
             shop.kill(name)
         journals = [shop.path(name + ".journal") for name in ("shelf", "till", "buyer")]
