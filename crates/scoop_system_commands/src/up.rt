@@ -211,7 +211,7 @@ fn run_named<T: Threads + Wait + Clock + Net + Sync>(
 ) -> Result<(), Status> {
     let mut hosts = Vec::new(rt.alloc());
     let ran = run_stored_in(rt, threads, serving, plan, dir, names, &mut hosts);
-    let ended = close_hosts(rt, plan.system(), names, hosts);
+    let ended = end_hosts(rt, plan.system(), names, hosts, &EndFiled);
     ran?;
     ended
 }
@@ -363,17 +363,46 @@ fn report_client(rt: &HostRuntime, plan: &ClientPlan<'_>, end: End) -> Status {
     report_end(rt, &party, end)
 }
 
-// Closes the stores of the nodes, which have these names in the order of the file. Returns the status of the first node that
-// ended early.
-fn close_hosts(
+// Ends a node that has run.
+trait EndHost<K: Keeper<Global>> {
+    // Reports why the node ended early, or closes its store. The stores have these names, in the order of the file.
+    fn end(
+        &self,
+        rt: &HostRuntime,
+        system: &System,
+        names: &[StoreName],
+        host: Host<K>,
+    ) -> Result<(), Status>;
+}
+
+// Ends nodes over stores in files.
+#[derive(Clone, Copy)]
+struct EndFiled;
+
+impl<'a> EndHost<NamedKeeper<'a, FiledStore>> for EndFiled {
+    fn end(
+        &self,
+        rt: &HostRuntime,
+        system: &System,
+        names: &[StoreName],
+        host: Host<NamedKeeper<'a, FiledStore>>,
+    ) -> Result<(), Status> {
+        close_host(rt, system, names, host)
+    }
+}
+
+// Ends the nodes. Returns the status of the first one that ended early. It doesn't name the files' type: the prover takes too
+// many steps at a loop over that.
+fn end_hosts<K: Keeper<Global>, E: EndHost<K>>(
     rt: &HostRuntime,
     system: &System,
     names: &[StoreName],
-    hosts: Vec<Host<NamedKeeper<'_, FiledStore>>>,
+    hosts: Vec<Host<K>>,
+    each: &E,
 ) -> Result<(), Status> {
     let mut ended = Ok(());
     for host in hosts {
-        let closed = close_host(rt, system, names, host);
+        let closed = each.end(rt, system, names, host);
         if ended.is_ok() {
             ended = closed;
         }
