@@ -365,12 +365,12 @@ fn report_client(rt: &HostRuntime, plan: &ClientPlan<'_>, end: End) -> Status {
 
 // Ends a node that has run.
 trait EndHost<K: Keeper<Global>> {
-    // Reports why the node ended early, or closes its store. The stores have these names, in the order of the file.
+    // Reports why the node ended early, or closes its store of this name.
     fn end(
         &self,
         rt: &HostRuntime,
         system: &System,
-        names: &[StoreName],
+        name: &StoreName,
         host: Host<K>,
     ) -> Result<(), Status>;
 }
@@ -384,14 +384,14 @@ impl<'a> EndHost<NamedKeeper<'a, FiledStore>> for EndFiled {
         &self,
         rt: &HostRuntime,
         system: &System,
-        names: &[StoreName],
+        name: &StoreName,
         host: Host<NamedKeeper<'a, FiledStore>>,
     ) -> Result<(), Status> {
-        close_host(rt, system, names, host)
+        close_host(rt, system, name, host)
     }
 }
 
-// Ends the nodes. Returns the status of the first one that ended early. It doesn't name the files' type: the prover takes too
+// Ends the nodes. Their stores have these names, in the order of the file. Returns the status of the first node that ended early. It doesn't name the files' type: the prover takes too
 // many steps at a loop over that.
 fn end_hosts<K: Keeper<Global>, E: EndHost<K>>(
     rt: &HostRuntime,
@@ -402,7 +402,10 @@ fn end_hosts<K: Keeper<Global>, E: EndHost<K>>(
 ) -> Result<(), Status> {
     let mut ended = Ok(());
     for host in hosts {
-        let closed = each.end(rt, system, names, host);
+        let Some(name) = names.get(host.index()) else {
+            continue;
+        };
+        let closed = each.end(rt, system, name, host);
         if ended.is_ok() {
             ended = closed;
         }
@@ -410,14 +413,13 @@ fn end_hosts<K: Keeper<Global>, E: EndHost<K>>(
     ended
 }
 
-// Reports why a node ended early, or closes its store.
+// Reports why a node ended early, or closes its store of this name.
 fn close_host(
     rt: &HostRuntime,
     system: &System,
-    names: &[StoreName],
+    name: &StoreName,
     host: Host<NamedKeeper<'_, FiledStore>>,
 ) -> Result<(), Status> {
-    let name = names.get(host.index());
     match store_of(rt, system, name, host) {
         Ok(store) => close_kept(rt, name, store),
         Err(status) => Err(status),
@@ -428,10 +430,10 @@ fn close_host(
 fn store_of<'a, S: Alter + Drop + Send>(
     rt: &HostRuntime,
     system: &'a System,
-    name: Option<&'a StoreName>,
+    name: &'a StoreName,
     host: Host<NamedKeeper<'_, Store<S>>>,
 ) -> Result<Option<Store<S>>, Status> {
-    match host.report(rt, system, name) {
+    match host.report(rt, system, Some(name)) {
         Ok(()) => Ok(store_under(host.into_keeper())),
         Err(status) => Err(status),
     }
@@ -445,23 +447,11 @@ fn store_under<S: Alter + Drop>(keeper: Option<NamedKeeper<'_, Store<S>>>) -> Op
     }
 }
 
-// Closes the store of a node, if there is one.
-fn close_kept(
-    rt: &HostRuntime,
-    name: Option<&StoreName>,
-    store: Option<FiledStore>,
-) -> Result<(), Status> {
+// Closes the store of a node, if there is one, unless it has lost its name.
+fn close_kept(rt: &HostRuntime, name: &StoreName, store: Option<FiledStore>) -> Result<(), Status> {
     match store {
-        Some(store) => close_node(rt, name, store),
+        Some(store) => report_closed(rt, name.path(), close_named(store, name)),
         None => Ok(()),
-    }
-}
-
-// Closes the store of a node, unless it has lost its name.
-fn close_node(rt: &HostRuntime, name: Option<&StoreName>, store: FiledStore) -> Result<(), Status> {
-    match name {
-        Some(name) => report_closed(rt, name.path(), close_named(store, name)),
-        None => report_closed(rt, "", close(store)),
     }
 }
 
