@@ -393,7 +393,7 @@ impl<'a> EndHost<NamedKeeper<'a, FiledStore>> for EndFiled {
 
 // Ends the nodes. Their stores have these names, in the order of the file. Returns the status of the first node that ended early. It doesn't name the files' type: the prover takes too
 // many steps at a loop over that.
-fn end_hosts<K: Keeper<Global>, E: EndHost<K>>(
+fn end_hosts<K: Keeper<Global> + Send, E: EndHost<K>>(
     rt: &HostRuntime,
     system: &System,
     names: &[StoreName],
