@@ -200,63 +200,6 @@ fn add_name(rt: &HostRuntime, path: &str, names: &mut Vec<StoreName>) -> Result<
     }
 }
 
-// Runs the parties over nodes, which are none yet.
-trait RunHosts<'a, K: Keeper<Global>> {
-    // The stores of the nodes have these names, in the order of the file.
-    fn run(
-        &self,
-        rt: &'a HostRuntime,
-        names: &'a [StoreName],
-        hosts: &mut Vec<Host<K>>,
-    ) -> Result<(), Status>;
-}
-
-// Runs them over stores in files of this folder.
-#[derive(Clone, Copy)]
-struct RunFiled<'t, 'p, 's, 'd, T: Threads + Wait + Clock + Net + Sync> {
-    threads: &'t T,
-    serving: Serving,
-    plan: &'p ClientPlan<'s>,
-    dir: &'d str,
-}
-
-impl<'a, 't, 'p, 's, 'd, T: Threads + Wait + Clock + Net + Sync> RunHosts<
-    'a,
-    NamedKeeper<'a, FiledStore>,
-> for RunFiled<'t, 'p, 's, 'd, T> {
-    fn run(
-        &self,
-        rt: &'a HostRuntime,
-        names: &'a [StoreName],
-        hosts: &mut Vec<Host<NamedKeeper<'a, FiledStore>>>,
-    ) -> Result<(), Status> {
-        run_stored_in(
-            rt,
-            self.threads,
-            self.serving,
-            self.plan,
-            self.dir,
-            names,
-            hosts,
-        )
-    }
-}
-
-// Runs the parties over any nodes, and ends these.
-fn run_and_end<'a, K: Keeper<Global> + Send, R: RunHosts<'a, K>, E: EndHost<K>>(
-    rt: &'a HostRuntime,
-    system: &System,
-    names: &'a [StoreName],
-    runs: &R,
-    each: &E,
-) -> Result<(), Status> {
-    let mut hosts = Vec::new(rt.alloc());
-    let ran = runs.run(rt, names, &mut hosts);
-    let ended = end_hosts(rt, system, names, hosts, each);
-    ran?;
-    ended
-}
-
 // Runs the parties over stores in this folder. Those of the nodes have these names, which the nodes borrow.
 fn run_named<T: Threads + Wait + Clock + Net + Sync>(
     rt: &HostRuntime,
@@ -266,13 +209,23 @@ fn run_named<T: Threads + Wait + Clock + Net + Sync>(
     dir: &str,
     names: &[StoreName],
 ) -> Result<(), Status> {
-    let runs = RunFiled {
-        threads,
-        serving,
-        plan,
-        dir,
-    };
-    run_and_end(rt, plan.system(), names, &runs, &EndFiled)
+    let mut hosts = Vec::new(rt.alloc());
+    let ran = run_stored_in(rt, threads, serving, plan, dir, names, &mut hosts);
+    end_after(rt, plan.system(), names, hosts, &EndFiled, ran)
+}
+
+// Ends the nodes after the parties ran so.
+fn end_after<K: Keeper<Global> + Send, E: EndHost<K>>(
+    rt: &HostRuntime,
+    system: &System,
+    names: &[StoreName],
+    hosts: Vec<Host<K>>,
+    each: &E,
+    ran: Result<(), Status>,
+) -> Result<(), Status> {
+    let ended = end_hosts(rt, system, names, hosts, each);
+    ran?;
+    ended
 }
 
 // The same over these nodes, which are none yet.
