@@ -1,9 +1,8 @@
 //! A node that runs in a thread of this process.
 
-use crate::ending::{Party, node_end, report_end};
+use crate::ending::{End, Party, report_end};
 use crate::watching::clients_of;
 use scoop_admission::{AdmittingLink, NoReport};
-use scoop_files::StoreName;
 use scoop_keeper::Keeper;
 use scoop_link::UdpLink;
 use scoop_message::OutOfMemory;
@@ -17,29 +16,21 @@ use std::sync::Wait;
 use std::thread::Threads;
 use std::time::Clock;
 
-/// Reports why a node ends early, whose store has this name if it has one.
+/// Reports why a node ends early, whose store is in this file if it has one.
 pub(crate) fn report_node<'a>(
     rt: &HostRuntime,
     system: &'a System,
     address: SocketAddr,
-    name: Option<&'a StoreName>,
+    store: Option<&'a str>,
     error: RuntimeError,
 ) -> Status {
     let party = Party {
         system,
         address,
-        store: path_of(name),
+        store,
         journal: None,
     };
-    report_end(rt, &party, node_end(name, error))
-}
-
-// The file of the store with this name.
-fn path_of(name: Option<&StoreName>) -> Option<&str> {
-    match name {
-        Some(name) => Some(name.path()),
-        None => None,
-    }
+    report_end(rt, &party, End::Runtime(error))
 }
 
 type HostLink = AdmittingLink<UdpLink, NoReport>;
@@ -49,36 +40,36 @@ type HostLink = AdmittingLink<UdpLink, NoReport>;
 #[derive(Drop)]
 pub(crate) struct Host<K: Keeper<Global>> {
     plan: NodePlan,
-    // Its place among the nodes of the file.
-    index: usize,
     address: SocketAddr,
     serving: Serving,
     link: Option<HostLink>,
     keeper: Option<K>,
+    // The file of its store, if it has one.
+    path: Option<String>,
     error: Option<RuntimeError>,
 }
 
 impl<K: Keeper<Global> + Send> Host<K> {
-    /// The node at this place over its port and this keeper. It has this index among the nodes of the file.
+    /// The node at this place over its port and this keeper.
     pub(crate) fn open<T: Net>(
         rt: &HostRuntime,
         net: &T,
         system: &System,
         place: &NodePlace,
-        index: usize,
         serving: Serving,
         keeper: K,
+        path: Option<String>,
     ) -> Result<Host<K>, RuntimeError> {
         let plan = NodePlan::of(rt.alloc(), system, place)?;
         let link = open_node_link(net, rt.alloc(), system, place)?;
         let clients = clients_of(rt.alloc(), system)?;
         Ok(Host {
             plan,
-            index,
             address: place.address,
             serving,
             link: Some(AdmittingLink::new(link, clients, NoReport)),
             keeper: Some(keeper),
+            path,
             error: None,
         })
     }
@@ -129,26 +120,20 @@ impl<K: Keeper<Global> + Send> Host<K> {
         )
     }
 
-    /// Reports why the node ended early, if it did. Its store has this name, if it has one.
-    pub(crate) fn report<'a>(
-        &self,
-        rt: &HostRuntime,
-        system: &'a System,
-        name: Option<&'a StoreName>,
-    ) -> Result<(), Status> {
+    /// Reports why the node ended early, if it did.
+    pub(crate) fn report(&self, rt: &HostRuntime, system: &System) -> Result<(), Status> {
         match self.error {
-            Some(error) => Err(report_node(rt, system, self.address, name, error)),
+            Some(error) => {
+                let path = self.path.as_deref();
+                Err(report_node(rt, system, self.address, path, error))
+            }
             None => Ok(()),
         }
     }
 
-    /// Its place among the nodes of the file.
-    pub(crate) fn index(&self) -> usize {
-        self.index
-    }
-
-    /// The keeper, unless the node ended early.
-    pub(crate) fn into_keeper(self) -> Option<K> {
-        self.keeper
+    /// The keeper, unless the node ended early, and the file of its store.
+    pub(crate) fn into_keeper(self) -> (Option<K>, Option<String>) {
+        let Host { keeper, path, .. } = self;
+        (keeper, path)
     }
 }

@@ -42,17 +42,16 @@ impl<'a, 'p, 'k, K: Keeper<Global>, T: Net> Asking<'a, 'p, 'k, K, T> {
 
 /// Runs the nodes, each in a thread, while the client runs. Then it asks the nodes to end, and joins all threads. Returns the
 /// nodes, and the end of the client.
-pub(crate) fn run_beside<K, C, T>(
+pub(crate) fn run_beside<K, T>(
     rt: &HostRuntime,
     threads: &T,
     hosts: Vec<Host<K>>,
     plan: &ClientPlan<'_>,
-    keeper: &mut C,
+    keeper: &mut K,
     link: UdpLink,
 ) -> (Vec<Host<K>>, Result<(), End>)
 where
     K: Keeper<Global> + Send,
-    C: Keeper<Global>,
     T: Threads + Wait + Clock + Net + Sync,
 {
     let ending = Ending::new();
@@ -67,17 +66,16 @@ where
 }
 
 // Starts a thread for each node, runs the client in this one, and waits for all.
-fn host_beside<K, C, T>(
+fn host_beside<K, T>(
     threads: &T,
     alloc: Global,
     notes: Stderr,
     mut hosts: Vec<Host<K>>,
     ending: &Ending,
-    asking: Asking<'_, '_, '_, C, T>,
+    asking: Asking<'_, '_, '_, K, T>,
 ) -> (Vec<Host<K>>, Result<(), End>)
 where
     K: Keeper<Global> + Send,
-    C: Keeper<Global>,
     T: Threads + Wait + Clock + Net + Sync,
 {
     let lent = hosts.as_mut_slice();

@@ -8,7 +8,7 @@ use crate::owning::{check_owner, note_owner};
 use crate::stores::{open_client_store, open_node_store};
 use crate::system_file::{read_system, report_fault};
 use scoop_command_line::{StoreChoice, UpOptions};
-use scoop_files::{FileError, FiledStore, NamedKeeper, StoreName, close, close_named, report_file};
+use scoop_files::{FiledStore, close, report_file};
 use scoop_journal::Owner;
 use scoop_keeper::{Keeper, MemoryKeeper};
 use scoop_message::{ClientId, OutOfMemory};
@@ -123,11 +123,20 @@ fn run_unstored_in<T: Threads + Wait + Clock + Net + Sync>(
 ) -> Result<(), Status> {
     for place in plan.system().nodes() {
         let record = MemoryKeeper::new(rt.alloc());
-        add_host(rt, threads, plan.system(), place, serving, record, hosts)?;
+        add_host(
+            rt,
+            threads,
+            plan.system(),
+            place,
+            serving,
+            record,
+            None,
+            hosts,
+        )?;
     }
     run_together(rt, threads, hosts, plan, keeper)?;
     for host in hosts.iter() {
-        host.report(rt, plan.system(), None)?;
+        host.report(rt, plan.system())?;
     }
     Ok(())
 }
@@ -140,10 +149,10 @@ fn add_host<K: Keeper<Global> + Send, T: Net>(
     place: &NodePlace,
     serving: Serving,
     keeper: K,
+    path: Option<String>,
     hosts: &mut Vec<Host<K>>,
 ) -> Result<(), Status> {
-    let index = hosts.len();
-    match Host::open(rt, net, system, place, index, serving, keeper) {
+    match Host::open(rt, net, system, place, serving, keeper, path) {
         Ok(host) => keep(rt, host, hosts),
         Err(error) => Err(report_node(rt, system, place.address, None, error)),
     }
@@ -169,77 +178,24 @@ fn run_stored<T: Threads + Wait + Clock + Net + Sync>(
     dir: &str,
 ) -> Result<(), Status> {
     make_folder(rt, dir)?;
-    let mut names = Vec::new(rt.alloc());
-    add_names(rt, plan.system(), dir, &mut names)?;
-    run_named(rt, threads, serving, plan, dir, names.as_slice())
-}
-
-// Adds the names of the nodes' stores in this folder.
-fn add_names(
-    rt: &HostRuntime,
-    system: &System,
-    dir: &str,
-    names: &mut Vec<StoreName>,
-) -> Result<(), Status> {
-    for place in system.nodes() {
-        let path = store_path(rt, dir, "node", place.number)?;
-        add_name(rt, &path, names)?;
-    }
-    Ok(())
-}
-
-fn add_name(rt: &HostRuntime, path: &str, names: &mut Vec<StoreName>) -> Result<(), Status> {
-    let added = match StoreName::new(rt.alloc(), path) {
-        Ok(name) => names.push(name).is_ok(),
-        Err(_) => false,
-    };
-    if added {
-        Ok(())
-    } else {
-        Err(report_plainly(rt, RuntimeError::from(OutOfMemory)))
-    }
-}
-
-// Runs the parties over stores in this folder. Those of the nodes have these names, which the nodes borrow.
-fn run_named<T: Threads + Wait + Clock + Net + Sync>(
-    rt: &HostRuntime,
-    threads: &T,
-    serving: Serving,
-    plan: &ClientPlan<'_>,
-    dir: &str,
-    names: &[StoreName],
-) -> Result<(), Status> {
     let mut hosts = Vec::new(rt.alloc());
-    let ran = run_stored_in(rt, threads, serving, plan, dir, names, &mut hosts);
-    end_after(rt, plan.system(), names, hosts, &EndFiled, ran)
-}
-
-// Ends the nodes after the parties ran so.
-fn end_after<K: Keeper<Global> + Send, E: EndHost<K>>(
-    rt: &HostRuntime,
-    system: &System,
-    names: &[StoreName],
-    hosts: Vec<Host<K>>,
-    each: &E,
-    ran: Result<(), Status>,
-) -> Result<(), Status> {
-    let ended = end_hosts(rt, system, names, hosts, each);
+    let ran = run_stored_in(rt, threads, serving, plan, dir, &mut hosts);
+    let ended = close_hosts(rt, plan.system(), hosts);
     ran?;
     ended
 }
 
 // The same over these nodes, which are none yet.
-fn run_stored_in<'a, T: Threads + Wait + Clock + Net + Sync>(
-    rt: &'a HostRuntime,
+fn run_stored_in<T: Threads + Wait + Clock + Net + Sync>(
+    rt: &HostRuntime,
     threads: &T,
     serving: Serving,
     plan: &ClientPlan<'_>,
     dir: &str,
-    names: &'a [StoreName],
-    hosts: &mut Vec<Host<NamedKeeper<'a, FiledStore>>>,
+    hosts: &mut Vec<Host<FiledStore>>,
 ) -> Result<(), Status> {
-    for (place, name) in plan.system().nodes().iter().zip(names.iter()) {
-        add_stored(rt, threads, plan.system(), place, serving, name, hosts)?;
+    for place in plan.system().nodes() {
+        add_stored(rt, threads, plan.system(), place, serving, dir, hosts)?;
     }
     let client = plan.place().client;
     let path = store_path(rt, dir, "client", client.0)?;
@@ -256,12 +212,12 @@ fn run_filed<T: Threads + Wait + Clock + Net + Sync>(
     rt: &HostRuntime,
     threads: &T,
     plan: &ClientPlan<'_>,
-    hosts: &mut Vec<Host<NamedKeeper<'_, FiledStore>>>,
+    hosts: &mut Vec<Host<FiledStore>>,
     choice: StoreChoice<'_>,
     store: FiledStore,
 ) -> Result<(), Status> {
     let (ran, store) = run_kept(rt, threads, plan, hosts, choice, store);
-    let closed = report_closed(rt, choice.path().unwrap_or(""), close(store));
+    let closed = close_store(rt, choice.path().unwrap_or(""), store);
     match ran {
         Ok(()) => closed,
         Err(status) => Err(status),
@@ -273,7 +229,7 @@ fn run_kept<S: Alter + Drop + Send, T: Threads + Wait + Clock + Net + Sync>(
     rt: &HostRuntime,
     threads: &T,
     plan: &ClientPlan<'_>,
-    hosts: &mut Vec<Host<NamedKeeper<'_, Store<S>>>>,
+    hosts: &mut Vec<Host<Store<S>>>,
     choice: StoreChoice<'_>,
     mut store: Store<S>,
 ) -> (Result<(), Status>, Store<S>) {
@@ -283,73 +239,72 @@ fn run_kept<S: Alter + Drop + Send, T: Threads + Wait + Clock + Net + Sync>(
     (ran, store)
 }
 
-// Adds the node at this place, over its store of this name.
-fn add_stored<'a, T: Net>(
-    rt: &'a HostRuntime,
+// Adds the node at this place, over its store.
+fn add_stored<T: Net>(
+    rt: &HostRuntime,
     net: &T,
     system: &System,
     place: &NodePlace,
     serving: Serving,
-    name: &'a StoreName,
-    hosts: &mut Vec<Host<NamedKeeper<'a, FiledStore>>>,
+    dir: &str,
+    hosts: &mut Vec<Host<FiledStore>>,
 ) -> Result<(), Status> {
-    let choice = choice_of(rt, name.path())?;
+    let path = store_path(rt, dir, "node", place.number)?;
+    let choice = choice_of(rt, &path)?;
     check_owner(rt, choice, system, Owner::Node(place.number))?;
-    add_filed(rt, net, system, place, serving, choice, name, hosts)
+    add_filed(rt, net, system, place, serving, choice, hosts)
 }
 
 // Adds the node over the store in this file. A function that names the files' type does one thing alone: the prover takes too
 // many steps at more.
-fn add_filed<'a, T: Net>(
-    rt: &'a HostRuntime,
+fn add_filed<T: Net>(
+    rt: &HostRuntime,
     net: &T,
     system: &System,
     place: &NodePlace,
     serving: Serving,
     choice: StoreChoice<'_>,
-    name: &'a StoreName,
-    hosts: &mut Vec<Host<NamedKeeper<'a, FiledStore>>>,
+    hosts: &mut Vec<Host<FiledStore>>,
 ) -> Result<(), Status> {
     match open_node_store(rt, choice) {
-        Ok(store) => add_opened(rt, net, system, place, serving, choice, name, store, hosts),
-        Err(error) => Err(report_file(rt, Hints::Always, name.path(), error)),
+        Ok(store) => add_opened(rt, net, system, place, serving, choice, store, hosts),
+        Err(error) => {
+            let path = choice.path().unwrap_or("");
+            Err(report_file(rt, Hints::Always, path, error))
+        }
     }
 }
 
 // Adds the node over the store that was opened by this choice, and goes on with what it holds if it is old.
-fn add_opened<'a, S: Alter + Drop + Send, T: Net>(
-    rt: &'a HostRuntime,
+fn add_opened<S: Alter + Drop + Send, T: Net>(
+    rt: &HostRuntime,
     net: &T,
     system: &System,
     place: &NodePlace,
     serving: Serving,
     choice: StoreChoice<'_>,
-    name: &'a StoreName,
     store: Store<S>,
-    hosts: &mut Vec<Host<NamedKeeper<'a, Store<S>>>>,
+    hosts: &mut Vec<Host<Store<S>>>,
 ) -> Result<(), Status> {
     note_owner(rt, choice, system, Owner::Node(place.number));
     let serving = match choice {
         StoreChoice::Old(_) => serving.going_on(),
         StoreChoice::New(_) | StoreChoice::None => serving,
     };
-    let keeper = NamedKeeper::new(rt, store, name);
-    add_host(rt, net, system, place, serving, keeper, hosts)
+    let Ok(path) = String::from_str(rt.alloc(), choice.path().unwrap_or("")) else {
+        return Err(report_plainly(rt, RuntimeError::from(OutOfMemory)));
+    };
+    add_host(rt, net, system, place, serving, store, Some(path), hosts)
 }
 
 // Runs the nodes beside the client, and reports why the client ends early.
-fn run_together<K, C, T>(
+fn run_together<K: Keeper<Global> + Send, T: Threads + Wait + Clock + Net + Sync>(
     rt: &HostRuntime,
     threads: &T,
     hosts: &mut Vec<Host<K>>,
     plan: &ClientPlan<'_>,
-    keeper: &mut C,
-) -> Result<(), Status>
-where
-    K: Keeper<Global> + Send,
-    C: Keeper<Global>,
-    T: Threads + Wait + Clock + Net + Sync,
-{
+    keeper: &mut K,
+) -> Result<(), Status> {
     let place = plan.place();
     let link = match open_client_link(threads, rt.alloc(), plan.system(), &place) {
         Ok(link) => link,
@@ -375,49 +330,15 @@ fn report_client(rt: &HostRuntime, plan: &ClientPlan<'_>, end: End) -> Status {
     report_end(rt, &party, end)
 }
 
-// Ends a node that has run.
-trait EndHost<K: Keeper<Global>> {
-    // Reports why the node ended early, or closes its store of this name.
-    fn end(
-        &self,
-        rt: &HostRuntime,
-        system: &System,
-        name: &StoreName,
-        host: Host<K>,
-    ) -> Result<(), Status>;
-}
-
-// Ends nodes over stores in files.
-#[derive(Clone, Copy)]
-struct EndFiled;
-
-impl<'a> EndHost<NamedKeeper<'a, FiledStore>> for EndFiled {
-    fn end(
-        &self,
-        rt: &HostRuntime,
-        system: &System,
-        name: &StoreName,
-        host: Host<NamedKeeper<'a, FiledStore>>,
-    ) -> Result<(), Status> {
-        close_host(rt, system, name, host)
-    }
-}
-
-// Ends the nodes. Their stores have these names, in the order of the file. Returns the status of the first node that ended early. It doesn't name the files' type: the prover takes too
-// many steps at a loop over that.
-fn end_hosts<K: Keeper<Global> + Send, E: EndHost<K>>(
+// Closes the stores of the nodes. Returns the status of the first node that ended early.
+fn close_hosts(
     rt: &HostRuntime,
     system: &System,
-    names: &[StoreName],
-    hosts: Vec<Host<K>>,
-    each: &E,
+    hosts: Vec<Host<FiledStore>>,
 ) -> Result<(), Status> {
     let mut ended = Ok(());
     for host in hosts {
-        let Some(name) = names.get(host.index()) else {
-            continue;
-        };
-        let closed = each.end(rt, system, name, host);
+        let closed = close_host(rt, system, host);
         if ended.is_ok() {
             ended = closed;
         }
@@ -425,55 +346,41 @@ fn end_hosts<K: Keeper<Global> + Send, E: EndHost<K>>(
     ended
 }
 
-// Reports why a node ended early, or closes its store of this name.
-fn close_host(
+// Reports why a node ended early, or closes its store.
+fn close_host(rt: &HostRuntime, system: &System, host: Host<FiledStore>) -> Result<(), Status> {
+    match store_of(rt, system, host) {
+        Ok((store, path)) => close_kept(rt, path, store),
+        Err(status) => Err(status),
+    }
+}
+
+// Reports why a node ended early, or returns its store and the file of that.
+fn store_of<S: Alter + Drop + Send>(
     rt: &HostRuntime,
     system: &System,
-    name: &StoreName,
-    host: Host<NamedKeeper<'_, FiledStore>>,
-) -> Result<(), Status> {
-    match store_of(rt, system, name, host) {
-        Ok(store) => close_kept(rt, name, store),
+    host: Host<Store<S>>,
+) -> Result<(Option<Store<S>>, Option<String>), Status> {
+    match host.report(rt, system) {
+        Ok(()) => Ok(host.into_keeper()),
         Err(status) => Err(status),
     }
 }
 
-// Reports why a node ended early, or returns its store.
-fn store_of<'a, S: Alter + Drop + Send>(
+// Closes the store of a node, which is in this file.
+fn close_kept(
     rt: &HostRuntime,
-    system: &'a System,
-    name: &'a StoreName,
-    host: Host<NamedKeeper<'_, Store<S>>>,
-) -> Result<Option<Store<S>>, Status> {
-    match host.report(rt, system, Some(name)) {
-        Ok(()) => Ok(store_under(host.into_keeper())),
-        Err(status) => Err(status),
-    }
-}
-
-// The store under this keeper, if there is one.
-fn store_under<S: Alter + Drop>(keeper: Option<NamedKeeper<'_, Store<S>>>) -> Option<Store<S>> {
-    match keeper {
-        Some(keeper) => Some(keeper.into_inner()),
-        None => None,
-    }
-}
-
-// Closes the store of a node, if there is one, unless it has lost its name.
-fn close_kept(rt: &HostRuntime, name: &StoreName, store: Option<FiledStore>) -> Result<(), Status> {
+    path: Option<String>,
+    store: Option<FiledStore>,
+) -> Result<(), Status> {
     match store {
-        Some(store) => report_closed(rt, name.path(), close_named(store, name)),
+        Some(store) => close_store(rt, path.as_deref().unwrap_or(""), store),
         None => Ok(()),
     }
 }
 
-// Reports why the store in this file isn't closed.
-fn report_closed(
-    rt: &HostRuntime,
-    path: &str,
-    closed: Result<(), FileError>,
-) -> Result<(), Status> {
-    match closed {
+// Closes a store.
+fn close_store(rt: &HostRuntime, path: &str, store: FiledStore) -> Result<(), Status> {
+    match close(store) {
         Ok(()) => Ok(()),
         Err(error) => Err(report_file(rt, Hints::Always, path, error)),
     }
