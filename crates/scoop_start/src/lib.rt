@@ -26,8 +26,9 @@
 //! ```
 #![tactic(auto)]
 
-mod words;
+mod arguments;
 
+pub use arguments::{report_command_line, report_memory, words};
 use clap::ArgMatches;
 use scoop_command_line::{client_options, parse_client};
 use scoop_report::Status;
@@ -35,7 +36,6 @@ use scoop_runtime::ClientProgram;
 use scoop_system_commands::run_own_client;
 use std::net::Net;
 use std::process::ExitCode;
-pub use words::{report_command_line, report_memory, words};
 
 /// Runs this program as the client of the program's words, and returns the program's status. The second handle, which is the
 /// first one too, opens sockets.
