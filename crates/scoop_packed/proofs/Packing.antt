@@ -1,4 +1,4 @@
--- What is packed is read back as it was.
+-- Packed words are read back as they were.
 use Rattle.std.proofs.Common.{◌≡◌, ℕ, ◌≤◌, ◌^◌, List, [], ◌∷◌, ◌++◌, true, refl, ap, arith}
 use Rattle.std.specs.Prelude.{length, nat_lt, nat_le, Option, Some, None}
 use Rattle.std.specs.List.{flat_map, AllByRecursion}

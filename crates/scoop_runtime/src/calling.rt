@@ -28,7 +28,7 @@ use std::io::Write;
 /// The calls of a client that a program holds. Each takes at most as many turns as the client may take, and returns the error
 /// with which the client would end. After an error the block may still be open: it is cut when the client is let go.
 pub trait Calls {
-    /// What is seen of the client's driver.
+    /// The visible state of the client's driver.
     ghost seen: { Self → Seen };
 
     /// The most turns of a call.
@@ -81,8 +81,8 @@ pub trait Calls {
         ensures answers { length answers.new ≡ length answers.old };
 }
 
-/// A client whose commands are calls. If it is let go with a block open, it cuts the block by greeting the block's handlers with
-/// its next incarnation, and writes to its notes `cut 7.1.1`, or the handlers that don't answer and how to free them. A block
+/// A client whose commands are calls. If it is let go with a block open, it cuts the block: it greets the block's handlers with
+/// its next incarnation. It writes to its notes `cut 7.1.1`, or the handlers that don't answer and how to free them. A block
 /// whose handlers aren't all locked is given up. Each takes at most 500 turns.
 pub struct Caller<'p, 's, 'h, 'k, 'j, K, L, J, P, N>
 where

@@ -17,9 +17,9 @@ use scoop_message::{Answer, Block, HandlerId, Request};
 use std::io::Write;
 
 impl<'j, L: Link, J: Write + Drop> Session<'j, L, J> {
-    /// Reserves these handlers: takes turns until the block runs, and then until their locks are given back, so that no other
-    /// client waits for them until this client's next call. Returns the block. Refused as [`scoop_driver::Driver::reserve`]. If the turns don't
-    /// suffice to give the locks back, later calls go on with it.
+    /// Reserves these handlers, and returns the block once it runs. It gives their locks back first. So no other client waits
+    /// for them until this client's next call. If the turns don't suffice for that, later calls go on with it. Refused as
+    /// [`scoop_driver::Driver::reserve`].
     pub fn reserve_block(&mut self, handlers: &[HandlerId]) -> Result<Block, DriverError>
         ensures runs { IfOk result (λ _. RunsBlock handlers.now self.old.driver.turns self.old.driver.seen self.new.driver.seen) }
         ensures drives { Drives self.old.driver.seen self.new.driver.seen }

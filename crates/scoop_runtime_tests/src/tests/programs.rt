@@ -39,7 +39,7 @@ const BLOCK: Block = Block {
     num: 1,
 };
 
-// What a program does after its calls.
+// The end that a program makes after its calls.
 #[derive(Clone, Copy)]
 enum Then {
     Ends,
@@ -74,7 +74,7 @@ impl ClientProgram for Payer {
     }
 }
 
-// The end of a program, if it was told, and its notes.
+// The end that a program returned, if it returned one, and its notes.
 #[derive(Drop)]
 struct Told {
     end: Option<ProgramEnd>,
