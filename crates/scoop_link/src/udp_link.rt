@@ -18,8 +18,12 @@ use std::net::{IpAddr, Ipv4Addr, Net, SocketAddr, UdpSocket};
 use std::time::Duration;
 use thiserror::Error;
 
-// How long a receive waits for a datagram.
+// How long a receive of a link over ports waits for a datagram.
 const RECEIVE_MILLIS: u64 = 10;
+
+// How long one over addresses waits. Systems round such times up to their ticks: with 250 ticks a second this becomes eight
+// milliseconds, and ten would become sixteen. A client can't repeat a datagram before its receive ends.
+const SHORT_RECEIVE_MILLIS: u64 = 4;
 
 /// One's own port of 127.0.0.1, and the ports of other parties.
 #[derive(Clone, Copy, Debug)]
@@ -53,7 +57,7 @@ pub enum OpenLinkError {
 
 /// A socket, with the addresses of the parties that it reaches. Contracts see these and the count of faults.
 ///
-/// A datagram to a party without an address is lost. A receive waits about ten milliseconds.
+/// A datagram to a party without an address is lost. A receive waits about ten milliseconds, over addresses four to eight.
 #[derive(Drop)]
 pub struct UdpLink<A: Allocator = Global> {
     socket: UdpSocket,
@@ -77,9 +81,10 @@ fn local(port: u16) -> SocketAddr
     SocketAddr::new(IpAddr::V4(Ipv4Addr::LOCALHOST), port)
 }
 
-fn socket_at<R: Net>(rt: &R, own: SocketAddr) -> io::Result<UdpSocket> {
+// A socket at one's own address, whose receives wait so many milliseconds.
+fn socket_at<R: Net>(rt: &R, own: SocketAddr, millis: u64) -> io::Result<UdpSocket> {
     let socket = UdpSocket::bind(rt, own)?;
-    socket.set_read_timeout(Some(Duration::from_millis(RECEIVE_MILLIS)))?;
+    socket.set_read_timeout(Some(Duration::from_millis(millis)))?;
     Ok(socket)
 }
 
@@ -130,7 +135,9 @@ impl<A: Allocator> UdpLink<A> {
         if lacks_port(peers.table) {
             return Err(OpenLinkError::Fault);
         }
-        let socket = socket_at(rt, local(peers.own)).map_err(|_| OpenLinkError::Fault)?;
+        let socket = socket_at(rt, local(peers.own), RECEIVE_MILLIS).map_err(
+            |_| OpenLinkError::Fault,
+        )?;
         let addresses = local_addresses(alloc, peers.table).map_err(
             |_| OpenLinkError::OutOfMemory,
         )?;
@@ -154,7 +161,9 @@ impl<A: Allocator> UdpLink<A> {
         if lacks_port_at(addresses.table) {
             return Err(OpenLinkError::Fault);
         }
-        let socket = socket_at(rt, addresses.own).map_err(|_| OpenLinkError::Fault)?;
+        let socket = socket_at(rt, addresses.own, SHORT_RECEIVE_MILLIS).map_err(
+            |_| OpenLinkError::Fault,
+        )?;
         let addresses = Vec::from_slice(alloc, addresses.table).map_err(
             |_| OpenLinkError::OutOfMemory,
         )?;
