@@ -11,7 +11,8 @@ use std::alloc::{Allocator, Global};
 use std::marker::Model;
 
 /// The receiver of a driver's steps. Before each step the driver makes room for it, and makes no step if that is
-/// refused. So a diary that keeps its steps keeps exactly those that were made.
+/// refused. So a diary that keeps its steps keeps exactly those that were made. A diary may gather what it keeps: it is
+/// called before the sends of each turn, and by [`crate::Driver::settle`] before an answer.
 pub trait Diary<A: Allocator>: Drop {
     /// The steps so far, oldest first, if the diary keeps them.
     ghost steps: { Self → Option (List Made) };
@@ -19,12 +20,26 @@ pub trait Diary<A: Allocator>: Drop {
     /// There is room for one more step.
     ghost has_room: { Self → Type 0 };
 
-    /// Room may be refused.
+    /// All that has to be done before an answer is done.
+    ghost is_settled: { Self → Type 0 };
+
+    /// Room may be refused, and so may what comes before sends and before an answer.
     ghost wants_memory: { Type 0 };
 
     /// Makes room for one more step, or is refused and keeps all its steps.
     fn make_room(&mut self) -> Result<(), OutOfMemory>
         ensures room { OnOk result (has_room self.new) }
+        ensures steps { steps self.new ≡ steps self.old }
+        ensures refused { IsErr result → wants_memory };
+
+    /// This client is about to send its due messages. If the diary refuses, nothing is sent.
+    fn before_sends(&mut self, client: &Client<A>) -> Result<(), OutOfMemory>
+        ensures steps { steps self.new ≡ steps self.old }
+        ensures refused { IsErr result → wants_memory };
+
+    /// The client's user is about to get an answer. If the diary refuses, it is as settled as it can be.
+    fn before_answer(&mut self) -> Result<(), OutOfMemory>
+        ensures settled { is_settled self.new }
         ensures steps { steps self.new ≡ steps self.old }
         ensures refused { IsErr result → wants_memory };
 
@@ -54,9 +69,19 @@ impl<A: Allocator> Diary<A> for NoDiary {
 
     ghost has_room = { λ _. ⊤ };
 
+    ghost is_settled = { λ _. ⊤ };
+
     ghost wants_memory = { ⊥ };
 
     fn make_room(&mut self) -> Result<(), OutOfMemory> {
+        Ok(())
+    }
+
+    fn before_sends(&mut self, _client: &Client<A>) -> Result<(), OutOfMemory> {
+        Ok(())
+    }
+
+    fn before_answer(&mut self) -> Result<(), OutOfMemory> {
         Ok(())
     }
 
@@ -112,10 +137,20 @@ impl<A: Allocator, C: Allocator> Diary<C> for StepList<A> {
 
     ghost has_room = { λ l. 0 < l.room };
 
+    ghost is_settled = { λ _. ⊤ };
+
     ghost wants_memory = { ⊤ };
 
     fn make_room(&mut self) -> Result<(), OutOfMemory> {
         self.steps.reserve(1)?;
+        Ok(())
+    }
+
+    fn before_sends(&mut self, _client: &Client<C>) -> Result<(), OutOfMemory> {
+        Ok(())
+    }
+
+    fn before_answer(&mut self) -> Result<(), OutOfMemory> {
         Ok(())
     }
 

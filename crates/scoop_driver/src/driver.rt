@@ -1,6 +1,6 @@
 //! A client over its link.
 
-ghost use Rattle.std.specs.Prelude.{◌≡◌, ◌≤◌, false, length, Ok, OnOk, true};
+ghost use Rattle.std.specs.Prelude.{◌≡◌, ◌≤◌, false, length, IsErr, Ok, OnOk, true};
 ghost use Rattle.scoop_message.specs.declared.limits.TheConstants.{MAX_BLOCK_HANDLERS};
 ghost use Rattle.scoop_client.specs.Due.{due};
 ghost use Rattle.scoop_client.specs.State.{phase_of};
@@ -16,7 +16,7 @@ use crate::interrupt::{Interrupt, NoInterrupt};
 use crate::sending::take_turn;
 use scoop_client::{Client, ClientError, ClientNote, Command, HandlerList, Phase};
 use scoop_link::Link;
-use scoop_message::{Answer, HandlerId, Message, Request};
+use scoop_message::{Answer, HandlerId, Message, OutOfMemory, Request};
 use std::alloc::{Allocator, Global};
 use std::marker::Model;
 
@@ -107,6 +107,18 @@ impl<L: Link, D: Diary<A>, A: Allocator> Driver<L, D, A> {
         &self.diary
     }
 
+    /// Gets the diary ready for an answer to the client's user. Call it before you report what the client did. Refused as
+    /// the diary refuses it.
+    pub fn settle(&mut self) -> Result<(), OutOfMemory>
+        ensures settled { D.is_settled self.new.diary }
+        ensures seen { self.new.seen ≡ self.old.seen }
+        ensures link { self.new.link ≡ self.old.link }
+        ensures turns { self.new.turns ≡ self.old.turns }
+        ensures memory { IsErr result → D.wants_memory }
+    {
+        self.diary.before_answer()
+    }
+
     /// Takes the driver apart, and returns its link and its diary. Its client ends.
     pub fn into_parts(self) -> (L, D)
         ensures link { result.0 ≡ self.link }
@@ -119,8 +131,8 @@ impl<L: Link, D: Diary<A>, A: Allocator> Driver<L, D, A> {
     }
 
     /// One turn: sends every due message to the client's handlers, in their order, and receives once. Returns the
-    /// effect of the message at the client, or `None` if no frame came. `LinkFault` breaks the turn off. If a
-    /// diary has no room, it takes no turn and returns `OutOfMemory`.
+    /// effect of the message at the client, or `None` if no frame came. `LinkFault` breaks the turn off. If the
+    /// diary isn't ready for the sends or has no room, it takes no turn and returns `OutOfMemory`.
     pub fn turn(&mut self) -> Result<Option<ClientNote>, DriverError>
         ensures does { TakesTurn result self.old.seen self.new.seen }
         ensures turns { self.new.turns ≡ self.old.turns }

@@ -1,6 +1,6 @@
 //! The parts of a turn: its sends, and its receive.
 
-ghost use Rattle.std.specs.Prelude.{◌≡◌, ◌+◌};
+ghost use Rattle.std.specs.Prelude.{◌≡◌, ◌+◌, IsErr, OnOk};
 ghost use Rattle.scoop_driver.specs.State.{seen_of};
 ghost use Rattle.scoop_driver.specs.Steps.{version_for};
 ghost use Rattle.scoop_driver.specs.Turning.{SentDue, Receives, TellsMessage, TakesTurn, receive_faults, send_faults};
@@ -11,8 +11,8 @@ use crate::step::Received;
 use scoop_client::{Client, ClientError, ClientNote};
 use scoop_frame::{Version, decode, encode};
 use scoop_link::{Datagram, Link, Party};
-use scoop_message::Message;
 use scoop_message::limits::BUFFER_LEN;
+use scoop_message::{Message, OutOfMemory};
 use std::alloc::Allocator;
 
 // The version of the frames that a client sends.
@@ -76,8 +76,20 @@ fn message_in(received: &Received) -> Result<Option<Message>, DriverError>
     }
 }
 
-// One turn of a client over its link: it sends every due message, receives once, hears the message that came, and
-// reports the turn to the diary.
+// Gets the diary ready for a turn: for its sends, and then for its step.
+fn prepare<D: Diary<A>, A: Allocator>(client: &Client<A>, diary: &mut D) -> Result<(), OutOfMemory>
+    ensures room { OnOk result (D.has_room diary.new) }
+    ensures steps { D.steps diary.new ≡ D.steps diary.old }
+    ensures refused { IsErr result → D.wants_memory }
+{
+    match diary.before_sends(client) {
+        Ok(()) => diary.make_room(),
+        Err(refusal) => Err(refusal),
+    }
+}
+
+// One turn of a client over its link: it gets the diary ready, sends every due message, receives once, hears the
+// message that came, and reports the turn to the diary.
 pub(crate) fn take_turn<L: Link, D: Diary<A>, A: Allocator>(
     client: &mut Client<A>,
     link: &mut L,
@@ -87,7 +99,7 @@ pub(crate) fn take_turn<L: Link, D: Diary<A>, A: Allocator>(
         (seen_of L.told L.fault_count D.steps client.new link.new diary.new) }
     ensures memory { result ≡ Err (DriverError.Client ClientError.OutOfMemory) → D.wants_memory }
 {
-    if diary.make_room().is_err() {
+    if prepare(client, diary).is_err() {
         return Err(DriverError::Client(ClientError::OutOfMemory));
     }
     if let Err(place) = send_due(client, link) {
