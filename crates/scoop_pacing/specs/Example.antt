@@ -34,7 +34,7 @@ answered = after_reply sent 101000 one
 pub record Examples : Type 0 where
   pub steady : timeouts (first_estimate 100000) (100000 ∷ 100000 ∷ 100000 ∷ []) ≡ 300000 ∷ 250000 ∷ 212500 ∷ 184372 ∷ []
   pub longer : timeouts (first_estimate 100000) (200000 ∷ []) ≡ 300000 ∷ 362500 ∷ []
-  pub loopback : timeouts (first_estimate 100) (100 ∷ []) ≡ 5100 ∷ 5100 ∷ []
+  pub loopback : timeouts (first_estimate 100) (100 ∷ []) ≡ 5000 ∷ 5000 ∷ []
   pub early : passes sent 200999 one lock ≡ false
   pub due : passes sent 201000 one lock ≡ true
   pub twice_early : passes repeated 600999 one lock ≡ false

@@ -10,8 +10,8 @@ const MIN_TIMEOUT: u32 = 5_000;
 pub const MAX_TIMEOUT: u32 = 2_000_000;
 
 // The least margin of a timeout above the smoothed round trip, in microseconds. RFC 6298 calls it G, the clock
-// granularity.
-const MIN_MARGIN: u32 = 5_000;
+// granularity. The clock is finer. But a receive ends late by some milliseconds, so no repeat is as early as its timeout.
+const MIN_MARGIN: u32 = 1_000;
 
 /// The smoothed round trip of a party and its variation, in microseconds, by RFC 6298.
 #[derive(Clone, Copy, Debug, PartialEq, Eq)]

@@ -12,7 +12,7 @@
 //! for _ in 0..20 {
 //!     estimate = estimate.next(100_000);
 //! }
-//! assert_eq!(rt; estimate.timeout(), 105_000);
+//! assert_eq!(rt; estimate.timeout(), 101_000);
 //! ```
 #![tactic(auto)]
 

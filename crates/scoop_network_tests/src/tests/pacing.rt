@@ -43,7 +43,7 @@ fn estimates_follow_round_trips(rt: HostRuntime) {
     for _ in 0..20 {
         estimate = estimate.next(100_000);
     }
-    assert_eq!(rt; estimate.timeout(), 105_000);
+    assert_eq!(rt; estimate.timeout(), 101_000);
 }
 
 #[test]
