@@ -121,10 +121,22 @@ fn strays_and_broken_turns_are_kept(rt: HostRuntime) -> Result<(), Fail> {
     Ok(())
 }
 
-/// A diary that counts sends, and keeps no steps.
+/// A diary that counts sends and answers, and keeps no steps. It refuses the sends of every turn after this number.
 #[derive(Drop)]
 struct Sends {
     count: u64,
+    turns: u64,
+    answers: u64,
+}
+
+impl Sends {
+    fn of_turns(turns: u64) -> Sends {
+        Sends {
+            count: 0,
+            turns,
+            answers: 0,
+        }
+    }
 }
 
 impl<A: Allocator> Diary<A> for Sends {
@@ -134,21 +146,35 @@ impl<A: Allocator> Diary<A> for Sends {
 
     ghost has_room = { λ _. ⊤ };
 
-    ghost wants_memory = { ⊥ };
+    ghost is_settled = { λ _. ⊤ };
+
+    ghost wants_memory = { ⊤ };
 
     fn make_room(&mut self) -> Result<(), OutOfMemory> {
         Ok(())
     }
 
-    fn gave(&mut self, _client: &Client<A>, _command: Command) {}
-
-    fn turned(&mut self, client: &Client<A>, _received: Received) {
+    fn before_sends(&mut self, client: &Client<A>) -> Result<(), OutOfMemory> {
+        let Some(left) = self.turns.checked_sub(1) else {
+            return Err(OutOfMemory);
+        };
+        self.turns = left;
         for handler in client.handlers() {
             if client.due(*handler).is_some() {
                 self.count = self.count.saturating_add(1);
             }
         }
+        Ok(())
     }
+
+    fn before_answer(&mut self) -> Result<(), OutOfMemory> {
+        self.answers = self.answers.saturating_add(1);
+        Ok(())
+    }
+
+    fn gave(&mut self, _client: &Client<A>, _command: Command) {}
+
+    fn turned(&mut self, _client: &Client<A>, _received: Received) {}
 
     fn broke(&mut self, _client: &Client<A>, _place: usize) {}
 }
@@ -164,8 +190,42 @@ const TURNS: [Row; 2] = [WELCOMED, (Act::Turn, NO_FRAME, Phase::Idle)];
 #[test]
 fn a_diary_sees_due_messages(rt: HostRuntime) {
     let wire = Wire::new(Node::new(&rt, rt.alloc()));
-    let mut driver = Driver::with_diary(client(&rt, rt.alloc()), wire, 10, Sends { count: 0 });
+    let mut driver = Driver::with_diary(client(&rt, rt.alloc()), wire, 10, Sends::of_turns(20));
     counts(&rt, &mut driver, &[], 0);
     counts(&rt, &mut driver, &TURNS, 1);
     counts(&rt, &mut driver, &[RESERVES], 3);
+}
+
+/// A turn that the diary refuses sends nothing: the node, which would answer it, doesn't. The Lock stays due.
+const REFUSED: [Row; 4] = [
+    WELCOMED,
+    (
+        Act::Reserve(ONE),
+        Err(DriverError::Client(ClientError::OutOfMemory)),
+        Phase::Locking,
+    ),
+    (
+        Act::Turn,
+        Err(DriverError::Client(ClientError::OutOfMemory)),
+        Phase::Locking,
+    ),
+    (Act::GiveUp, DONE, Phase::GivingUp),
+];
+
+#[test]
+fn nothing_is_sent_if_the_diary_refuses_it(rt: HostRuntime) {
+    let wire = Wire::new(Node::new(&rt, rt.alloc()));
+    let mut driver = Driver::with_diary(client(&rt, rt.alloc()), wire, 10, Sends::of_turns(1));
+    counts(&rt, &mut driver, &REFUSED, 1);
+}
+
+#[test]
+fn a_diary_is_settled_when_it_is_asked(rt: HostRuntime) {
+    let wire = Wire::new(Node::new(&rt, rt.alloc()));
+    let mut driver = Driver::with_diary(client(&rt, rt.alloc()), wire, 10, Sends::of_turns(9));
+    counts(&rt, &mut driver, &TURNS, 1);
+    assert_eq!(rt; driver.diary().answers, 0);
+    assert_eq!(rt; driver.settle(), Ok(()));
+    assert_eq!(rt; driver.diary().answers, 1);
+    assert_eq!(rt; driver.phase(), Phase::Idle);
 }
