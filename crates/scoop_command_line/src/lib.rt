@@ -34,9 +34,9 @@ use key_command::KEY_MAKER;
 use local_commands::{ANSWER, DEMO, FRAME, WORLD};
 pub use options::{
     AnswerOptions, Asked, AuditOptions, ClientOptions, DemoOptions, JournalChoice, LogChoice,
-    NodeOptions, StoreChoice, UpOptions, WorldOptions, asked_in, client_options,
+    NodeOptions, StoreChoice, UpOptions, WorldOptions, asked_in, client_options, node_options,
 };
-pub use own_commands::parse_client;
+pub use own_commands::{parse_client, parse_node};
 use rows::{ArgumentRow, CommandRow};
 use std::alloc::{AllocError, Global};
 use system_commands::{CHECK, CLIENT, NODE, STORE};

@@ -242,7 +242,8 @@ fn log_choice(given: &ArgMatches<'_>) -> LogChoice {
     }
 }
 
-fn node_options<'a>(given: &'a ArgMatches<'_>) -> NodeOptions<'a> {
+/// The options of a node in its matches.
+pub fn node_options<'a>(given: &'a ArgMatches<'_>) -> NodeOptions<'a> {
     NodeOptions {
         number: given.get_one::<u32>("number").unwrap_or(0),
         system: text_of(given, "system"),

@@ -1,10 +1,19 @@
-//! The command line of a client of one's own, whose commands are calls.
+//! The command lines of programs of one's own: a node with its own objects, and a client whose commands are calls.
 
 use crate::rows::CommandRow;
-use crate::system_commands::CLIENT_ARGUMENTS;
+use crate::system_commands::{CLIENT_ARGUMENTS, NODE_ARGUMENTS};
 use crate::{bare, with_argument};
 use clap::{ArgMatches, Command, Error};
 use std::alloc::{AllocError, Global};
+
+const OWN_NODE: CommandRow = CommandRow {
+    name: "node",
+    usage: None,
+    about: "Runs a node of a SCOOP system, with objects of its own",
+    help: "Runs a node of the system in a file as `scoop node` does, with the objects that this program makes. Output, \
+        log, statuses and files are those of `scoop node`: see its help.",
+    arguments: &NODE_ARGUMENTS,
+};
 
 const OWN_CLIENT: CommandRow = CommandRow {
     name: "client",
@@ -20,16 +29,21 @@ const OWN_CLIENT: CommandRow = CommandRow {
 // The arguments that only a client of lines has.
 const OF_LINES: [&str; 2] = ["strict", "lines"];
 
+/// The matches of the words of a program that is a node, the program's name first. They are read by [`crate::node_options`].
+pub fn parse_node<'a>(alloc: Global, words: &'a [String]) -> Result<ArgMatches<'a>, Error> {
+    own_command(alloc, &OWN_NODE)?.try_get_matches_from(words)
+}
+
 /// The matches of the words of a program that is a client, the program's name first. They are read by
 /// [`crate::client_options`].
 pub fn parse_client<'a>(alloc: Global, words: &'a [String]) -> Result<ArgMatches<'a>, Error> {
-    own_client(alloc)?.try_get_matches_from(words)
+    own_command(alloc, &OWN_CLIENT)?.try_get_matches_from(words)
 }
 
-// The command of such a client. It is called by the program's name.
-fn own_client<'a>(alloc: Global) -> Result<Command<'a>, AllocError> {
-    let mut command = bare(alloc, &OWN_CLIENT).version("0.1.0");
-    for argument in OWN_CLIENT.arguments {
+// The command of the row. It is called by the program's name.
+fn own_command<'a>(alloc: Global, row: &CommandRow) -> Result<Command<'a>, AllocError> {
+    let mut command = bare(alloc, row).version("0.1.0");
+    for argument in row.arguments {
         if !OF_LINES.contains(&argument.name) {
             command = with_argument(command, argument, &[], alloc)?;
         }

@@ -51,7 +51,7 @@ pub(crate) const NODE: CommandRow = CommandRow {
     arguments: &NODE_ARGUMENTS,
 };
 
-const NODE_ARGUMENTS: [ArgumentRow; 13] = [
+pub(crate) const NODE_ARGUMENTS: [ArgumentRow; 13] = [
     ArgumentRow {
         name: "number",
         place: Place::Word,

@@ -45,6 +45,21 @@ impl Objects for Tables {
     }
 }
 
+/// Makes what the maker behind the reference makes.
+impl<'o, O: Objects> Objects for &'o O {
+    type Object = O::Object;
+
+    fn object(
+        &self,
+        alloc: Global,
+        handler: HandlerId,
+        class: &Class,
+        words: Words,
+    ) -> Result<Option<O::Object>, OutOfMemory> {
+        (**self).object(alloc, handler, class, words)
+    }
+}
+
 /// An object of a program's own type, which a handler runs without a box.
 #[derive(Drop)]
 pub struct Native<O: Object> {
