@@ -1,10 +1,12 @@
-//! A keeper that looks whether its file still has its name.
+//! A keeper that looks whether its file still has its name, and says beside it how far the store goes.
 
 ghost use Rattle.std.specs.Prelude.{◌≡◌, ◌⊎◌, Err};
 
+use crate::beside::{note_marks, text_file, update_incarnation, update_marks};
 use scoop_handler::{HandlerState, Heard};
 use scoop_keeper::{Keeper, KeeperError};
 use scoop_message::{ClientId, HandlerId, Message, OutOfMemory};
+use scoop_owner::Newest;
 use std::alloc::Global;
 use std::fs;
 use std::io::ErrorKind;
@@ -20,12 +22,14 @@ const BETWEEN: u32 = 63;
 pub struct StoreName {
     path: String,
     log: String,
+    text: String,
     is_lost: AtomicBool,
 }
 
 impl StoreName {
     /// The name of the store in the file of this path.
     pub fn new(alloc: Global, path: &str) -> Result<StoreName, OutOfMemory> {
+        let text = text_file(alloc, path)?;
         let log = match format!(in alloc; "{path}-wal") {
             Ok(log) => log,
             Err(_) => return Err(OutOfMemory),
@@ -34,6 +38,7 @@ impl StoreName {
             Ok(path) => Ok(StoreName {
                 path,
                 log,
+                text,
                 is_lost: AtomicBool::new(false),
             }),
             Err(_) => Err(OutOfMemory),
@@ -106,6 +111,11 @@ fn is_cut(first: Found, second: Found) -> bool {
 /// A keeper that passes every call on to the one under it, over the store of this name. It looks at the name at its first put,
 /// and at every 64th one after it. The put is `Refused` if the name leads to another file than when the keeper was made, or to
 /// none, or if the file was cut. The log is looked at too, if it stands beside the name: if the name is a link, it doesn't.
+///
+/// At each look but the first, and at the end, the text beside the store gets lines for the marks that were stored since the
+/// last one, if there is such a text. It gets a client's incarnation at once. It never says more than what is stored, and a
+/// text that can't be written stays as it is.
+///
 /// Contracts see the keeper under it.
 #[derive(Drop)]
 pub struct NamedKeeper<'a, K> {
@@ -116,6 +126,8 @@ pub struct NamedKeeper<'a, K> {
     log: Found,
     // How many puts go before the next look.
     left: u32,
+    // The marks that were stored since the text was written.
+    seen: Vec<Newest>,
 }
 
 impl<'a, K> Model for NamedKeeper<'a, K> {
@@ -136,16 +148,19 @@ impl<'a, K: Drop> NamedKeeper<'a, K> {
             file: look(rt, name.path.as_str()),
             log: look(rt, name.log.as_str()),
             left: 0,
+            seen: Vec::new(rt.alloc()),
         }
     }
 
     /// The keeper under this one. Looks at the file's name once more. It doesn't look at the log's: a close copies the log into
     /// the file.
-    pub fn into_inner(self) -> K
+    pub fn into_inner(mut self) -> K
         ensures { result ≡ self.entry }
     {
         let found = look(self.rt, self.name.path.as_str());
-        if !self.is_file(found) {
+        if self.is_file(found) {
+            self.write_seen();
+        } else {
             self.name.lose();
         }
         self.keeper
@@ -168,8 +183,26 @@ impl<'a, K: Drop> NamedKeeper<'a, K> {
             self.name.lose();
             return false;
         }
+        self.write_seen();
         self.left = BETWEEN;
         true
+    }
+
+    // Notes the marks of a state that was stored. One for which there is no room is missing in the text, which is then older.
+    fn note(&mut self, state: &HandlerState)
+        ensures { self.new ≡ self.old }
+    {
+        let _noted = note_marks(&mut self.seen, state);
+    }
+
+    // Brings the text up to date. What isn't written is kept for the next look.
+    fn write_seen(&mut self)
+        ensures { self.new ≡ self.old }
+    {
+        let text = self.name.text.as_str();
+        if !self.seen.is_empty() && update_marks(self.rt, text, self.seen.as_slice()) {
+            self.seen.clear();
+        }
     }
 
     // Whether the name still leads to the file, which isn't cut, and to its log.
@@ -210,7 +243,11 @@ impl<'a, K: Keeper<Global>> Keeper<Global> for NamedKeeper<'a, K> {
         if !self.passes() {
             return Err(KeeperError::Refused);
         }
-        self.keeper.put_handler(state)
+        let put = self.keeper.put_handler(state);
+        if put.is_ok() {
+            self.note(state);
+        }
+        put
     }
 
     fn load_handler(&mut self, handler: HandlerId) -> Result<Option<HandlerState>, KeeperError> {
@@ -218,7 +255,11 @@ impl<'a, K: Keeper<Global>> Keeper<Global> for NamedKeeper<'a, K> {
     }
 
     fn next_incarnation(&mut self, client: ClientId) -> Result<u32, KeeperError> {
-        self.keeper.next_incarnation(client)
+        let next = self.keeper.next_incarnation(client);
+        if let Ok(inc) = next {
+            let _written = update_incarnation(self.rt, self.name.text.as_str(), inc);
+        }
+        next
     }
 
     fn note_heard(&mut self, message: &Message, heard: &Heard) -> Result<(), KeeperError> {
