@@ -50,7 +50,7 @@ impl StoreName {
         self.path.as_str()
     }
 
-    /// Whether a keeper has found that the name led to another file or none, or that the file was cut.
+    /// Whether a keeper or a watch has found that the name led to another file or none, or that the file was cut.
     pub fn is_lost(&self) -> bool {
         self.is_lost.load(Ordering::SeqCst)
     }
@@ -108,9 +108,74 @@ fn is_cut(first: Found, second: Found) -> bool {
     }
 }
 
+// What a store's name and its log led to, at the first look or a later one.
+#[derive(Clone, Copy)]
+struct Standing {
+    file: Found,
+    log: Found,
+}
+
+impl Standing {
+    fn of(rt: &HostRuntime, name: &StoreName) -> Standing {
+        Standing {
+            file: look(rt, name.path.as_str()),
+            log: look(rt, name.log.as_str()),
+        }
+    }
+
+    // Whether the look may have found the file, which isn't cut.
+    fn is_file(self, found: Found) -> bool {
+        may_be_one(self.file, found) && !is_cut(self.file, found)
+    }
+
+    // Whether the name still leads to the file, which isn't cut, and to its log.
+    fn has_name(&mut self, rt: &HostRuntime, name: &StoreName) -> bool {
+        let found = look(rt, name.path.as_str());
+        if !self.is_file(found) {
+            return false;
+        }
+        if let Found::File { .. } = found {
+            self.file = found;
+        }
+        match self.log {
+            Found::File { .. } => may_be_one(self.log, look(rt, name.log.as_str())),
+            Found::Nothing | Found::Unknown => true,
+        }
+    }
+}
+
+/// A watch over the name of a store whose keeper is elsewhere.
+#[derive(Drop)]
+pub struct NameWatch<'a> {
+    rt: &'a HostRuntime,
+    name: &'a StoreName,
+    standing: Standing,
+}
+
+impl<'a> NameWatch<'a> {
+    /// Looks after this name, whose store is open.
+    pub fn new(rt: &'a HostRuntime, name: &'a StoreName) -> NameWatch<'a> {
+        NameWatch {
+            rt,
+            name,
+            standing: Standing::of(rt, name),
+        }
+    }
+
+    /// Looks whether the name leads to the same file and log as when the watch was made, and the file wasn't cut. If not, the
+    /// name counts as lost, and its keeper refuses every put.
+    pub fn has_name(&mut self) -> bool {
+        let has = self.standing.has_name(self.rt, self.name);
+        if !has {
+            self.name.lose();
+        }
+        has
+    }
+}
+
 /// A keeper that passes every call on to the one under it, over the store of this name. It looks at the name at its first put,
 /// and at every 64th one after it. The put is `Refused` if the name leads to another file than when the keeper was made, or to
-/// none, or if the file was cut. The log is looked at too, if it stands beside the name: if the name is a link, it doesn't.
+/// none, or if the file was cut, and so is every later one. The log is looked at too, if it stands beside the name: if the name is a link, it doesn't.
 ///
 /// At each look but the first, and at the end, the text beside the store gets lines for the marks that were stored since the
 /// last one, if there is such a text. It gets a client's incarnation at once. It never says more than what is stored, and a
@@ -122,8 +187,7 @@ pub struct NamedKeeper<'a, K> {
     keeper: K,
     rt: &'a HostRuntime,
     name: &'a StoreName,
-    file: Found,
-    log: Found,
+    standing: Standing,
     // How many puts go before the next look.
     left: u32,
     // The marks that were stored since the text was written.
@@ -145,8 +209,7 @@ impl<'a, K: Drop> NamedKeeper<'a, K> {
             keeper,
             rt,
             name,
-            file: look(rt, name.path.as_str()),
-            log: look(rt, name.log.as_str()),
+            standing: Standing::of(rt, name),
             left: 0,
             seen: Vec::new(rt.alloc()),
         }
@@ -158,28 +221,26 @@ impl<'a, K: Drop> NamedKeeper<'a, K> {
         ensures { result ≡ self.entry }
     {
         let found = look(self.rt, self.name.path.as_str());
-        if self.is_file(found) {
-            self.write_seen();
-        } else {
+        if self.name.is_lost() || !self.standing.is_file(found) {
             self.name.lose();
+        } else {
+            self.write_seen();
         }
         self.keeper
     }
 
-    // Whether the look may have found the file, which isn't cut.
-    fn is_file(&self, found: Found) -> bool {
-        may_be_one(self.file, found) && !is_cut(self.file, found)
-    }
-
-    // Counts a put, and returns whether it is passed on. After a look that failed, the next put looks again.
+    // Counts a put, and returns whether it is passed on.
     fn passes(&mut self) -> bool
         ensures { self.new ≡ self.old }
     {
+        if self.name.is_lost() {
+            return false;
+        }
         if self.left > 0 {
             self.left -= 1;
             return true;
         }
-        if !self.has_name() {
+        if !self.standing.has_name(self.rt, self.name) {
             self.name.lose();
             return false;
         }
@@ -202,23 +263,6 @@ impl<'a, K: Drop> NamedKeeper<'a, K> {
         let text = self.name.text.as_str();
         if !self.seen.is_empty() && update_marks(self.rt, text, self.seen.as_slice()) {
             self.seen.clear();
-        }
-    }
-
-    // Whether the name still leads to the file, which isn't cut, and to its log.
-    fn has_name(&mut self) -> bool
-        ensures { self.new ≡ self.old }
-    {
-        let found = look(self.rt, self.name.path.as_str());
-        if !self.is_file(found) {
-            return false;
-        }
-        if let Found::File { .. } = found {
-            self.file = found;
-        }
-        match self.log {
-            Found::File { .. } => may_be_one(self.log, look(self.rt, self.name.log.as_str())),
-            Found::Nothing | Found::Unknown => true,
         }
     }
 }

@@ -2,8 +2,8 @@
 
 use super::named::path_of;
 use scoop_files::{
-    FileError, NamedKeeper, StoreName, adopt_since, close, create_after, replace_text, text_file,
-    update_marks,
+    FileError, NameWatch, NamedKeeper, StoreName, adopt_since, close, create_after, replace_text,
+    text_file, update_marks,
 };
 use scoop_handler::HandlerState;
 use scoop_keeper::{FailingKeeper, Keeper, KeeperError, MemoryKeeper};
@@ -203,6 +203,27 @@ fn a_clients_incarnation_is_in_the_text_at_once(rt: HostRuntime) -> Result<(), F
     assert!(rt; !is_older(&files, 0)?);
     assert!(rt; !is_older(&files, 42)?);
     assert!(rt; is_older(&files, 43)?);
+    files.remove();
+    Ok(())
+}
+
+#[test]
+fn a_watch_that_finds_a_loss_ends_all_puts(rt: HostRuntime) -> Result<(), Fail> {
+    let alloc = rt.alloc();
+    let files = Files::new(&rt, "watched")?;
+    fs::write(&rt, files.path.as_str(), "a store")?;
+    let name = StoreName::new(alloc, files.path.as_str())?;
+    let mut watch = NameWatch::new(&rt, &name);
+    let mut keeper = NamedKeeper::new(&rt, MemoryKeeper::new(alloc), &name);
+    let first = state(alloc, 1, 1)?;
+    keeper.put_handler(&first)?;
+    assert!(rt; watch.has_name());
+    keeper.put_handler(&first)?;
+    fs::remove_file(&rt, files.path.as_str())?;
+    assert!(rt; !watch.has_name());
+    assert!(rt; name.is_lost());
+    fs::write(&rt, files.path.as_str(), "a store")?;
+    assert_eq!(rt; keeper.put_handler(&first), Err(KeeperError::Refused));
     files.remove();
     Ok(())
 }
