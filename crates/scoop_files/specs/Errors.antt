@@ -5,7 +5,7 @@ use Rattle.scoop_keeper.specs.Text.{error_text as keeper_text}
 use Rattle.scoop_keeper.specs.declared.keeper.KeeperError.{KeeperError}
 use Rattle.scoop_keeper.specs.declared.keeper.KeeperError.TheVariants as keeper
 use Rattle.scoop_files.specs.declared.error.FileError.{FileError}
-use Rattle.scoop_files.specs.declared.error.FileError.TheVariants.{NoFile, Taken, InUse, Unopened, Foreign, NoStore, NoIncarnation, Unclosed, Lost, Store}
+use Rattle.scoop_files.specs.declared.error.FileError.TheVariants.{NoFile, Taken, InUse, Unopened, Foreign, NoStore, NoIncarnation, Unclosed, Lost, Older, OlderClient, Store}
 
 abbrev pub refusal_text : KeeperError → List ℕ
 refusal_text keeper.OutOfMemory = codes "out of memory"
@@ -23,6 +23,8 @@ error_text Foreign = codes "store: Refused"
 error_text NoStore = codes "store: Refused"
 error_text Unclosed = codes "store: Refused"
 error_text Lost = codes "store: Refused"
+error_text Older = codes "store: Refused"
+error_text OlderClient = codes "store: Refused"
 error_text (NoIncarnation c) = codes "store: NoIncarnation " ++ decimal c.0
 error_text (Store refusal) = refusal_text refusal
 
@@ -36,4 +38,6 @@ advice_text NoStore = codes "it has no tables of a store: first put the -wal fil
 advice_text (NoIncarnation c) = codes "this client never ran with it: name the client's own store, or make one by --new if the client never ran"
 advice_text Unclosed = codes "its -wal could not be copied into it: keep both files, which have all that was answered, and resume with --store"
 advice_text Lost = codes "the file or its -wal was moved, replaced, deleted or cut while the store was open. If both were moved, move them back, and resume with --store; else the store is lost"
+advice_text Older = codes "first put the -wal file that belongs to it back beside it. An old copy has lost what was answered since it was made. To go on with it nevertheless, delete the newest lines from the .system file beside it: what was lost stays lost"
+advice_text OlderClient = codes "first put the -wal file that belongs to it back beside it. An old copy would take incarnations a second time: make a new store by --new and --after N instead, where N is the incarnation in the .system file beside it"
 advice_text (Store _) = []

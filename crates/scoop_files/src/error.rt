@@ -33,6 +33,10 @@ pub enum FileError {
     Unclosed,
     /// The store's name led to another file or none, or the file was cut, while the store was open.
     Lost,
+    /// A node's store is older than the text beside it says.
+    Older,
+    /// So is a client's store: its last incarnation is below the one in the text.
+    OlderClient,
     /// This refusal of the store.
     Store(KeeperError),
 }
@@ -74,6 +78,14 @@ impl FileError {
                 "the file or its -wal was moved, replaced, deleted or cut while the store was open. If both were moved, move them \
                 back, and resume with --store; else the store is lost"
             }
+            FileError::Older => {
+                "first put the -wal file that belongs to it back beside it. An old copy has lost what was answered since it was made. \
+                To go on with it nevertheless, delete the newest lines from the .system file beside it: what was lost stays lost"
+            }
+            FileError::OlderClient => {
+                "first put the -wal file that belongs to it back beside it. An old copy would take incarnations a second time: make \
+                a new store by --new and --after N instead, where N is the incarnation in the .system file beside it"
+            }
             FileError::Store(_) => "",
         }
     }
@@ -94,7 +106,9 @@ impl fmt::Display for FileError {
             | FileError::Foreign
             | FileError::NoStore
             | FileError::Unclosed
-            | FileError::Lost => f.write_str("store: Refused"),
+            | FileError::Lost
+            | FileError::Older
+            | FileError::OlderClient => f.write_str("store: Refused"),
             FileError::NoIncarnation(client) => write!(f, "store: NoIncarnation {client}"),
             FileError::Store(KeeperError::OutOfMemory) => f.write_str("out of memory"),
             FileError::Store(refusal) => write!(f, "store: {refusal}"),

@@ -1,9 +1,12 @@
 //! Stores in files: made, adopted, and closed.
 //!
 //! - [`create`] makes a store in a file, and [`create_after`] one that begins above an incarnation.
-//! - [`adopt`] takes the store that is there, and [`adopt_for`] does so if it has a client's incarnation.
+//! - [`adopt`] takes the store that is there. [`adopt_for`] does so if it has a client's incarnation, and [`adopt_since`] if that
+//!   is no older than a known one.
 //! - [`close`] leaves the file whole, and [`close_named`] does so unless the file has lost its name.
-//! - A [`NamedKeeper`] refuses once the file has lost its name.
+//! - A [`NamedKeeper`] refuses once the file has lost its name. It says in the text beside the store how far the store goes.
+//! - A [`NameWatch`] looks after the name of a store whose keeper is elsewhere.
+//! - [`update_marks`] brings that text up to date, and [`replace_text`] writes it so that a kill leaves it whole.
 //! - A [`FileError`] says what is wrong and what to do, and [`report_file`] prints it.
 //!
 //! ```
@@ -24,13 +27,17 @@
 //! ```
 #![tactic(auto)]
 
+mod beside;
 mod error;
 mod foreign;
 mod named;
 mod report;
 mod store;
 
+pub use beside::{note_marks, replace_text, text_file, update_marks};
 pub use error::FileError;
-pub use named::{NamedKeeper, StoreName};
+pub use named::{NameWatch, NamedKeeper, StoreName};
 pub use report::report_file;
-pub use store::{FiledStore, adopt, adopt_for, close, close_named, create, create_after};
+pub use store::{
+    FiledStore, adopt, adopt_for, adopt_since, close, close_named, create, create_after,
+};

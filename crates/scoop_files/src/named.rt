@@ -1,10 +1,12 @@
-//! A keeper that looks whether its file still has its name.
+//! A keeper that looks whether its file still has its name, and says beside it how far the store goes.
 
 ghost use Rattle.std.specs.Prelude.{◌≡◌, ◌⊎◌, Err};
 
+use crate::beside::{note_marks, text_file, update_incarnation, update_marks};
 use scoop_handler::{HandlerState, Heard};
 use scoop_keeper::{Keeper, KeeperError};
 use scoop_message::{ClientId, HandlerId, Message, OutOfMemory};
+use scoop_owner::Newest;
 use std::alloc::Global;
 use std::fs;
 use std::io::ErrorKind;
@@ -20,12 +22,14 @@ const BETWEEN: u32 = 63;
 pub struct StoreName {
     path: String,
     log: String,
+    text: String,
     is_lost: AtomicBool,
 }
 
 impl StoreName {
     /// The name of the store in the file of this path.
     pub fn new(alloc: Global, path: &str) -> Result<StoreName, OutOfMemory> {
+        let text = text_file(alloc, path)?;
         let log = match format!(in alloc; "{path}-wal") {
             Ok(log) => log,
             Err(_) => return Err(OutOfMemory),
@@ -34,6 +38,7 @@ impl StoreName {
             Ok(path) => Ok(StoreName {
                 path,
                 log,
+                text,
                 is_lost: AtomicBool::new(false),
             }),
             Err(_) => Err(OutOfMemory),
@@ -45,7 +50,7 @@ impl StoreName {
         self.path.as_str()
     }
 
-    /// Whether a keeper has found that the name led to another file or none, or that the file was cut.
+    /// Whether a keeper or a watch has found that the name led to another file or none, or that the file was cut.
     pub fn is_lost(&self) -> bool {
         self.is_lost.load(Ordering::SeqCst)
     }
@@ -103,19 +108,90 @@ fn is_cut(first: Found, second: Found) -> bool {
     }
 }
 
+// What a store's name and its log led to, at the first look or a later one.
+#[derive(Clone, Copy)]
+struct Standing {
+    file: Found,
+    log: Found,
+}
+
+impl Standing {
+    fn of(rt: &HostRuntime, name: &StoreName) -> Standing {
+        Standing {
+            file: look(rt, name.path.as_str()),
+            log: look(rt, name.log.as_str()),
+        }
+    }
+
+    // Whether the look may have found the file, which isn't cut.
+    fn is_file(self, found: Found) -> bool {
+        may_be_one(self.file, found) && !is_cut(self.file, found)
+    }
+
+    // Whether the name still leads to the file, which isn't cut, and to its log.
+    fn has_name(&mut self, rt: &HostRuntime, name: &StoreName) -> bool {
+        let found = look(rt, name.path.as_str());
+        if !self.is_file(found) {
+            return false;
+        }
+        if let Found::File { .. } = found {
+            self.file = found;
+        }
+        match self.log {
+            Found::File { .. } => may_be_one(self.log, look(rt, name.log.as_str())),
+            Found::Nothing | Found::Unknown => true,
+        }
+    }
+}
+
+/// A watch over the name of a store whose keeper is elsewhere.
+#[derive(Drop)]
+pub struct NameWatch<'a> {
+    rt: &'a HostRuntime,
+    name: &'a StoreName,
+    standing: Standing,
+}
+
+impl<'a> NameWatch<'a> {
+    /// Looks after this name, whose store is open.
+    pub fn new(rt: &'a HostRuntime, name: &'a StoreName) -> NameWatch<'a> {
+        NameWatch {
+            rt,
+            name,
+            standing: Standing::of(rt, name),
+        }
+    }
+
+    /// Looks whether the name leads to the same file and log as when the watch was made, and the file wasn't cut. If not, the
+    /// name counts as lost, and its keeper refuses every put.
+    pub fn has_name(&mut self) -> bool {
+        let has = self.standing.has_name(self.rt, self.name);
+        if !has {
+            self.name.lose();
+        }
+        has
+    }
+}
+
 /// A keeper that passes every call on to the one under it, over the store of this name. It looks at the name at its first put,
 /// and at every 64th one after it. The put is `Refused` if the name leads to another file than when the keeper was made, or to
-/// none, or if the file was cut. The log is looked at too, if it stands beside the name: if the name is a link, it doesn't.
+/// none, or if the file was cut, and so is every later one. The log is looked at too, if it stands beside the name: if the name is a link, it doesn't.
+///
+/// At each look but the first, and at the end, the text beside the store gets lines for the marks that were stored since the
+/// last one, if there is such a text. It gets a client's incarnation at once. It never says more than what is stored, and a
+/// text that can't be written stays as it is.
+///
 /// Contracts see the keeper under it.
 #[derive(Drop)]
 pub struct NamedKeeper<'a, K> {
     keeper: K,
     rt: &'a HostRuntime,
     name: &'a StoreName,
-    file: Found,
-    log: Found,
+    standing: Standing,
     // How many puts go before the next look.
     left: u32,
+    // The marks that were stored since the text was written.
+    seen: Vec<Newest>,
 }
 
 impl<'a, K> Model for NamedKeeper<'a, K> {
@@ -133,59 +209,60 @@ impl<'a, K: Drop> NamedKeeper<'a, K> {
             keeper,
             rt,
             name,
-            file: look(rt, name.path.as_str()),
-            log: look(rt, name.log.as_str()),
+            standing: Standing::of(rt, name),
             left: 0,
+            seen: Vec::new(rt.alloc()),
         }
     }
 
     /// The keeper under this one. Looks at the file's name once more. It doesn't look at the log's: a close copies the log into
     /// the file.
-    pub fn into_inner(self) -> K
+    pub fn into_inner(mut self) -> K
         ensures { result ≡ self.entry }
     {
         let found = look(self.rt, self.name.path.as_str());
-        if !self.is_file(found) {
+        if self.name.is_lost() || !self.standing.is_file(found) {
             self.name.lose();
+        } else {
+            self.write_seen();
         }
         self.keeper
     }
 
-    // Whether the look may have found the file, which isn't cut.
-    fn is_file(&self, found: Found) -> bool {
-        may_be_one(self.file, found) && !is_cut(self.file, found)
-    }
-
-    // Counts a put, and returns whether it is passed on. After a look that failed, the next put looks again.
+    // Counts a put, and returns whether it is passed on.
     fn passes(&mut self) -> bool
         ensures { self.new ≡ self.old }
     {
+        if self.name.is_lost() {
+            return false;
+        }
         if self.left > 0 {
             self.left -= 1;
             return true;
         }
-        if !self.has_name() {
+        if !self.standing.has_name(self.rt, self.name) {
             self.name.lose();
             return false;
         }
+        self.write_seen();
         self.left = BETWEEN;
         true
     }
 
-    // Whether the name still leads to the file, which isn't cut, and to its log.
-    fn has_name(&mut self) -> bool
+    // Notes the marks of a state that was stored. One for which there is no room is missing in the text, which is then older.
+    fn note(&mut self, state: &HandlerState)
         ensures { self.new ≡ self.old }
     {
-        let found = look(self.rt, self.name.path.as_str());
-        if !self.is_file(found) {
-            return false;
-        }
-        if let Found::File { .. } = found {
-            self.file = found;
-        }
-        match self.log {
-            Found::File { .. } => may_be_one(self.log, look(self.rt, self.name.log.as_str())),
-            Found::Nothing | Found::Unknown => true,
+        let _noted = note_marks(&mut self.seen, state);
+    }
+
+    // Brings the text up to date. What isn't written is kept for the next look.
+    fn write_seen(&mut self)
+        ensures { self.new ≡ self.old }
+    {
+        let text = self.name.text.as_str();
+        if !self.seen.is_empty() && update_marks(self.rt, text, self.seen.as_slice()) {
+            self.seen.clear();
         }
     }
 }
@@ -210,7 +287,11 @@ impl<'a, K: Keeper<Global>> Keeper<Global> for NamedKeeper<'a, K> {
         if !self.passes() {
             return Err(KeeperError::Refused);
         }
-        self.keeper.put_handler(state)
+        let put = self.keeper.put_handler(state);
+        if put.is_ok() {
+            self.note(state);
+        }
+        put
     }
 
     fn load_handler(&mut self, handler: HandlerId) -> Result<Option<HandlerState>, KeeperError> {
@@ -218,7 +299,11 @@ impl<'a, K: Keeper<Global>> Keeper<Global> for NamedKeeper<'a, K> {
     }
 
     fn next_incarnation(&mut self, client: ClientId) -> Result<u32, KeeperError> {
-        self.keeper.next_incarnation(client)
+        let next = self.keeper.next_incarnation(client);
+        if let Ok(inc) = next {
+            let _written = update_incarnation(self.rt, self.name.text.as_str(), inc);
+        }
+        next
     }
 
     fn note_heard(&mut self, message: &Message, heard: &Heard) -> Result<(), KeeperError> {

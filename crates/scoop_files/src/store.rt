@@ -6,7 +6,7 @@ use crate::named::StoreName;
 use scoop_keeper::KeeperError;
 use scoop_message::ClientId;
 use scoop_record::{Store, adopt_tables};
-use sqlite::{Alter, Connection, Error, ErrorCode, File, FileStore, params};
+use sqlite::{Alter, Connection, Error, ErrorCode, File, FileStore, Row, params};
 use std::alloc::Global;
 use std::fs;
 
@@ -79,8 +79,18 @@ pub fn adopt(rt: &HostRuntime, path: &str) -> Result<FiledStore, FileError> {
 
 /// The store that is in the file, if it has an incarnation of this client; else `NoIncarnation`.
 pub fn adopt_for(rt: &HostRuntime, path: &str, client: ClientId) -> Result<FiledStore, FileError> {
+    adopt_since(rt, path, client, 0)
+}
+
+/// The same, if that incarnation is `least` or a later one; else `OlderClient`.
+pub fn adopt_since(
+    rt: &HostRuntime,
+    path: &str,
+    client: ClientId,
+    least: u32,
+) -> Result<FiledStore, FileError> {
     let mut connection = open_old(rt, path)?;
-    match require_client(rt.alloc(), &mut connection, client) {
+    match require_client(rt.alloc(), &mut connection, client, least) {
         Ok(()) => {}
         Err(error) => return Err(error),
     }
@@ -90,30 +100,43 @@ pub fn adopt_for(rt: &HostRuntime, path: &str, client: ClientId) -> Result<Filed
     }
 }
 
-// Makes the tables those of this version, and looks for an incarnation of the client.
+// Makes the tables those of this version, and looks for an incarnation of the client, which is this one or a later one.
 fn require_client<S: Alter>(
     alloc: Global,
     connection: &mut Connection<S>,
     client: ClientId,
+    least: u32,
 ) -> Result<(), FileError> {
     match adopt_tables(alloc, connection) {
         Ok(()) => {}
         Err(refusal) => return Err(refused(refusal, FileError::NoStore)),
     }
-    match has_incarnation(connection, client) {
-        Ok(true) => Ok(()),
-        Ok(false) => Err(FileError::NoIncarnation(client)),
+    match incarnation_in(connection, client) {
+        Ok(Some(last)) if last < i64::from(least) => Err(FileError::OlderClient),
+        Ok(Some(_)) => Ok(()),
+        Ok(None) => Err(FileError::NoIncarnation(client)),
         Err(error) => Err(error),
     }
 }
 
-// Whether the client has an incarnation there.
-fn has_incarnation<S: Alter>(
+// The incarnation that the client has there, if it has one.
+fn incarnation_in<S: Alter>(
     connection: &mut Connection<S>,
     client: ClientId,
-) -> Result<bool, FileError> {
+) -> Result<Option<i64>, FileError> {
     match connection.query_all("SELECT inc FROM clients WHERE c = ?1", params![client.0]) {
-        Ok(rows) => Ok(!rows.is_empty()),
+        Ok(rows) => match rows.first() {
+            Some(row) => first_number(row),
+            None => Ok(None),
+        },
+        Err(error) => Err(unread(error, FileError::Store(KeeperError::Refused))),
+    }
+}
+
+// The number in the first column of a row.
+fn first_number(row: &Row) -> Result<Option<i64>, FileError> {
+    match row.get(0) {
+        Ok(number) => Ok(Some(number)),
         Err(error) => Err(unread(error, FileError::Store(KeeperError::Refused))),
     }
 }

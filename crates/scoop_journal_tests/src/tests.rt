@@ -1,6 +1,7 @@
 //! Journals.
 
 mod audits;
+mod beside;
 mod files;
 mod keepers;
 mod lines;

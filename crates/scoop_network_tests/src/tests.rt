@@ -2,6 +2,7 @@
 
 mod admission;
 mod lives;
+mod newest;
 mod owners;
 mod pacing;
 

@@ -1,1 +1,3 @@
 pub mod Owner
+pub mod Newest
+pub mod Incarnation

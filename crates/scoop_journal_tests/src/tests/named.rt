@@ -31,8 +31,8 @@ enum Change {
     LogDeleted,
 }
 
-// The path of a file of this test's process.
-fn path_of(rt: &HostRuntime, name: &str) -> Result<PathBuf, Fail> {
+/// The path of a file of this test's process.
+pub fn path_of(rt: &HostRuntime, name: &str) -> Result<PathBuf, Fail> {
     let alloc = rt.alloc();
     let name = format!(in alloc; "scoop-{}-{name}.db", process::id(rt.process()))?;
     Ok(env::temp_dir(rt)?.join(alloc, name.as_str())?)

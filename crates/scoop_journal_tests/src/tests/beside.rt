@@ -1,0 +1,229 @@
+//! Texts beside stores, which keepers bring up to date.
+
+use super::named::path_of;
+use scoop_files::{
+    FileError, NameWatch, NamedKeeper, StoreName, adopt_since, close, create_after, replace_text,
+    text_file, update_marks,
+};
+use scoop_handler::HandlerState;
+use scoop_keeper::{FailingKeeper, Keeper, KeeperError, MemoryKeeper};
+use scoop_message::{Block, ClientId, HandlerId};
+use scoop_owner::Newest;
+use scoop_record::read_image;
+use std::alloc::Global;
+use std::fs;
+use std::test::Fail;
+
+const CLIENT: ClientId = ClientId(7);
+
+const OWNER: &str = "node = 1\nnewest.3.8 = \"8.1.1\"\n";
+
+// A handler whose one word is 5, and on whose lock client 7's block 9.0 never waited.
+const IMAGE: [u8; 36] =
+    *b"\x02\0\0\0\x01\x01\0\0\0\0\0\0\0\x05\0\x01\0\0\0\x07\0\0\0\x09\0\0\0\0\x03\0\0\0\0\0\0\0";
+
+// The state of this handler with client 7's block 9.`num`, which is shut.
+fn state(alloc: Global, handler: u8, num: u8) -> Result<HandlerState, Fail> {
+    let mut image = IMAGE;
+    image[4] = handler;
+    image[27] = num;
+    Ok(read_image(alloc, HandlerId(u32::from(handler)), &image, &[])?)
+}
+
+// Puts a state of handler 1 and one of handler 2 in turn, that many times each.
+fn alternates<K: Keeper<Global>>(
+    alloc: Global,
+    keeper: &mut K,
+    first: u8,
+    count: u8,
+) -> Result<(), Fail> {
+    for num in first..first + count {
+        keeper.put_handler(&state(alloc, 1, num)?)?;
+        keeper.put_handler(&state(alloc, 2, num)?)?;
+    }
+    Ok(())
+}
+
+// A store's file and the text beside it.
+#[derive(Drop)]
+struct Files<'a> {
+    rt: &'a HostRuntime,
+    path: String,
+    text: String,
+}
+
+impl<'a> Files<'a> {
+    fn new(rt: &'a HostRuntime, name: &str) -> Result<Files<'a>, Fail> {
+        let path = path_of(rt, name)?;
+        let path = path.to_str().ok_or("a path")?;
+        let text = text_file(rt.alloc(), path)?;
+        let path = String::from_str(rt.alloc(), path)?;
+        Ok(Files { rt, path, text })
+    }
+
+    fn has(&self, text: &str) -> bool {
+        match fs::read_to_string(self.rt, self.text.as_str()) {
+            Ok(found) => found.as_str() == text,
+            Err(_) => false,
+        }
+    }
+
+    fn remove(&self) {
+        let _gone = fs::remove_file(self.rt, self.path.as_str());
+        let _gone = fs::remove_file(self.rt, self.text.as_str());
+    }
+}
+
+#[test]
+fn the_text_has_each_handlers_marks_after_64_puts(rt: HostRuntime) -> Result<(), Fail> {
+    let alloc = rt.alloc();
+    let files = Files::new(&rt, "marks")?;
+    fs::write(&rt, files.path.as_str(), "a store")?;
+    fs::write(&rt, files.text.as_str(), OWNER)?;
+    let name = StoreName::new(alloc, files.path.as_str())?;
+    let mut keeper = NamedKeeper::new(&rt, MemoryKeeper::new(alloc), &name);
+    alternates(alloc, &mut keeper, 1, 32)?;
+    assert!(rt; files.has(OWNER));
+    alternates(alloc, &mut keeper, 33, 1)?;
+    assert!(rt;
+        files.has(
+            "node = 1\nnewest.3.8 = \"8.1.1\"\nnewest.1.7 = \"7.9.32\"\nnewest.2.7 = \"7.9.32\"\n"
+        )
+    );
+    let _memory = keeper.into_inner();
+    assert!(rt;
+        files.has(
+            "node = 1\nnewest.3.8 = \"8.1.1\"\nnewest.1.7 = \"7.9.33\"\nnewest.2.7 = \"7.9.33\"\n"
+        )
+    );
+    files.remove();
+    Ok(())
+}
+
+#[test]
+fn a_refused_put_is_not_in_the_text(rt: HostRuntime) -> Result<(), Fail> {
+    let alloc = rt.alloc();
+    let files = Files::new(&rt, "refused")?;
+    fs::write(&rt, files.path.as_str(), "a store")?;
+    fs::write(&rt, files.text.as_str(), OWNER)?;
+    let name = StoreName::new(alloc, files.path.as_str())?;
+    let failing = FailingKeeper::new(MemoryKeeper::new(alloc), 1);
+    let mut keeper = NamedKeeper::new(&rt, failing, &name);
+    keeper.put_handler(&state(alloc, 1, 1)?)?;
+    let refused = keeper.put_handler(&state(alloc, 1, 2)?);
+    assert_eq!(rt; refused, Err(KeeperError::Refused));
+    let _failed = keeper.into_inner();
+    assert!(rt; files.has("node = 1\nnewest.3.8 = \"8.1.1\"\nnewest.1.7 = \"7.9.1\"\n"));
+    files.remove();
+    Ok(())
+}
+
+// The keeper of this store puts a state, and ends after the store's file was removed, or before.
+fn puts_one(files: &Files<'_>, alloc: Global, loses: bool) -> Result<bool, Fail> {
+    fs::write(files.rt, files.path.as_str(), "a store")?;
+    let name = StoreName::new(alloc, files.path.as_str())?;
+    let mut keeper = NamedKeeper::new(files.rt, MemoryKeeper::new(alloc), &name);
+    keeper.put_handler(&state(alloc, 1, 1)?)?;
+    if loses {
+        fs::remove_file(files.rt, files.path.as_str())?;
+    }
+    let _memory = keeper.into_inner();
+    Ok(name.is_lost())
+}
+
+#[test]
+fn a_missing_text_stays_missing(rt: HostRuntime) -> Result<(), Fail> {
+    let files = Files::new(&rt, "missing")?;
+    assert!(rt; !puts_one(&files, rt.alloc(), false)?);
+    assert!(rt; !fs::exists(&rt, files.text.as_str())?);
+    files.remove();
+    Ok(())
+}
+
+#[test]
+fn the_text_of_a_lost_store_stays_as_it_is(rt: HostRuntime) -> Result<(), Fail> {
+    let files = Files::new(&rt, "lost")?;
+    fs::write(&rt, files.text.as_str(), OWNER)?;
+    assert!(rt; puts_one(&files, rt.alloc(), true)?);
+    assert!(rt; files.has(OWNER));
+    files.remove();
+    Ok(())
+}
+
+#[test]
+fn a_new_text_takes_the_place_of_the_old_one(rt: HostRuntime) -> Result<(), Fail> {
+    let files = Files::new(&rt, "whole")?;
+    let mark = Newest {
+        handler: HandlerId(1),
+        block: Block {
+            client: CLIENT,
+            inc: 9,
+            num: 3,
+        },
+    };
+    assert!(rt; !update_marks(&rt, files.text.as_str(), &[mark]));
+    replace_text(&rt, files.text.as_str(), OWNER)?;
+    assert!(rt; files.has(OWNER));
+    assert!(rt; update_marks(&rt, files.text.as_str(), &[mark]));
+    assert!(rt; files.has("node = 1\nnewest.3.8 = \"8.1.1\"\nnewest.1.7 = \"7.9.3\"\n"));
+    let fresh = format!(in rt.alloc(); "{}.new", files.text)?;
+    assert!(rt; !fs::exists(&rt, fresh.as_str())?);
+    files.remove();
+    Ok(())
+}
+
+// Takes the client's next incarnation in a new store, in which the last one is 41.
+fn takes_one(files: &Files<'_>, alloc: Global) -> Result<u32, Fail> {
+    let path = files.path.as_str();
+    let name = StoreName::new(alloc, path)?;
+    let mut keeper = NamedKeeper::new(files.rt, create_after(files.rt, path, CLIENT, 41)?, &name);
+    let inc = keeper.next_incarnation(CLIENT)?;
+    close(keeper.into_inner())?;
+    Ok(inc)
+}
+
+// Whether the store is older for the client than an incarnation.
+fn is_older(files: &Files<'_>, least: u32) -> Result<bool, Fail> {
+    match adopt_since(files.rt, files.path.as_str(), CLIENT, least) {
+        Ok(store) => {
+            close(store)?;
+            Ok(false)
+        }
+        Err(FileError::OlderClient) => Ok(true),
+        Err(error) => Err(Fail::from(error)),
+    }
+}
+
+#[test]
+fn a_clients_incarnation_is_in_the_text_at_once(rt: HostRuntime) -> Result<(), Fail> {
+    let files = Files::new(&rt, "client")?;
+    fs::write(&rt, files.text.as_str(), "client = 7\n")?;
+    assert_eq!(rt; takes_one(&files, rt.alloc())?, 42);
+    assert!(rt; files.has("client = 7\nincarnation = 42\n"));
+    assert!(rt; !is_older(&files, 0)?);
+    assert!(rt; !is_older(&files, 42)?);
+    assert!(rt; is_older(&files, 43)?);
+    files.remove();
+    Ok(())
+}
+
+#[test]
+fn a_watch_that_finds_a_loss_ends_all_puts(rt: HostRuntime) -> Result<(), Fail> {
+    let alloc = rt.alloc();
+    let files = Files::new(&rt, "watched")?;
+    fs::write(&rt, files.path.as_str(), "a store")?;
+    let name = StoreName::new(alloc, files.path.as_str())?;
+    let mut watch = NameWatch::new(&rt, &name);
+    let mut keeper = NamedKeeper::new(&rt, MemoryKeeper::new(alloc), &name);
+    let first = state(alloc, 1, 1)?;
+    keeper.put_handler(&first)?;
+    assert!(rt; watch.has_name());
+    keeper.put_handler(&first)?;
+    fs::remove_file(&rt, files.path.as_str())?;
+    assert!(rt; !watch.has_name());
+    assert!(rt; name.is_lost());
+    fs::write(&rt, files.path.as_str(), "a store")?;
+    assert_eq!(rt; keeper.put_handler(&first), Err(KeeperError::Refused));
+    files.remove();
+    Ok(())
+}
