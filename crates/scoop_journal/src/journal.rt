@@ -34,7 +34,7 @@ impl From<OutOfMemory> for AppendError {
 }
 
 /// A journal that lines are appended to. Lines are gathered first, and then written by one call of the writer. After the
-/// writer failed it writes no more, so that nothing follows a line that may be broken.
+/// writer failed, or it was given up, it writes no more, so that nothing follows a line that may be broken or is lost.
 #[derive(Drop)]
 pub struct Journal<W, A: Allocator = Global> {
     writer: W,
@@ -62,7 +62,7 @@ impl<W: Write + Drop, A: Allocator> Journal<W, A> {
         }
     }
 
-    /// Whether the writer failed.
+    /// Whether the writer failed, or the journal was given up.
     pub fn has_failed(&self) -> bool
         ensures { result ≡ self.now.has_failed }
     {
@@ -96,9 +96,17 @@ impl<W: Write + Drop, A: Allocator> Journal<W, A> {
         self.text.clear();
     }
 
+    /// Forgets the gathered lines, and writes no more: after a line that is lost, none may follow.
+    pub fn give_up(&mut self)
+        ensures { self.new ≡ journal_state self.old.writer [] true }
+    {
+        self.text.clear();
+        self.has_failed = true;
+    }
+
     /// Writes the gathered lines by one call of the writer, and flushes it. None is gathered after that.
     ///
-    /// Refused: `Write` if the writer fails or failed before.
+    /// Refused: `Write` if the writer fails or failed before, or the journal was given up.
     pub fn commit(&mut self) -> Result<(), AppendError>
         ensures written { OnOk result (Commits W.contents self.old self.new self.old.text) }
         ensures named { IfErr result (λ e. e ≡ AppendError.Write) }
