@@ -1,6 +1,6 @@
 //! The commands of a system in a file, `check`, `node`, `client`, `up` and `audit`, of a key, `key`, and of a store, `store`.
 //!
-//! A program of one's own runs as a client ([`run_own_client`]).
+//! A program of one's own runs as a node with its own objects ([`serve_own_node`]) or as a client ([`run_own_client`]).
 //!
 //! Each reports on standard error why it ends early, and returns the status with which the program ends.
 #![tactic(auto)]
@@ -29,6 +29,6 @@ pub use asking::{run_client, run_own_client};
 pub use auditing::explain;
 pub use checking::check;
 pub use keys::make_key;
-pub use serving::serve_node;
+pub use serving::{serve_node, serve_own_node};
 pub use store_words::show_store;
 pub use up::run_up;

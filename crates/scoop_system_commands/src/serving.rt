@@ -17,7 +17,9 @@ use scoop_link::Link;
 use scoop_message::OutOfMemory;
 use scoop_record::Store;
 use scoop_report::{Hints, Status, hint, report};
-use scoop_runtime::{FileFault, NodePlan, OutOfRange, RuntimeError, Serving, open_node_link};
+use scoop_runtime::{
+    FileFault, NodePlan, Objects, OutOfRange, RuntimeError, Serving, Tables, open_node_link,
+};
 use scoop_seal::{Key, SealedLink};
 use scoop_status::About;
 use scoop_status_server::Server;
@@ -36,13 +38,23 @@ pub fn serve_node<T: Threads + Wait + Clock + Net + Sync>(
     threads: &T,
     options: &NodeOptions<'_>,
 ) -> Result<(), Status> {
+    serve_own_node(rt, threads, options, &Tables)
+}
+
+/// The same for a node whose objects these make.
+pub fn serve_own_node<T: Threads + Wait + Clock + Net + Sync, O: Objects + Sync>(
+    rt: &HostRuntime,
+    threads: &T,
+    options: &NodeOptions<'_>,
+    objects: &O,
+) -> Result<(), Status> {
     require_store(rt, options)?;
     let serving = match serving_of(options) {
         Ok(serving) => serving,
         Err(range) => return Err(report_range(rt, range)),
     };
     let system = read_system(rt, options.system)?;
-    serve_in(rt, threads, options, &serving, &system)
+    serve_in(rt, threads, options, &serving, &system, objects)
 }
 
 // A node has either a store or the option `--volatile`.
@@ -73,12 +85,13 @@ fn serving_of(options: &NodeOptions<'_>) -> Result<Serving, OutOfRange> {
 }
 
 // Serves the node of this system, which is borrowed, so that no early return has to drop it.
-fn serve_in<T: Threads + Wait + Clock + Net + Sync>(
+fn serve_in<T: Threads + Wait + Clock + Net + Sync, O: Objects + Sync>(
     rt: &HostRuntime,
     threads: &T,
     options: &NodeOptions<'_>,
     serving: &Serving,
     system: &System,
+    objects: &O,
 ) -> Result<(), Status> {
     let number = options.number;
     let Some(place) = system.node(number) else {
@@ -109,7 +122,7 @@ fn serve_in<T: Threads + Wait + Clock + Net + Sync>(
         log: level_of(options),
         status: status_of(rt, options, place)?,
     };
-    match serve_journaled(rt, threads, options, serving, &shown, key) {
+    match serve_journaled(rt, threads, options, serving, &shown, key, objects) {
         Ok(()) => Ok(()),
         Err(end) => Err(report_end(rt, &party, end)),
     }
@@ -167,18 +180,19 @@ fn status_of(
 }
 
 // Serves the node with its journal, if it writes one.
-fn serve_journaled<'a, T: Threads + Wait + Clock + Net + Sync>(
+fn serve_journaled<'a, T: Threads + Wait + Clock + Net + Sync, O: Objects + Sync>(
     rt: &HostRuntime,
     threads: &T,
     options: &NodeOptions<'_>,
     serving: &'a Serving,
     shown: &'a Shown<'a>,
     key: Option<Key>,
+    objects: &O,
 ) -> Result<(), End> {
     let (system, place) = (shown.about.system, &shown.about.place);
     let journal = open_journal(rt, options.journal, Owner::Node(place.number))?;
     let journal = journal.as_ref();
-    let plan = NodePlan::of(rt.alloc(), system, place)?;
+    let plan = NodePlan::of(rt.alloc(), system, place)?.with(objects);
     let served = Served {
         plan: &plan,
         serving,
@@ -190,11 +204,11 @@ fn serve_journaled<'a, T: Threads + Wait + Clock + Net + Sync>(
 }
 
 // Serves the node at its place. Its ports come first, and then its store.
-fn serve_at<T: Threads + Wait + Clock + Net + Sync>(
+fn serve_at<T: Threads + Wait + Clock + Net + Sync, O: Objects + Sync>(
     rt: &HostRuntime,
     threads: &T,
     store: StoreChoice<'_>,
-    served: &Served<'_>,
+    served: &Served<'_, O>,
     key: Option<Key>,
 ) -> Result<(), End> {
     let shown = served.shown;
@@ -210,11 +224,15 @@ fn serve_at<T: Threads + Wait + Clock + Net + Sync>(
 }
 
 // Serves the node over the store of this choice, if there is one.
-fn serve_over<L: Link + RefusesForged + Send, T: Threads + Wait + Clock + Net + Sync>(
+fn serve_over<
+    L: Link + RefusesForged + Send,
+    T: Threads + Wait + Clock + Net + Sync,
+    O: Objects + Sync,
+>(
     rt: &HostRuntime,
     threads: &T,
     choice: StoreChoice<'_>,
-    served: &Served<'_>,
+    served: &Served<'_, O>,
     server: &mut Option<Server>,
     link: L,
 ) -> Result<(), End> {
@@ -230,11 +248,15 @@ fn serve_over<L: Link + RefusesForged + Send, T: Threads + Wait + Clock + Net + 
 
 // Serves the node over this store, and closes it. A function that names the files' type does one thing alone: the prover
 // takes too many steps at more.
-fn serve_stored<L: Link + RefusesForged + Send, T: Threads + Wait + Clock + Net + Sync>(
+fn serve_stored<
+    L: Link + RefusesForged + Send,
+    T: Threads + Wait + Clock + Net + Sync,
+    O: Objects + Sync,
+>(
     rt: &HostRuntime,
     threads: &T,
     choice: StoreChoice<'_>,
-    served: &Served<'_>,
+    served: &Served<'_, O>,
     server: &mut Option<Server>,
     store: FiledStore,
     name: &StoreName,
@@ -254,11 +276,11 @@ fn closed(ended: Result<FiledStore, RuntimeError>, name: &StoreName) -> Result<(
 
 // Serves the node over a store in any place, which knows its owner from then on, and returns the store. It ends if the store
 // loses this name.
-fn serve_kept<S, L, T>(
+fn serve_kept<S, L, T, O>(
     rt: &HostRuntime,
     threads: &T,
     choice: StoreChoice<'_>,
-    served: &Served<'_>,
+    served: &Served<'_, O>,
     server: &mut Option<Server>,
     store: Store<S>,
     name: &StoreName,
@@ -268,6 +290,7 @@ where
     S: Alter + Drop + Send,
     L: Link + RefusesForged + Send,
     T: Threads + Wait + Clock + Net + Sync,
+    O: Objects + Sync,
 {
     let about = &served.shown.about;
     note_owner(rt, choice, about.system, Owner::Node(about.place.number));
@@ -279,10 +302,14 @@ where
 }
 
 // Serves the node over a record that is in memory alone.
-fn serve_unstored<L: Link + RefusesForged + Send, T: Threads + Wait + Clock + Net + Sync>(
+fn serve_unstored<
+    L: Link + RefusesForged + Send,
+    T: Threads + Wait + Clock + Net + Sync,
+    O: Objects + Sync,
+>(
     rt: &HostRuntime,
     threads: &T,
-    served: &Served<'_>,
+    served: &Served<'_, O>,
     server: &mut Option<Server>,
     link: L,
 ) -> Result<(), End> {
@@ -296,10 +323,10 @@ fn serve_unstored<L: Link + RefusesForged + Send, T: Threads + Wait + Clock + Ne
 }
 
 // Serves the node over this keeper, and returns the keeper. The node writes its journal, if it has one.
-fn serve_with<K, L, T>(
+fn serve_with<K, L, T, O>(
     rt: &HostRuntime,
     threads: &T,
-    served: &Served<'_>,
+    served: &Served<'_, O>,
     server: &mut Option<Server>,
     keeper: K,
     link: L,
@@ -308,6 +335,7 @@ where
     K: Keeper<Global> + Send,
     L: Link + RefusesForged + Send,
     T: Threads + Wait + Clock + Net + Sync,
+    O: Objects + Sync,
 {
     let Some(journal) = served.journal else {
         return run_watched(rt, threads, served, server, keeper, link);

@@ -11,7 +11,7 @@ use scoop_link::Link;
 use scoop_message::{ClientId, OutOfMemory};
 use scoop_pacing::{SlowNotes, SystemTimes};
 use scoop_report::report;
-use scoop_runtime::{NodePlan, RuntimeError, Serving, node_run};
+use scoop_runtime::{NodePlan, Objects, RuntimeError, Serving, node_run};
 use scoop_status::{About, Log};
 use scoop_status_server::{Server, show};
 use scoop_system::System;
@@ -38,9 +38,9 @@ pub(crate) struct Shown<'a> {
 }
 
 /// A node that is served, with its journal if it writes one, and how it is shown.
-#[derive(Clone, Copy)]
-pub(crate) struct Served<'a> {
-    pub(crate) plan: &'a NodePlan,
+#[derive(Drop)]
+pub(crate) struct Served<'a, O: Objects> {
+    pub(crate) plan: &'a NodePlan<O>,
     pub(crate) serving: &'a Serving,
     pub(crate) journal: Option<&'a JournalFile>,
     pub(crate) shown: &'a Shown<'a>,
@@ -111,8 +111,8 @@ fn clients_shown(alloc: Global, shown: &Shown<'_>) -> Result<Vec<ClientId>, OutO
 
 // A node under its watch, before it runs.
 #[derive(Drop)]
-struct WatchedNode<'s, 'w, K: Keeper<Global>, L: Link, T> {
-    plan: &'s NodePlan,
+struct WatchedNode<'s, 'w, K: Keeper<Global>, L: Link, T, O: Objects> {
+    plan: &'s NodePlan<O>,
     serving: &'s Serving,
     watch: &'w Watch,
     clients: Vec<ClientId>,
@@ -120,11 +120,12 @@ struct WatchedNode<'s, 'w, K: Keeper<Global>, L: Link, T> {
     link: WatchedLink<'w, L>,
 }
 
-impl<'s, 'w, K, L, T> WatchedNode<'s, 'w, K, L, T>
+impl<'s, 'w, K, L, T, O> WatchedNode<'s, 'w, K, L, T, O>
 where
     K: Keeper<Global> + Send,
     L: Link + RefusesForged,
     T: Threads + Wait + Clock + Sync,
+    O: Objects + Sync,
 {
     // Runs the node, lets its watch end, and returns the keeper.
     fn run(
@@ -178,10 +179,10 @@ where
 }
 
 // Runs a node that hears these clients alone.
-fn run_admitting<K, L, S, E, W, T>(
+fn run_admitting<K, L, S, E, W, T, O>(
     threads: &T,
     alloc: Global,
-    plan: &NodePlan,
+    plan: &NodePlan<O>,
     serving: &Serving,
     keeper: K,
     link: L,
@@ -197,17 +198,49 @@ where
     E: Write + Drop,
     W: Write,
     T: Threads + Wait + Clock + Sync,
+    O: Objects + Sync,
 {
     let link = AdmittingLink::new(link, clients, strangers);
     node_run(threads, alloc, plan, serving, keeper, link, notes, output)
 }
 
+// What this thread does while a node runs in another one.
+trait Task: Drop {
+    fn run(self);
+}
+
+// The status and the log of a node that another thread runs.
+#[derive(Drop)]
+struct Screen<'a, 's, T> {
+    threads: &'a T,
+    alloc: Global,
+    watch: &'a Watch,
+    about: &'a About<'s>,
+    server: Option<Server>,
+    log: Log<Stderr>,
+}
+
+impl<'a, 's, T: Wait + Clock> Task for Screen<'a, 's, T> {
+    // Shows the node until it has ended.
+    fn run(self) {
+        let Screen {
+            threads,
+            alloc,
+            watch,
+            about,
+            server,
+            log,
+        } = self;
+        show(threads, alloc, watch, about, server, log);
+    }
+}
+
 /// Runs the node over this keeper and link, with its watch over both, and returns the keeper. It hears only the clients of its
 /// file. The server of its status, if it has one, and its log run beside it.
-pub(crate) fn run_watched<K, L, T>(
+pub(crate) fn run_watched<K, L, T, O>(
     rt: &HostRuntime,
     threads: &T,
-    served: &Served<'_>,
+    served: &Served<'_, O>,
     server: &mut Option<Server>,
     keeper: K,
     link: L,
@@ -216,9 +249,11 @@ where
     K: Keeper<Global> + Send,
     L: Link + RefusesForged + Send,
     T: Threads + Wait + Clock + Sync,
+    O: Objects + Sync,
 {
-    let clients = clients_shown(rt.alloc(), served.shown)?;
-    let watch = watch_of(rt.alloc(), served.shown);
+    let (alloc, shown) = (rt.alloc(), served.shown);
+    let clients = clients_shown(alloc, shown)?;
+    let watch = watch_of(alloc, shown);
     let node = WatchedNode {
         plan: served.plan,
         serving: served.serving,
@@ -227,30 +262,37 @@ where
         keeper: WatchedKeeper::new(keeper, threads, &watch),
         link: WatchedLink::new(link, &watch),
     };
-    show_beside(rt, threads, &watch, served.shown, server.take(), node)
+    let screen = Screen {
+        threads,
+        alloc,
+        watch: &watch,
+        about: &shown.about,
+        server: server.take(),
+        log: Log::new(rt.stderr(), shown.about.place.number, shown.log),
+    };
+    run_beside(rt, threads, node, screen)
 }
 
-// Starts a thread for the node, shows the node in this one until it has ended, and returns its keeper.
-fn show_beside<K, L, T>(
+// Starts a thread for the node, does the task in this one, and returns the node's keeper when both have ended. The task's type is
+// a parameter: the prover looks into at most 128 of the structs that the closure captures, and those of a screen are too many.
+fn run_beside<K, L, T, O, S>(
     rt: &HostRuntime,
     threads: &T,
-    watch: &Watch,
-    shown: &Shown<'_>,
-    server: Option<Server>,
-    node: WatchedNode<'_, '_, K, L, T>,
+    node: WatchedNode<'_, '_, K, L, T, O>,
+    task: S,
 ) -> Result<K, RuntimeError>
 where
     K: Keeper<Global> + Send,
     L: Link + RefusesForged + Send,
     T: Threads + Wait + Clock + Sync,
+    O: Objects + Sync,
+    S: Task,
 {
     let (alloc, output, notes) = (rt.alloc(), rt.stdout(), rt.stderr());
-    let about = &shown.about;
-    let log = Log::new(notes, about.place.number, shown.log);
     thread::scope(thread::scope_env(), threads, move |scope| {
         match scope.spawn(move || node.run(threads, alloc, output, notes)) {
             Ok(running) => {
-                show(threads, alloc, watch, about, server, log);
+                task.run();
                 running.join(threads)
             }
             Err(_) => Err(RuntimeError::from(PartyError::NoThread)),
