@@ -1,6 +1,7 @@
-//! The start of programs: their words, and a client of one's own, whose commands are calls.
+//! The start of programs: their words, a node with objects of its own, and a client whose commands are calls.
 //!
-//! The call [`start_client`] is a whole client, with the options of `scoop client` but for those of lines.
+//! The call [`start_node`] is a whole node, with the options of `scoop node`. The call [`start_client`] is a whole client, with those
+//! of `scoop client` but for those of lines.
 //!
 //! The example is a client that buys three things, if there are as many.
 //!
@@ -30,12 +31,47 @@ mod arguments;
 
 pub use arguments::{report_command_line, report_memory, words};
 use clap::ArgMatches;
-use scoop_command_line::{client_options, parse_client};
+use scoop_command_line::{client_options, node_options, parse_client, parse_node};
 use scoop_report::Status;
-use scoop_runtime::ClientProgram;
-use scoop_system_commands::run_own_client;
+use scoop_runtime::{ClientProgram, Objects};
+use scoop_system_commands::{run_own_client, serve_own_node};
 use std::net::Net;
 use std::process::ExitCode;
+use std::sync::Wait;
+use std::thread::Threads;
+use std::time::Clock;
+
+/// Runs the node of the program's words, whose objects these make, and returns the program's status. The second handle, which is
+/// the first one too, starts threads and opens sockets.
+pub fn start_node<T: Threads + Wait + Clock + Net + Sync, O: Objects + Sync>(
+    rt: &HostRuntime,
+    threads: &T,
+    objects: &O,
+) -> ExitCode {
+    code(node(rt, threads, objects))
+}
+
+fn node<T: Threads + Wait + Clock + Net + Sync, O: Objects + Sync>(
+    rt: &HostRuntime,
+    threads: &T,
+    objects: &O,
+) -> Result<(), Status> {
+    let words = words(rt)?;
+    match parse_node(rt.alloc(), words.as_slice()) {
+        Ok(matches) => serve(rt, threads, &matches, objects),
+        Err(error) => Err(report_command_line(rt, &error)),
+    }
+}
+
+// The matches are borrowed, so that no early return has to drop them.
+fn serve<T: Threads + Wait + Clock + Net + Sync, O: Objects + Sync>(
+    rt: &HostRuntime,
+    threads: &T,
+    matches: &ArgMatches<'_>,
+    objects: &O,
+) -> Result<(), Status> {
+    serve_own_node(rt, threads, &node_options(matches), objects)
+}
 
 /// Runs this program as the client of the program's words, and returns the program's status. The second handle, which is the
 /// first one too, opens sockets.
