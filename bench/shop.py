@@ -1,10 +1,11 @@
 #!/usr/bin/env python3
-"""Runs the shop: python3 bench/shop.py --program SCOOP --client SHOP_CLIENT
+"""Runs the shop: python3 bench/shop.py --program SCOOP --node SHOP_NODE --client SHOP_CLIENT
 
-Both programs run as GUIDE says, with a key, stores and journals, on free ports. The client buys three times, and then the
+The three programs run as GUIDE says, with a key, stores and journals, on free ports. The client buys three times, and then the
 shelf has too few. The shelf's node is killed between two purchases and resumed; a client is killed inside its run, cut by
---cut, and runs again. A client with wrong words, or whose nodes are down, ends with its text. In the
-end `scoop audit` has to explain the journals. Ends with status 1 if something isn't as it should be.
+--cut, and runs again. A client with wrong words, or whose nodes are down, ends with its text; so does a node whose object
+isn't of the file's class. In the end `scoop audit` has to explain the journals. Ends with status 1 if something isn't as it
+should be.
 """
 import argparse, os, shutil, signal, subprocess, sys, tempfile, time
 
@@ -15,7 +16,7 @@ TOP = os.path.dirname(os.path.dirname(os.path.abspath(__file__)))
 
 class Shop:
     def __init__(self, options):
-        self.scoop, self.client = (os.path.abspath(p) for p in (options.program, options.client))
+        self.scoop, self.node, self.client = (os.path.abspath(p) for p in (options.program, options.node, options.client))
         self.folder = tempfile.mkdtemp(prefix="shop")
         with open(os.path.join(TOP, "examples", "shop.toml")) as f:
             text = f.read()
@@ -53,6 +54,20 @@ class Shop:
     def buy(self):
         return self.run(*self.words("buyer", 7))
 
+    def altered(self):
+        """A system whose class differs from the shelf's in one term."""
+        path = self.path("altered.toml")
+        with open(self.system) as f:
+            text = f.read()
+        with open(path, "w") as f:
+            f.write(text.replace('test = "a0 <= w0"', 'test = "a0 <= w1"'))
+        return path
+
+    def refused(self, system, number):
+        """The status of a node of objects of one's own over no store, and what it reports after that it has none."""
+        ended = self.run(str(number), "--system", system, "--volatile", "--turns", "1", program=self.node)
+        return (ended.returncode, ended.stderr.splitlines()[1:2])
+
 
 def expect(what, got, wanted):
     if got != wanted:
@@ -67,17 +82,17 @@ def told(run):
 
 def main():
     parser = argparse.ArgumentParser(description=__doc__, formatter_class=argparse.RawDescriptionHelpFormatter)
-    for name in ("program", "client"):
+    for name in ("program", "node", "client"):
         parser.add_argument("--" + name, required=True)
     shop = Shop(parser.parse_args())
     try:
         down = shop.run("7", "--system", shop.system, "--new", shop.path("early.db"), "--key", shop.key, "--turns", "20")
         expect("a client whose nodes are down", told(down)[:2], (3, ""))
-        shop.start("shelf", [shop.scoop, "node"], 1)
+        shop.start("shelf", [shop.node], 1)
         shop.start("till", [shop.scoop, "node"], 2)
         expect("the first purchase", told(shop.buy()), (0, "bought\n", []))
         shop.kill("shelf")
-        shop.start("shelf", [shop.scoop, "node"], 1)
+        shop.start("shelf", [shop.node], 1)
         expect("one after the shelf's node was killed", told(shop.buy()), (0, "bought\n", []))
         stopped = subprocess.Popen([shop.client, *shop.words("buyer", 7)], stdout=subprocess.PIPE, stderr=subprocess.PIPE)
         time.sleep(0.004)
@@ -92,6 +107,8 @@ def main():
         expect("a client without a store", told(shop.run("7", "--system", shop.system))[::2], (2, ["scoop: a client needs a store"]))
         for name in list(shop.running):
             shop.kill(name)
+        expect("a node that makes no accounts", shop.refused(shop.system, 2), (3, ["scoop: store: WrongClass 2"]))
+        expect("a shelf whose file has another row", shop.refused(shop.altered(), 1), (3, ["scoop: store: WrongClass 1"]))
         journals = [shop.path(name + ".journal") for name in ("shelf", "till", "buyer")]
         audit = shop.run("audit", "--system", shop.system, "--blocks", *journals, program=shop.scoop)
         print(audit.stdout, end="")
