@@ -4,8 +4,12 @@
 Under a running node, the file of its store or its log is moved, replaced or deleted. The node has to end within 64
 puts, or at its own end, with status 3, `store: Refused` and a hint that names the cause. Then a client loses its store:
 a new one without --after waits in vain, and one above the incarnation that the node has seen gets its answers. Wrong
-uses of --after have to be refused with status 2. Prints a line for each case, and ends with status 1 if one isn't as it
-should be.
+uses of --after have to be refused with status 2.
+
+Then nodes are killed, and a client ends. Old copies of their stores are put back, or the log that a killed node leaves is
+damaged. Each has to be refused with status 3, a line that names the file and hints, and nothing may change on the disk.
+Without the lines that say how far the store goes, it goes on. Prints a line for each case, and ends with status 1 if one
+isn't as it should be.
 """
 import argparse, os, shutil, subprocess, sys, tempfile
 
@@ -13,6 +17,7 @@ from ports import free_ports
 
 CLIENT = 7
 BLOCK = "reserve 1\ncall 1 set 5\nquery 1 get\nend\n"
+BOTH = "reserve 1 2\ncall 1 set 5\ncall 2 set 5\nquery 1 get\nend\n"
 HINT = "was moved, replaced, deleted or cut while the store was open"
 
 
@@ -25,17 +30,35 @@ class System:
         self.file, self.store = os.path.join(self.folder, "system.toml"), os.path.join(self.folder, "node.db")
         with open(self.file, "w") as f:
             f.write(f'[[node]]\nnumber = 1\naddress = "127.0.0.1:{node}"\n')
-            f.write('[[handler]]\nnumber = 1\nnode = 1\nclass = "cell"\nwords = [0]\n')
+            for handler in (1, 2):
+                f.write(f'[[handler]]\nnumber = {handler}\nnode = 1\nclass = "cell"\nwords = [0]\n')
             f.write(f'[[client]]\nnumber = {CLIENT}\naddress = "127.0.0.1:{client}"\n')
-        words = [program, "node", "1", "--system", self.file, "--new", self.store, *options]
-        self.node = subprocess.Popen(words, stdout=subprocess.PIPE, stderr=subprocess.PIPE, text=True)
+        self.start("--new", self.store, *options)
         line = self.node.stdout.readline()
         assert line.startswith("node 1"), (line, self.node.stderr.read())
 
-    def ask(self, *words, blocks=1):
+    def start(self, *options):
+        """Starts the node."""
+        words = [self.program, "node", "1", "--system", self.file, *options]
+        self.node = subprocess.Popen(words, stdout=subprocess.PIPE, stderr=subprocess.PIPE, text=True)
+
+    def kill(self):
+        """Kills the node, and returns what it wrote on standard error."""
+        self.node.kill()
+        return self.node.communicate()[1]
+
+    def goes_on(self):
+        """Whether the node goes on with its store, and says how far it goes."""
+        self.start("--store", self.store)
+        notes = [self.node.stderr.readline()]
+        while notes[-1] and "goes on; newest blocks: " not in notes[-1]:
+            notes.append(self.node.stderr.readline())
+        return notes[-1].startswith(f"scoop: {self.store}: goes on; newest blocks: {CLIENT}.")
+
+    def ask(self, *words, blocks=1, block=BLOCK):
         """Runs the client."""
         words = [self.program, "client", str(CLIENT), "--system", self.file, "--turns", "300", *words]
-        return subprocess.run(words, input=BLOCK * blocks, capture_output=True, text=True, timeout=120)
+        return subprocess.run(words, input=block * blocks, capture_output=True, text=True, timeout=120)
 
     def path(self, name):
         return os.path.join(self.folder, name)
@@ -96,6 +119,132 @@ def wrong_uses(system):
     return all(system.ask(*words).returncode == 2 for words in wrong)
 
 
+def copy(store, to):
+    """Copies the store and its log, without the text beside it."""
+    for name in ("", "-wal"):
+        if os.path.exists(store + name):
+            shutil.copy(store + name, to + name)
+        elif os.path.exists(to + name):
+            os.remove(to + name)
+
+
+def content(store):
+    """What is in the store's files."""
+    there = [store + name for name in ("", "-wal", ".system") if os.path.exists(store + name)]
+    return [(path, open(path, "rb").read()) for path in there]
+
+
+def is_refused(system, *hints):
+    """Whether the node refuses its store as older, with these hints, and changes nothing."""
+    before = content(system.store)
+    system.start("--store", system.store)
+    _, errors = system.node.communicate(timeout=60)
+    said = f"scoop: {system.store}: it is older than {system.store}.system says\n" in errors
+    return system.node.returncode == 3 and said and all(it in errors for it in hints) and content(system.store) == before
+
+
+def forget(store):
+    """Deletes the lines that say how far the store goes."""
+    with open(store + ".system") as f:
+        kept = [line for line in f if not line.startswith("newest.")]
+    with open(store + ".system", "w") as f:
+        f.writelines(kept)
+
+
+def old_copy(system):
+    """An old copy of a killed node's store is put back. Both handlers' marks are in the text by then."""
+    client, kept = system.path("client.db"), system.path("kept.db")
+    asked = [system.ask("--new", client, block=BOTH)]
+    system.kill()
+    copy(system.store, kept)
+    went_on = system.goes_on()
+    asked.append(system.ask("--store", client, blocks=40, block=BOTH))
+    system.kill()
+    newest = system.path("newest.db")
+    copy(system.store, newest)
+    copy(kept, system.store)
+    refused = is_refused(system, f"handler 1: {system.store}.system has block 7.2.", "and the store has 7.1.1")
+    copy(newest, system.store)
+    back = system.goes_on()
+    system.kill()
+    copy(kept, system.store)
+    forget(system.store)
+    forced = system.goes_on()
+    return all(ran.returncode == 0 for ran in asked) and went_on and refused and back and forced
+
+
+def second_handler(system):
+    """An old copy lacks blocks of the second handler alone."""
+    client, kept = system.path("client.db"), system.path("kept.db")
+    asked = [system.ask("--new", client, block=BOTH)]
+    system.kill()
+    copy(system.store, kept)
+    went_on = system.goes_on()
+    asked.append(system.ask("--store", client, blocks=40, block=BLOCK.replace(" 1", " 2")))
+    system.kill()
+    copy(kept, system.store)
+    refused = is_refused(system, f"handler 2: {system.store}.system has block 7.2.", "and the store has 7.1.1")
+    return all(ran.returncode == 0 for ran in asked) and went_on and refused
+
+
+def ended_node(system):
+    """An old copy of the store of a node that ended is put back: its text has the last marks."""
+    client, kept = system.path("client.db"), system.path("kept.db")
+    first = system.ask("--new", client)
+    system.node.communicate(timeout=60)
+    copy(system.store, kept)
+    system.start("--store", system.store, "--turns", "1000")
+    second = system.ask("--store", client)
+    system.node.communicate(timeout=60)
+    copy(kept, system.store)
+    refused = is_refused(system, f"handler 1: {system.store}.system has block 7.2.1, and the store has 7.1.1")
+    return first.returncode == 0 and second.returncode == 0 and refused
+
+
+def damaged_log(system):
+    """A killed node's log is damaged in its first third, so that all after it is rolled back."""
+    asked = system.ask("--new", system.path("client.db"), blocks=60)
+    system.kill()
+    log = system.store + "-wal"
+    with open(log, "r+b") as f:
+        f.seek(os.path.getsize(log) // 3)
+        f.write(b"\xff" * 8192)
+    return asked.returncode == 0 and is_refused(system, f"handler 1: {system.store}.system has block 7.1.")
+
+
+def old_client(system):
+    """An old copy of a client's store is put back."""
+    client, kept = system.path("client.db"), system.path("kept.db")
+    runs = [system.ask("--new", client)]
+    copy(client, kept)
+    runs.append(system.ask("--store", client))
+    copy(kept, client)
+    before = content(client)
+    refused = system.ask("--store", client)
+    said = refused.stderr.startswith(f"scoop: {client}: it is older than {client}.system says\n")
+    good = refused.returncode == 3 and said and "answer" not in refused.stdout and content(client) == before
+    again = system.ask("--new", system.path("new.db"), "--after", "2")
+    return all(ran.returncode == 0 for ran in runs + [again]) and good
+
+
+def old_copy_in_a_folder(system):
+    """An old copy of a node's store is put back into the folder of `scoop up`."""
+    system.kill()
+    folder, kept = system.path("stores"), system.path("kept.db")
+    words = [system.program, "up", system.file, "--dir", folder]
+    up = lambda: subprocess.run(words, input=BLOCK, capture_output=True, text=True, timeout=120)
+    node = os.path.join(folder, "node-1.db")
+    runs = [up()]
+    copy(node, kept)
+    runs.append(up())
+    copy(kept, node)
+    before = content(node)
+    refused = up()
+    said = f"scoop: {node}: it is older than {node}.system says\n" in refused.stderr
+    good = refused.returncode == 3 and said and "answer" not in refused.stdout and content(node) == before
+    return all(ran.returncode == 0 and "answer 5" in ran.stdout for ran in runs) and good
+
+
 CASES = {
     "the file is deleted": ([], lambda system: swap_under(system, os.remove, "")),
     "the file is moved": ([], lambda system: swap_under(system, lambda path: os.rename(path, path + ".moved"), "")),
@@ -104,6 +253,12 @@ CASES = {
     "the file is deleted before the end": (["--turns", "1000"], delete_before_end),
     "a client's store is lost": ([], lose_client),
     "--after is used wrongly": ([], wrong_uses),
+    "an old copy is put back": ([], old_copy),
+    "an old copy lacks blocks of one handler": ([], second_handler),
+    "an old copy is put back after the end": (["--turns", "1000"], ended_node),
+    "the log is damaged after a kill": ([], damaged_log),
+    "an old copy of a client's store is put back": ([], old_client),
+    "an old copy is put back into a folder": ([], old_copy_in_a_folder),
 }
 
 

@@ -1,11 +1,10 @@
 //! A keeper that writes a journal.
 
-ghost use Rattle.std.specs.Prelude.{◌≡◌, ◌⊎◌, true, false, [], Some, Ok, Err, IfSome, IfOk, IfErr, OnOk, OnErr};
-ghost use Rattle.std.specs.Io.KnownBytes.{Appends};
+ghost use Rattle.std.specs.Prelude.{◌≡◌, ◌++◌, ◌⊎◌, true, false, [], Some, Ok, Err, IfSome, IfOk, IfErr, IsOk, OnOk, OnErr};
 ghost use Rattle.scoop_keeper.specs.Keeper.{IsPutError, IsSame, Stays};
 ghost use Rattle.scoop_journal.specs.declared.line.Line.TheVariants.{Hear};
 ghost use Rattle.scoop_journal.specs.Journal.{ended, journal_state};
-ghost use Rattle.scoop_journal_keeper.specs.Journaled.{Notes, journaled, run_text};
+ghost use Rattle.scoop_journal_keeper.specs.Journaled.{Finishes, NotesRun, Writes, journaled, run_text, waiting};
 
 use crate::opening::{refusal, write_opening};
 use scoop_handler::{HandlerState, Heard};
@@ -16,11 +15,22 @@ use std::alloc::{Allocator, Global};
 use std::io::Write;
 use std::marker::Model;
 
-/// A keeper that writes the journal of a node, and stores by the keeper under it.
-#[derive(Drop)]
-pub struct JournaledKeeper<K, W, A: Allocator = Global> {
+/// Where the keeper under a journal keeps its states.
+#[derive(Clone, Copy, Debug, PartialEq, Eq)]
+pub enum Storage {
+    /// In a file. The lines of an event are written before the state after it is stored.
+    File,
+    /// In memory alone. That an entry has run is gathered, and written with what a handler hears next: the state is lost with
+    /// the node, and nobody is told of it before.
+    Memory,
+}
+
+/// A keeper that writes the journal of a node, and stores by the keeper under it. When it is let go, it writes the lines that it
+/// gathered.
+pub struct JournaledKeeper<K: Drop, W: Write + Drop, A: Allocator + Copy = Global> {
     alloc: A,
     keeper: K,
+    storage: Storage,
     journal: Journal<W, A>,
     node: u32,
     handlers: Vec<HandlerId, A>,
@@ -28,29 +38,32 @@ pub struct JournaledKeeper<K, W, A: Allocator = Global> {
     is_told: bool,
 }
 
-impl<K, W, A: Allocator> Model for JournaledKeeper<K, W, A> {
+impl<K: Drop, W: Write + Drop, A: Allocator + Copy> Model for JournaledKeeper<K, W, A> {
     ghost use Rattle.scoop_journal_keeper.specs.Journaled.{JournaledRecord, journaled};
 
     ghost Value = { JournaledRecord K W };
 
-    ghost view = { λ j. journaled j.keeper j.journal j.node j.handlers.items j.has_begun j.is_told };
+    ghost view = { λ j. journaled j.keeper j.storage j.journal j.node j.handlers.items j.has_begun j.is_told };
 }
 
 impl<K: Drop, W: Write + Drop, A: Allocator + Copy> JournaledKeeper<K, W, A> {
     /// A keeper of this node with these handlers, in their order of placement, that writes its journal by the writer. The
-    /// first lines of the node's life are written before its first event.
+    /// keeper under it keeps its states in this storage. The first lines of the node's life are written before its first
+    /// event.
     pub fn new(
         alloc: A,
         keeper: K,
+        storage: Storage,
         writer: W,
         node: u32,
         handlers: Vec<HandlerId, A>,
     ) -> JournaledKeeper<K, W, A>
-        ensures { result ≡ journaled keeper (journal_state writer [] false) node handlers.items false false }
+        ensures { result ≡ journaled keeper storage (journal_state writer [] false) node handlers.items false false }
     {
         JournaledKeeper {
             alloc,
             keeper,
+            storage,
             journal: Journal::new(alloc, writer),
             node,
             handlers,
@@ -59,38 +72,83 @@ impl<K: Drop, W: Write + Drop, A: Allocator + Copy> JournaledKeeper<K, W, A> {
         }
     }
 
-    /// The keeper under this one.
-    pub fn into_inner(self) -> K
+    /// The keeper under this one. The lines that are gathered are written first.
+    pub fn into_inner(mut self) -> K
         ensures { result ≡ self.keeper }
     {
-        self.keeper
+        let _written = self.journal.commit();
+        let JournaledKeeper {
+            alloc: _,
+            keeper,
+            storage: _,
+            journal: _,
+            node: _,
+            handlers: _,
+            has_begun: _,
+            is_told: _,
+        } = self;
+        keeper
     }
 }
 
-// Appends that an entry of this handler left to be run, and that it has run, by one call of the writer.
-fn append_run<W: Write + Drop, A: Allocator>(
+impl<K: Drop, W: Write + Drop, A: Allocator + Copy> Drop for JournaledKeeper<K, W, A> {
+    fn drop(self) {
+        let _keeper = self.into_inner();
+    }
+}
+
+// Gathers that an entry of this handler left to be run, and that it has run.
+fn gather_run<W: Write + Drop, A: Allocator>(
     journal: &mut Journal<W, A>,
     handler: HandlerId,
 ) -> Result<(), AppendError>
-    ensures written { OnOk result (Appends (W.contents journal.old.writer) (W.contents journal.new.writer) (run_text handler)) }
+    ensures gathered { OnOk result (journal.new.text ≡ journal.old.text ++ run_text handler) }
+    ensures writer { journal.new.writer ≡ journal.old.writer }
+    ensures failed { journal.new.has_failed ≡ journal.old.has_failed }
 {
-    journal.forget();
     match journal.gather(&Line::Begin(handler)) {
-        Ok(()) => journal.append(&Line::Finish(handler)),
+        Ok(()) => journal.gather(&Line::Finish(handler)),
         Err(error) => Err(error),
     }
 }
 
-// Appends what a handler heard, and its reply.
-fn append_heard<W: Write + Drop, A: Allocator>(
+// Notes that an entry has run. Over a storage in a file it is written now, by one call of the writer.
+fn note_run<W: Write + Drop, A: Allocator>(
     journal: &mut Journal<W, A>,
-    message: &Message,
-    heard: &Heard,
+    storage: Storage,
+    handler: HandlerId,
 ) -> Result<(), AppendError>
-    ensures { OnOk result (Appends (W.contents journal.old.writer) (W.contents journal.new.writer) (ended (Hear message.now heard.now.reply))) }
+    ensures { OnOk result (NotesRun W.contents storage journal.old journal.new handler) }
 {
-    journal.forget();
-    journal.append(&Line::Hear(*message, heard.reply))
+    if journal.has_failed() {
+        return Err(AppendError::Write);
+    }
+    match gather_run(journal, handler) {
+        Ok(()) => {}
+        Err(error) => return Err(error),
+    }
+    match storage {
+        Storage::File => journal.commit(),
+        Storage::Memory => Ok(()),
+    }
+}
+
+// The refusal of a line. If lines that were gathered before may be lost with it, the node can't go on, nor can the journal.
+fn refused<W: Write + Drop, A: Allocator>(
+    journal: &mut Journal<W, A>,
+    storage: Storage,
+    error: AppendError,
+) -> KeeperError
+    ensures named { IsPutError result }
+    ensures lost { storage ≡ Storage.Memory → (result ≡ KeeperError.Refused) × (journal.new.has_failed ≡ true) }
+{
+    match storage {
+        Storage::File => refusal(error),
+        Storage::Memory => {
+            journal.give_up();
+            KeeperError::Refused
+        }
+    }
 }
 
 // Writes the first lines of the node's life, if they aren't written yet.
@@ -98,7 +156,10 @@ fn begin<A: Allocator + Copy, K: Keeper<A>, W: Write + Drop>(
     journaled: &mut JournaledKeeper<K, W, A>,
 ) -> Result<(), KeeperError>
     ensures begun { OnOk result (journaled.new.has_begun ≡ true) }
-    ensures silent { journaled.old.has_begun ≡ true → journaled.new.journal.writer ≡ journaled.old.journal.writer }
+    ensures once { journaled.old.has_begun ≡ true → IsOk result }
+    ensures silent { journaled.old.has_begun ≡ true → journaled.new.journal ≡ journaled.old.journal }
+    ensures waiting { OnOk result (journaled.new.journal.text ≡ waiting journaled.old) }
+    ensures storage { journaled.new.storage ≡ journaled.old.storage }
     ensures named { IfErr result IsPutError }
     ensures handlers { K.is_honest journaled.new.keeper → Stays (K.handlers journaled.old.keeper) (K.handlers journaled.new.keeper) }
     ensures incarnations { K.is_honest journaled.new.keeper
@@ -124,22 +185,24 @@ fn begin<A: Allocator + Copy, K: Keeper<A>, W: Write + Drop>(
     }
 }
 
-// The result of appending an event. Only the state after it may follow.
-fn appended<K, W, A: Allocator>(
+// The result of noting an event. Only the state after it may follow.
+fn noted<K: Drop, W: Write + Drop, A: Allocator + Copy>(
     journaled: &mut JournaledKeeper<K, W, A>,
-    appended: Result<(), AppendError>,
+    noted: Result<(), AppendError>,
 ) -> Result<(), KeeperError>
-    ensures ok { OnOk result (appended ≡ Ok tt) }
+    ensures ok { OnOk result (noted ≡ Ok tt) }
     ensures named { IfErr result IsPutError }
+    ensures lost { journaled.old.storage ≡ Storage.Memory
+        → OnErr result ((result ≡ Err KeeperError.Refused) × (journaled.new.journal.has_failed ≡ true)) }
     ensures keeper { journaled.new.keeper ≡ journaled.old.keeper }
-    ensures journal { journaled.new.journal ≡ journaled.old.journal }
+    ensures journal { OnOk result (journaled.new.journal ≡ journaled.old.journal) }
 {
-    match appended {
+    match noted {
         Ok(()) => {
             journaled.is_told = true;
             Ok(())
         }
-        Err(error) => Err(refusal(error)),
+        Err(error) => Err(refused(&mut journaled.journal, journaled.storage, error)),
     }
 }
 
@@ -207,7 +270,9 @@ impl<A: Allocator + Copy, K: Keeper<A>, W: Write + Drop> Keeper<A> for Journaled
     }
 
     fn note_heard(&mut self, message: &Message, heard: &Heard) -> Result<(), KeeperError>
-        ensures written { OnOk result (Notes W.contents self.old self.new (ended (Hear message.now heard.now.reply))) }
+        ensures written { OnOk result (Writes W.contents self.old self.new (waiting self.old ++ ended (Hear message.now heard.now.reply))) }
+        ensures lost { self.old.has_begun ≡ true → self.old.storage ≡ Storage.Memory
+            → OnErr result ((result ≡ Err KeeperError.Refused) × (self.new.journal.has_failed ≡ true)) }
         ensures handlers { K.is_honest self.new.keeper → Stays (K.handlers self.old.keeper) (K.handlers self.new.keeper) }
         ensures incarnations { K.is_honest self.new.keeper → IsSame (K.incarnations self.old.keeper) (K.incarnations self.new.keeper) }
         ensures named { IfErr result IsPutError }
@@ -217,12 +282,14 @@ impl<A: Allocator + Copy, K: Keeper<A>, W: Write + Drop> Keeper<A> for Journaled
             Ok(()) => {}
             Err(error) => return Err(error),
         }
-        let noted = append_heard(&mut self.journal, message, heard);
-        appended(self, noted)
+        let appended = self.journal.append(&Line::Hear(*message, heard.reply));
+        noted(self, appended)
     }
 
     fn note_finished(&mut self, handler: HandlerId) -> Result<(), KeeperError>
-        ensures written { OnOk result (Notes W.contents self.old self.new (run_text handler)) }
+        ensures written { OnOk result (Finishes W.contents self.old self.new handler) }
+        ensures lost { self.old.has_begun ≡ true → self.old.storage ≡ Storage.Memory
+            → OnErr result ((result ≡ Err KeeperError.Refused) × (self.new.journal.has_failed ≡ true)) }
         ensures handlers { K.is_honest self.new.keeper → Stays (K.handlers self.old.keeper) (K.handlers self.new.keeper) }
         ensures incarnations { K.is_honest self.new.keeper → IsSame (K.incarnations self.old.keeper) (K.incarnations self.new.keeper) }
         ensures named { IfErr result IsPutError }
@@ -232,7 +299,7 @@ impl<A: Allocator + Copy, K: Keeper<A>, W: Write + Drop> Keeper<A> for Journaled
             Ok(()) => {}
             Err(error) => return Err(error),
         }
-        let noted = append_run(&mut self.journal, handler);
-        appended(self, noted)
+        let run = note_run(&mut self.journal, self.storage, handler);
+        noted(self, run)
     }
 }

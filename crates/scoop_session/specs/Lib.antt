@@ -4,4 +4,6 @@ pub mod Diary
 pub mod Endings
 pub mod Obeying
 pub mod Parting
+pub mod Saying
+pub mod Settling
 pub mod Unlocking

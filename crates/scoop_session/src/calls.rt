@@ -1,12 +1,14 @@
-//! The calls of a program that holds a session.
+//! The calls of a program that holds a session. When one returns an answer, ends a block or fails, the journal has all lines so
+//! far, unless one isn't written ([`Session::unwritten`]).
 
-ghost use Rattle.std.specs.Prelude.{◌≡◌, ◌≤◌, length, IfOk, OnOk};
+ghost use Rattle.std.specs.Prelude.{◌≡◌, ◌≤◌, length, IfOk, OnErr, OnOk};
 ghost use Rattle.scoop_client.specs.State.{phase_of};
 ghost use Rattle.scoop_client.specs.declared.command.Command.TheVariants.{Call as DoCall, End as DoEnd};
 ghost use Rattle.scoop_client.specs.declared.phase.Phase.TheVariants.{Idle};
 ghost use Rattle.scoop_driver.specs.Calls.{Called, Queried};
 ghost use Rattle.scoop_driver.specs.Waiting.{WaitsWith};
 ghost use Rattle.scoop_driver.specs.Wishes.{queries, wish_for};
+ghost use Rattle.scoop_session.specs.Diary.{IsSettled};
 ghost use Rattle.scoop_session.specs.Obeying.{Drives, RunsBlock};
 
 use crate::session::Session;
@@ -24,11 +26,15 @@ impl<'j, L: Link, J: Write + Drop> Session<'j, L, J> {
         ensures runs { IfOk result (λ _. RunsBlock handlers.now self.old.driver.turns self.old.driver.seen self.new.driver.seen) }
         ensures drives { Drives self.old.driver.seen self.new.driver.seen }
         ensures turns { self.new.driver.turns ≡ self.old.driver.turns }
+        ensures settled { OnErr result (IsSettled self.new.driver.diary.failure self.new.driver.diary.journal.now) }
     {
         match self.lock(handlers, &mut NoInterrupt) {
             Ok(Some(block)) => Ok(block),
             Ok(None) => unreachable!(),
-            Err(error) => Err(error),
+            Err(error) => {
+                self.settle();
+                Err(error)
+            }
         }
     }
 
@@ -37,16 +43,24 @@ impl<'j, L: Link, J: Write + Drop> Session<'j, L, J> {
     pub fn log_call(&mut self, handler: HandlerId, request: Request) -> Result<(), DriverError>
         ensures does { Called (DoCall handler request) self.old.driver.turns result self.old.driver.seen self.new.driver.seen }
         ensures turns { self.new.driver.turns ≡ self.old.driver.turns }
+        ensures settled { OnErr result (IsSettled self.new.driver.diary.failure self.new.driver.diary.journal.now) }
     {
-        self.driver.call(handler, request)
+        let logged = self.driver.call(handler, request);
+        if logged.is_err() {
+            self.settle();
+        }
+        logged
     }
 
     /// Logs a query, and takes turns until its answer is accepted. Refused as [`scoop_driver::Driver::query`].
     pub fn ask(&mut self, handler: HandlerId, request: Request) -> Result<Answer, DriverError>
         ensures does { Queried handler request self.old.driver.turns result self.old.driver.seen self.new.driver.seen }
         ensures turns { self.new.driver.turns ≡ self.old.driver.turns }
+        ensures settled { IsSettled self.new.driver.diary.failure self.new.driver.diary.journal.now }
     {
-        self.driver.query(handler, request)
+        let answered = self.driver.query(handler, request);
+        self.settle();
+        answered
     }
 
     /// Ends the block, and takes turns until all of it is acknowledged. Refused as [`scoop_driver::Driver::end`].
@@ -54,8 +68,11 @@ impl<'j, L: Link, J: Write + Drop> Session<'j, L, J> {
         ensures does { Called DoEnd self.old.driver.turns result self.old.driver.seen self.new.driver.seen }
         ensures ends { OnOk result (phase_of self.new.driver.seen.client ≡ Idle) }
         ensures turns { self.new.driver.turns ≡ self.old.driver.turns }
+        ensures settled { IsSettled self.new.driver.diary.failure self.new.driver.diary.journal.now }
     {
-        self.driver.end()
+        let ended = self.driver.end();
+        self.settle();
+        ended
     }
 
     /// Tries blocks over these handlers until all parts of the condition hold in one, logs the body in that block, and ends it.
@@ -76,8 +93,12 @@ impl<'j, L: Link, J: Write + Drop> Session<'j, L, J> {
         ensures drives { Drives self.old.driver.seen self.new.driver.seen }
         ensures turns { self.new.driver.turns ≡ self.old.driver.turns }
         ensures answers { length answers.new ≡ length answers.old }
+        ensures settled { IsSettled self.new.driver.diary.failure self.new.driver.diary.journal.now }
     {
-        self.driver
-            .when_all(handlers, condition, body, answers, tries, pause)
+        let waited = self
+            .driver
+            .when_all(handlers, condition, body, answers, tries, pause);
+        self.settle();
+        waited
     }
 }

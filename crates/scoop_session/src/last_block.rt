@@ -1,44 +1,65 @@
 //! The diary of a client: its last block, and its journal if it writes one.
 
-ghost use Rattle.std.specs.Prelude.{◌≡◌, ⊤, None, OnOk};
+ghost use Rattle.std.specs.Prelude.{◌≡◌, ⊤, None, OnErr, OnOk};
 ghost use Rattle.scoop_client.specs.State.{block_of};
 ghost use Rattle.scoop_journal.specs.declared.line.Line.TheVariants.{Broke as BrokeLine, Do as DoLine, Turn as TurnLine};
-ghost use Rattle.scoop_session.specs.Diary.{Writes, arrival_of};
+ghost use Rattle.scoop_session.specs.Saying.{due_to};
+ghost use Rattle.scoop_session.specs.Diary.{Ends, Gathers, HasFailed, IsReady, IsSettled, TakesAll, arrival_of};
 
+use crate::said::{keep_due, says_nothing_new};
 use scoop_client::{Client, HandlerList, MAX_NAMED_HANDLERS};
 use scoop_driver::{Command, Diary, Received};
 use scoop_journal::{AppendError, Arrival, Journal, Line};
-use scoop_message::{Block, HandlerId, OutOfMemory};
-use std::alloc::Allocator;
+use scoop_message::{Block, HandlerId, Message, OutOfMemory};
+use std::alloc::{Allocator, Global};
 use std::io::Write;
 
 /// A diary that keeps only the block that the client had after its last command. It has the block's handlers, and how
-/// many calls and queries the client has logged at each. It writes each step into a journal, if there is one. After a
-/// line that isn't written it refuses every further step.
-#[derive(Drop)]
+/// many calls and queries the client has logged at each. If there is a journal, it gathers a line of each step there. The
+/// lines are written before the client sends a message that it hasn't said, before an answer, and when the diary is let
+/// go. After a line that isn't written it refuses every further step.
 pub(crate) struct LastBlock<'j, J: Write + Drop> {
     block: Option<Block>,
     handlers: Option<HandlerList>,
     logged: [u32; MAX_NAMED_HANDLERS],
+    said: Vec<Message>,
     journal: &'j mut Option<Journal<J>>,
     failure: Option<AppendError>,
 }
 
+impl<'j, J: Write + Drop> Drop for LastBlock<'j, J> {
+    fn drop(self) {
+        let _journal = self.into_journal();
+    }
+}
+
 impl<'j, J: Write + Drop> LastBlock<'j, J> {
     /// The diary of a client that has taken no command.
-    pub(crate) fn new(journal: &'j mut Option<Journal<J>>) -> LastBlock<'j, J> {
+    pub(crate) fn new(alloc: Global, journal: &'j mut Option<Journal<J>>) -> LastBlock<'j, J> {
         LastBlock {
             block: None,
             handlers: None,
             logged: [0; MAX_NAMED_HANDLERS],
+            said: Vec::new(alloc),
             journal,
             failure: None,
         }
     }
 
-    /// The journal.
-    pub(crate) fn into_journal(self) -> &'j mut Option<Journal<J>> {
-        self.journal
+    /// The journal. All that was gathered is written there, unless a line wasn't.
+    pub(crate) fn into_journal(mut self) -> &'j mut Option<Journal<J>>
+        ensures { Ends J.contents self.entry.failure self.entry.journal.now result.now }
+    {
+        let _refused = self.write();
+        let LastBlock {
+            block: _,
+            handlers: _,
+            logged: _,
+            said: _,
+            journal,
+            failure: _,
+        } = self;
+        journal
     }
 
     /// The block that the client had after its last command.
@@ -55,14 +76,55 @@ impl<'j, J: Write + Drop> LastBlock<'j, J> {
         self.failure
     }
 
-    // Appends a line to the journal, if there is one.
-    fn append(&mut self, line: &Line<'_>)
-        ensures written { self.new.failure ≡ None → Writes J.contents self.old.journal.now self.new.journal.now line.now }
+    // Gathers a line of the journal, if there is one and no earlier line was lost.
+    fn gather(&mut self, line: &Line<'_>)
+        ensures gathered { self.new.failure ≡ None → Gathers self.old.journal.now self.new.journal.now line.now }
         ensures sticky { self.new.failure ≡ None → self.old.failure ≡ None }
         ensures block { self.new.block ≡ self.old.block }
     {
-        if let Err(error) = append(self.journal, line) {
+        if self.failure.is_some() {
+            return;
+        }
+        if let Err(error) = gather(self.journal, line) {
             self.failure = Some(error);
+        }
+    }
+
+    // Writes what is gathered.
+    fn write(&mut self) -> Result<(), OutOfMemory>
+        ensures written { OnOk result (TakesAll J.contents self.old.journal.now self.new.journal.now) }
+        ensures failed { self.old.failure ≡ None → OnErr result (HasFailed self.new.journal.now) }
+        ensures sticky { OnOk result (self.old.failure ≡ None) }
+        ensures whole { OnOk result (self.new.failure ≡ None) }
+        ensures settled { IsSettled self.new.failure self.new.journal.now }
+        ensures block { self.new.block ≡ self.old.block }
+        ensures said { self.new.said ≡ self.old.said }
+    {
+        if self.failure.is_some() {
+            return Err(OutOfMemory);
+        }
+        match write(self.journal) {
+            Ok(()) => Ok(()),
+            Err(error) => {
+                self.failure = Some(error);
+                Err(OutOfMemory)
+            }
+        }
+    }
+
+    // Keeps the messages that are due now as those that are said.
+    fn keep_said<A: Allocator>(&mut self, client: &Client<A>) -> Result<(), OutOfMemory>
+        ensures kept { OnOk result (self.new.said.items ≡ due_to client.now client.now.handlers) }
+        ensures journal { self.new.journal ≡ self.old.journal }
+        ensures failure { OnOk result (self.new.failure ≡ self.old.failure) }
+        ensures block { self.new.block ≡ self.old.block }
+    {
+        match keep_due(&mut self.said, client) {
+            Ok(()) => Ok(()),
+            Err(refusal) => {
+                self.failure = Some(AppendError::OutOfMemory);
+                Err(refusal)
+            }
         }
     }
 
@@ -120,15 +182,26 @@ impl<'j, J: Write + Drop> LastBlock<'j, J> {
     }
 }
 
-// Appends a line to the journal, if there is one.
-fn append<J: Write + Drop>(
+// Gathers a line of the journal, if there is one.
+fn gather<J: Write + Drop>(
     journal: &mut Option<Journal<J>>,
     line: &Line<'_>,
 ) -> Result<(), AppendError>
-    ensures { OnOk result (Writes J.contents journal.old journal.new line.now) }
+    ensures { OnOk result (Gathers journal.old journal.new line.now) }
 {
     match journal {
-        Some(journal) => journal.append(line),
+        Some(journal) => journal.gather(line),
+        None => Ok(()),
+    }
+}
+
+// Writes what is gathered in the journal, if there is one.
+fn write<J: Write + Drop>(journal: &mut Option<Journal<J>>) -> Result<(), AppendError>
+    ensures written { OnOk result (TakesAll J.contents journal.old journal.new) }
+    ensures failed { OnErr result (HasFailed journal.new) }
+{
+    match journal {
+        Some(journal) => journal.commit(),
         None => Ok(()),
     }
 }
@@ -150,6 +223,8 @@ impl<'j, A: Allocator, J: Write + Drop> Diary<A> for LastBlock<'j, J> {
 
     ghost has_room = { λ _. ⊤ };
 
+    ghost is_settled = { λ d. IsSettled d.failure d.journal.now };
+
     ghost wants_memory = { ⊤ };
 
     fn make_room(&mut self) -> Result<(), OutOfMemory>
@@ -164,29 +239,57 @@ impl<'j, A: Allocator, J: Write + Drop> Diary<A> for LastBlock<'j, J> {
         }
     }
 
+    fn before_sends(&mut self, client: &Client<A>) -> Result<(), OutOfMemory>
+        ensures ready { OnOk result (IsReady J.contents client.now self.old.said.items self.new.said.items self.old.journal.now self.new.journal.now) }
+        ensures whole { OnOk result (self.new.failure ≡ None) }
+        ensures sticky { OnOk result (self.old.failure ≡ None) }
+        ensures block { self.new.block ≡ self.old.block }
+    {
+        if self.failure.is_some() {
+            return Err(OutOfMemory);
+        }
+        if self.journal.is_none() || says_nothing_new(&self.said, client, client.handlers()) {
+            return Ok(());
+        }
+        match self.write() {
+            Ok(()) => self.keep_said(client),
+            Err(refusal) => Err(refusal),
+        }
+    }
+
+    fn before_answer(&mut self) -> Result<(), OutOfMemory>
+        ensures written { OnOk result (TakesAll J.contents self.old.journal.now self.new.journal.now) }
+        ensures whole { OnOk result (self.new.failure ≡ None) }
+        ensures sticky { OnOk result (self.old.failure ≡ None) }
+        ensures settled { IsSettled self.new.failure self.new.journal.now }
+        ensures block { self.new.block ≡ self.old.block }
+    {
+        self.write()
+    }
+
     fn gave(&mut self, client: &Client<A>, command: Command)
-        ensures written { self.new.failure ≡ None → Writes J.contents self.old.journal.now self.new.journal.now (DoLine command) }
+        ensures gathered { self.new.failure ≡ None → Gathers self.old.journal.now self.new.journal.now (DoLine command) }
         ensures sticky { self.new.failure ≡ None → self.old.failure ≡ None }
         ensures block { self.new.block ≡ block_of client.now.reservation }
     {
         self.block = client.block();
         self.record(&command);
-        self.append(&Line::Do(command));
+        self.gather(&Line::Do(command));
     }
 
     fn turned(&mut self, _client: &Client<A>, received: Received)
-        ensures written { self.new.failure ≡ None → Writes J.contents self.old.journal.now self.new.journal.now (TurnLine (arrival_of received)) }
+        ensures gathered { self.new.failure ≡ None → Gathers self.old.journal.now self.new.journal.now (TurnLine (arrival_of received)) }
         ensures sticky { self.new.failure ≡ None → self.old.failure ≡ None }
         ensures block { self.new.block ≡ self.old.block }
     {
-        self.append(&Line::Turn(arrival_of(&received)));
+        self.gather(&Line::Turn(arrival_of(&received)));
     }
 
     fn broke(&mut self, _client: &Client<A>, place: usize)
-        ensures written { self.new.failure ≡ None → Writes J.contents self.old.journal.now self.new.journal.now (BrokeLine place) }
+        ensures gathered { self.new.failure ≡ None → Gathers self.old.journal.now self.new.journal.now (BrokeLine place) }
         ensures sticky { self.new.failure ≡ None → self.old.failure ≡ None }
         ensures block { self.new.block ≡ self.old.block }
     {
-        self.append(&Line::Broke(place));
+        self.gather(&Line::Broke(place));
     }
 }

@@ -16,6 +16,7 @@
 mod calls;
 mod last_block;
 mod parting;
+mod said;
 mod session;
 mod wish;
 

@@ -1,8 +1,9 @@
 //! The end of a session: the block that it leaves.
 
-ghost use Rattle.std.specs.Prelude.{◌≡◌, ◌++◌, ◌∷◌, [], Ok, OnOk, IfOk, IsFalse, is_some, filter};
+ghost use Rattle.std.specs.Prelude.{◌≡◌, ◌++◌, ◌∷◌, [], None, Ok, OnOk, IfOk, IsFalse, IsTrue, is_some, filter};
 ghost use Rattle.scoop_client.specs.State.{phase_of};
 ghost use Rattle.scoop_client.specs.declared.phase.Phase.TheVariants.{Idle};
+ghost use Rattle.scoop_session.specs.Diary.{IsSettled, IsWritten};
 ghost use Rattle.scoop_session.specs.Obeying.{Drives, GivesUp, TakesTurnsOnly};
 ghost use Rattle.scoop_session.specs.Parting.{Leaves, is_awaited, last_of, owes};
 ghost use Rattle.scoop_session.specs.Endings.{input_ended};
@@ -42,8 +43,19 @@ impl<'j, L: Link, J: Write + Drop> Session<'j, L, J> {
     }
 
     /// Takes turns until nothing is due to any of these handlers. If the client has no block, each of them has welcomed
-    /// it then.
+    /// it then. The journal has the lines of these turns, unless one isn't written ([`Session::unwritten`]).
     pub fn greet(&mut self, handlers: &[HandlerId], turns: u64) -> Result<(), DriverError>
+        ensures greeted { OnOk result (IsFalse (owes self.new.driver.seen.client handlers.now)) }
+        ensures turned { TakesTurnsOnly self.old.driver.seen self.new.driver.seen }
+        ensures settled { IsSettled self.new.driver.diary.failure self.new.driver.diary.journal.now }
+    {
+        let greeted = self.turn_until_welcomed(handlers, turns);
+        self.settle();
+        greeted
+    }
+
+    // Takes turns until nothing is due to any of these handlers.
+    fn turn_until_welcomed(&mut self, handlers: &[HandlerId], turns: u64) -> Result<(), DriverError>
         ensures greeted { OnOk result (IsFalse (owes self.new.driver.seen.client handlers.now)) }
         ensures turned { TakesTurnsOnly self.old.driver.seen self.new.driver.seen }
     {
@@ -123,8 +135,10 @@ impl<'j, L: Link, J: Write + Drop> Session<'j, L, J> {
         }
     }
 
-    /// Leaves the block. If its handlers aren't all locked, the client gives the locks back.
+    /// Leaves the block. If its handlers aren't all locked, the client gives the locks back. `GivenUp` needs the journal to have
+    /// all lines so far.
     pub fn leave(&mut self) -> Left
+        ensures settled { result ≡ Left.GivenUp → IsWritten self.new.driver.diary.journal.now }
         ensures leaves { Leaves result (is_some self.old.wish) self.old.driver.seen self.new.driver.seen }
         ensures drives { Drives self.old.driver.seen self.new.driver.seen }
         ensures ended { input_ended (is_some self.old.wish) (phase_of self.old.driver.seen.client) ≡ Ok (tt {0}) → result ≡ Left.Nothing }
@@ -138,10 +152,18 @@ impl<'j, L: Link, J: Write + Drop> Session<'j, L, J> {
             Phase::GivingUp => self.rest(PARTING_TURNS),
             Phase::Opening | Phase::Running | Phase::Ending => return Left::Open,
         };
+        self.settle();
         match gave_up {
-            Ok(()) => Left::GivenUp,
-            Err(_) => Left::Open,
+            Ok(()) if self.is_whole() => Left::GivenUp,
+            _ => Left::Open,
         }
+    }
+
+    // Whether each line of the journal is written so far.
+    fn is_whole(&self) -> bool
+        ensures { IsTrue result → self.now.driver.diary.failure ≡ None }
+    {
+        self.driver.diary().failure().is_none()
     }
 
     /// The last block of the client and its handlers. `None` if it has reserved none.

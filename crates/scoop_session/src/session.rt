@@ -8,6 +8,8 @@ ghost use Rattle.scoop_session.specs.Answering.{answered};
 ghost use Rattle.scoop_session.specs.Obeying.{CallDoes, DoesInside, DoesOutside, Drives, EndDoes, GiveUpDoes, NoteDoes, Obeys, QueryDoes, ReserveDoes, RunsBlock};
 ghost use Rattle.scoop_session.specs.Obeying.{TakesTurnsOnly, TryDoes, WhenDoes, is_quiet};
 ghost use Rattle.scoop_session.specs.Endings.{ended_by, first_awaited, input_ended, over_at, unwritten};
+ghost use Rattle.scoop_session.specs.Diary.{Ends, IsSettled};
+ghost use Rattle.scoop_session.specs.Settling.{Settles, SettlesFor, may_wait};
 ghost use Rattle.scoop_session.specs.Unlocking.{is_unlock, owes_unlock};
 
 use crate::last_block::LastBlock;
@@ -98,6 +100,13 @@ fn over_at(phase: Phase, awaited: Option<HandlerId>) -> RuntimeError
     }
 }
 
+// Whether the reply may come before the lines of the journal that led to it.
+fn may_wait(reply: &Reply) -> bool
+    ensures { result ≡ may_wait reply.now }
+{
+    matches!(reply, Reply::Reserved(_) | Reply::Logged(..) | Reply::Noted)
+}
+
 /// The error for a line of the journal that isn't written.
 pub fn unwritten(error: AppendError) -> RuntimeError
     ensures { result ≡ unwritten error }
@@ -121,16 +130,18 @@ impl<'j, L: Link, J: Write + Drop> Session<'j, L, J> {
     {
         Session {
             alloc,
-            driver: Driver::with_diary(client, link, turns, LastBlock::new(journal)),
+            driver: Driver::with_diary(client, link, turns, LastBlock::new(alloc, journal)),
             turns,
             wish: None,
             answers: Vec::new(alloc),
         }
     }
 
-    /// Takes the session apart, and returns its link and its journal. Its client ends.
+    /// Takes the session apart, and returns its link and its journal. Its client ends. The lines of the journal that waited are
+    /// written first, as when the session is let go.
     pub fn into_parts(self) -> (L, &'j mut Option<Journal<J>>)
-        ensures { result.0 ≡ self.entry.driver.link }
+        ensures link { result.0 ≡ self.entry.driver.link }
+        ensures written { Ends J.contents self.entry.driver.diary.failure self.entry.driver.diary.journal.now result.1.now }
     {
         let Session { driver, .. } = self;
         let (link, diary) = driver.into_parts();
@@ -190,7 +201,9 @@ impl<'j, L: Link, J: Write + Drop> Session<'j, L, J> {
 
     /// Does what a line asks, and returns the reply to it; a line without words has none. A refusal of the client is a
     /// reply too. Pauses between the tries of a waiting block. A `reserve` that the interrupt ends gives its locks back, and
-    /// the reply is `GivenUp`. The errors are those after which the session can't go on.
+    /// the reply is `GivenUp`. The errors are those after which the session can't go on. When it returns, the journal has all
+    /// lines so far, unless one isn't written ([`Session::unwritten`]). Only those that led to `Logged`, `Reserved` or `Noted`
+    /// may wait: they are written before the client sends a message that it hasn't said.
     pub fn obey<P: Pause, I: Interrupt>(
         &mut self,
         line: &ClientLine,
@@ -201,15 +214,41 @@ impl<'j, L: Link, J: Write + Drop> Session<'j, L, J> {
         ensures ended { IfErr result (λ e. Obeys line.now self.old.wish self.old.driver.turns (Err e) self.new.answers.items self.old.driver.seen self.new.driver.seen) }
         ensures quiet { result ≡ Ok None → IsTrue (is_quiet line.now) × (self.new.driver.seen ≡ self.old.driver.seen) }
         ensures drives { Drives self.old.driver.seen self.new.driver.seen }
+        ensures settled { Settles result self.new.driver.diary.failure self.new.driver.diary.journal.now }
     {
         self.answers.clear();
         if is_quiet(line) {
             return Ok(None);
         }
-        match self.reply_to(line, pause, interrupt) {
+        let replied = self.reply_to(line, pause, interrupt);
+        self.settle_for(&replied);
+        match replied {
             Ok(reply) => Ok(Some(reply)),
             Err(error) => Err(error),
         }
+    }
+
+    // Settles the journal, unless the reply may come before its lines.
+    fn settle_for(&mut self, replied: &Result<Reply, DriverError>)
+        ensures settled { SettlesFor replied.now self.new.driver.diary.failure self.new.driver.diary.journal.now }
+        ensures seen { self.new.driver.seen ≡ self.old.driver.seen }
+        ensures answers { self.new.answers ≡ self.old.answers }
+    {
+        match replied {
+            Ok(reply) if may_wait(reply) => {}
+            _ => self.settle(),
+        }
+    }
+
+    /// Settles the journal: each line that it gathered is written. If one isn't, [`Session::unwritten`] has the error.
+    pub(crate) fn settle(&mut self)
+        ensures settled { IsSettled self.new.driver.diary.failure self.new.driver.diary.journal.now }
+        ensures seen { self.new.driver.seen ≡ self.old.driver.seen }
+        ensures turns { self.new.driver.turns ≡ self.old.driver.turns }
+        ensures answers { self.new.answers ≡ self.old.answers }
+        ensures wish { self.new.wish ≡ self.old.wish }
+    {
+        let _refused = self.driver.settle();
     }
 
     // Does what a line asks, and returns the reply to what came of it.

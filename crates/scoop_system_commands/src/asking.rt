@@ -9,7 +9,7 @@ use crate::system_file::{read_system, read_text, report_fault};
 use crate::tasks::{ClientTask, Cut, Input, Program, Script};
 use crate::typed_lines::TypedLines;
 use scoop_command_line::{ClientOptions, StoreChoice};
-use scoop_files::close;
+use scoop_files::{NamedKeeper, StoreName, close};
 use scoop_journal::{JournalFile, Owner};
 use scoop_keeper::Keeper;
 use scoop_link::Link;
@@ -215,29 +215,34 @@ fn run_stored<L: Link, C: ClientTask>(
     task: &mut C,
 ) -> Result<(), End> {
     let choice = options.store;
-    let mut store = open_client_store(rt, choice, options.after, plan.place().client)?;
-    let ran = run_over(rt, choice, plan, &mut store, journal, link, task);
+    let name = StoreName::new(rt.alloc(), choice.path().unwrap_or(""))?;
+    let store = open_client_store(rt, choice, options.after, plan.place().client)?;
+    let (ran, store) = run_over(rt, choice, plan, store, &name, journal, link, task);
     let closed = close(store);
     ran?;
     Ok(closed?)
 }
 
-// Runs the client over this store and this link. Its store knows its owner from then on. A function that names the files' type
-// does one thing alone: the prover takes too many steps at more.
+// Runs the client over this store and this link, and returns the store, which knows its owner from then on. The text beside it
+// gets the client's incarnation. A function that names the files' type does one thing alone: the prover takes too many steps at
+// more.
 fn run_over<K: Keeper<Global>, L: Link, C: ClientTask>(
     rt: &HostRuntime,
     choice: StoreChoice<'_>,
     plan: &ClientPlan<'_>,
-    store: &mut K,
+    store: K,
+    name: &StoreName,
     journal: Option<&JournalFile>,
     link: L,
     task: &mut C,
-) -> Result<(), End> {
+) -> (Result<(), End>, K) {
     note_owner(
         rt,
         choice,
         plan.system(),
         Owner::Client(plan.place().client),
     );
-    task.run(rt, plan, store, journal, link)
+    let mut keeper = NamedKeeper::new(rt, store, name);
+    let ran = task.run(rt, plan, &mut keeper, journal, link);
+    (ran, keeper.into_inner())
 }

@@ -36,11 +36,19 @@ pub(crate) enum End {
     Journal(OpenError),
     /// A line of its journal isn't written.
     Unwritten,
+    /// It was reported, with this status.
+    Reported(Status),
 }
 
 impl From<OpenError> for End {
     fn from(error: OpenError) -> End {
         End::Journal(error)
+    }
+}
+
+impl From<Status> for End {
+    fn from(status: Status) -> End {
+        End::Reported(status)
     }
 }
 
@@ -103,6 +111,7 @@ pub(crate) fn report_end(rt: &HostRuntime, party: &Party<'_>, end: End) -> Statu
             status
         }
         End::OpenBlock => report_open_block(rt),
+        End::Reported(status) => status,
         End::Status(address) => report_status(rt, address),
         End::Journal(error) => report_journal(rt, party, error, error.advice()),
         End::Unwritten => report_journal(

@@ -1,8 +1,9 @@
 //! A node that runs in a thread of this process.
 
-use crate::ending::{End, Party, report_end};
+use crate::ending::{Party, node_end, report_end};
 use crate::watching::clients_of;
 use scoop_admission::{AdmittingLink, NoReport};
+use scoop_files::{NamedKeeper, StoreName};
 use scoop_keeper::Keeper;
 use scoop_link::UdpLink;
 use scoop_message::OutOfMemory;
@@ -10,27 +11,27 @@ use scoop_report::Status;
 use scoop_runtime::{Ending, NodePlan, RuntimeError, Serving, node_run_until, open_node_link};
 use scoop_system::{NodePlace, System};
 use std::alloc::Global;
-use std::io::{BufWriter, Stderr, Write};
+use std::io::{BufWriter, Write};
 use std::net::{Net, SocketAddr};
 use std::sync::Wait;
 use std::thread::Threads;
 use std::time::Clock;
 
-/// Reports why a node ends early, whose store is in this file if it has one.
+/// Reports why a node ends early, whose store has this name if it has one.
 pub(crate) fn report_node<'a>(
     rt: &HostRuntime,
     system: &'a System,
     address: SocketAddr,
-    store: Option<&'a str>,
+    name: Option<&'a StoreName>,
     error: RuntimeError,
 ) -> Status {
     let party = Party {
         system,
         address,
-        store,
+        store: name.map(|name| name.path()),
         journal: None,
     };
-    report_end(rt, &party, End::Runtime(error))
+    report_end(rt, &party, node_end(name, error))
 }
 
 type HostLink = AdmittingLink<UdpLink, NoReport>;
@@ -44,8 +45,8 @@ pub(crate) struct Host<K: Keeper<Global>> {
     serving: Serving,
     link: Option<HostLink>,
     keeper: Option<K>,
-    // The file of its store, if it has one.
-    path: Option<String>,
+    // The name of its store, if it has one.
+    name: Option<StoreName>,
     error: Option<RuntimeError>,
 }
 
@@ -58,7 +59,7 @@ impl<K: Keeper<Global> + Send> Host<K> {
         place: &NodePlace,
         serving: Serving,
         keeper: K,
-        path: Option<String>,
+        name: Option<StoreName>,
     ) -> Result<Host<K>, RuntimeError> {
         let plan = NodePlan::of(rt.alloc(), system, place)?;
         let link = open_node_link(net, rt.alloc(), system, place)?;
@@ -69,24 +70,24 @@ impl<K: Keeper<Global> + Send> Host<K> {
             serving,
             link: Some(AdmittingLink::new(link, clients, NoReport)),
             keeper: Some(keeper),
-            path,
+            name,
             error: None,
         })
     }
 
     /// Runs the node until it is asked to end. If it ends early, a line says so at once. The node's lines and notes go to
-    /// these notes.
+    /// standard error.
     pub(crate) fn run<T: Threads + Wait + Clock + Sync>(
         &mut self,
+        rt: &HostRuntime,
         threads: &T,
-        alloc: Global,
-        mut notes: Stderr,
         ending: &Ending,
     ) {
         let (Some(link), Some(keeper)) = (self.link.take(), self.keeper.take()) else {
             return;
         };
-        match self.serve(threads, alloc, keeper, link, notes, ending) {
+        let mut notes = rt.stderr();
+        match self.serve(rt, threads, keeper, link, ending) {
             Ok(keeper) => self.keeper = Some(keeper),
             Err(error) => {
                 let _told = writeln!(notes, "scoop: a node has ended: {error}");
@@ -95,21 +96,40 @@ impl<K: Keeper<Global> + Send> Host<K> {
         }
     }
 
-    // Runs the node. Its lines are buffered, so that those of other nodes don't come between.
+    // Runs the node. If its store has a name, it ends when the store loses it, and the text beside the store is brought up to date.
     fn serve<T: Threads + Wait + Clock + Sync>(
         &self,
+        rt: &HostRuntime,
         threads: &T,
-        alloc: Global,
         keeper: K,
         link: HostLink,
-        notes: Stderr,
         ending: &Ending,
     ) -> Result<K, RuntimeError> {
-        let mut output = BufWriter::new(alloc, notes).map_err(|_| OutOfMemory)?;
+        let Some(name) = &self.name else {
+            return self.serve_over(rt, threads, keeper, link, ending);
+        };
+        let keeper = NamedKeeper::new(rt, keeper, name);
+        match self.serve_over(rt, threads, keeper, link, ending) {
+            Ok(keeper) => Ok(keeper.into_inner()),
+            Err(error) => Err(error),
+        }
+    }
+
+    // Runs the node over this keeper. Its lines are buffered, so that those of other nodes don't come between.
+    fn serve_over<N: Keeper<Global> + Send, T: Threads + Wait + Clock + Sync>(
+        &self,
+        rt: &HostRuntime,
+        threads: &T,
+        keeper: N,
+        link: HostLink,
+        ending: &Ending,
+    ) -> Result<N, RuntimeError> {
+        let notes = rt.stderr();
+        let mut output = BufWriter::new(rt.alloc(), notes).map_err(|_| OutOfMemory)?;
         let (plan, serving) = (&self.plan, &self.serving);
         node_run_until(
             threads,
-            alloc,
+            rt.alloc(),
             plan,
             serving,
             keeper,
@@ -124,16 +144,16 @@ impl<K: Keeper<Global> + Send> Host<K> {
     pub(crate) fn report(&self, rt: &HostRuntime, system: &System) -> Result<(), Status> {
         match self.error {
             Some(error) => {
-                let path = self.path.as_deref();
-                Err(report_node(rt, system, self.address, path, error))
+                let name = self.name.as_ref();
+                Err(report_node(rt, system, self.address, name, error))
             }
             None => Ok(()),
         }
     }
 
-    /// The keeper, unless the node ended early, and the file of its store.
-    pub(crate) fn into_keeper(self) -> (Option<K>, Option<String>) {
-        let Host { keeper, path, .. } = self;
-        (keeper, path)
+    /// The keeper, unless the node ended early, and the name of its store.
+    pub(crate) fn into_keeper(self) -> (Option<K>, Option<StoreName>) {
+        let Host { keeper, name, .. } = self;
+        (keeper, name)
     }
 }

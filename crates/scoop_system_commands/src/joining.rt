@@ -10,7 +10,7 @@ use scoop_message::OutOfMemory;
 use scoop_report::{Hints, hint, report};
 use scoop_runtime::{Backoff, ClientPlan, Ending, client_run};
 use std::alloc::Global;
-use std::io::{BufWriter, Stderr};
+use std::io::BufWriter;
 use std::net::Net;
 use std::sync::Wait;
 use std::thread::Threads;
@@ -42,16 +42,17 @@ impl<'a, 'p, 'k, K: Keeper<Global>, T: Net> Asking<'a, 'p, 'k, K, T> {
 
 /// Runs the nodes, each in a thread, while the client runs. Then it asks the nodes to end, and joins all threads. Returns the
 /// nodes, and the end of the client.
-pub(crate) fn run_beside<K, T>(
+pub(crate) fn run_beside<K, C, T>(
     rt: &HostRuntime,
     threads: &T,
     hosts: Vec<Host<K>>,
     plan: &ClientPlan<'_>,
-    keeper: &mut K,
+    keeper: &mut C,
     link: UdpLink,
 ) -> (Vec<Host<K>>, Result<(), End>)
 where
     K: Keeper<Global> + Send,
+    C: Keeper<Global>,
     T: Threads + Wait + Clock + Net + Sync,
 {
     let ending = Ending::new();
@@ -62,28 +63,28 @@ where
         keeper,
         link,
     };
-    host_beside(threads, rt.alloc(), rt.stderr(), hosts, &ending, asking)
+    host_beside(threads, hosts, &ending, asking)
 }
 
 // Starts a thread for each node, runs the client in this one, and waits for all.
-fn host_beside<K, T>(
+fn host_beside<K, C, T>(
     threads: &T,
-    alloc: Global,
-    notes: Stderr,
     mut hosts: Vec<Host<K>>,
     ending: &Ending,
-    asking: Asking<'_, '_, '_, K, T>,
+    asking: Asking<'_, '_, '_, C, T>,
 ) -> (Vec<Host<K>>, Result<(), End>)
 where
     K: Keeper<Global> + Send,
+    C: Keeper<Global>,
     T: Threads + Wait + Clock + Net + Sync,
 {
     let lent = hosts.as_mut_slice();
+    let rt = asking.rt;
     let ran = thread::scope(thread::scope_env(), threads, move |scope| {
         for host in lent.iter_mut() {
-            let spawned = scope.spawn(move || host.run(threads, alloc, notes, ending));
+            let spawned = scope.spawn(move || host.run(rt, threads, ending));
             if spawned.is_err() {
-                report_no_thread(asking.rt);
+                report_no_thread(rt);
             }
         }
         let ran = asking.run();

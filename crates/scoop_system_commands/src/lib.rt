@@ -10,6 +10,7 @@ mod auditing;
 mod checking;
 mod ending;
 mod folder;
+mod going_on;
 mod host;
 mod joining;
 mod journaling;

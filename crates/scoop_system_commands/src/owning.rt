@@ -2,8 +2,8 @@
 
 use crate::ending::report_plainly;
 use scoop_command_line::StoreChoice;
+use scoop_files::{replace_text, text_file};
 use scoop_journal::Owner;
-use scoop_message::OutOfMemory;
 use scoop_owner::{first_missing, line_like, owner_text};
 use scoop_report::{Hints, Status, hint, report};
 use scoop_runtime::RuntimeError;
@@ -24,7 +24,7 @@ pub(crate) fn check_owner(
     let StoreChoice::Old(path) = store else {
         return Ok(());
     };
-    let file = owner_file(rt, path)?;
+    let file = text_beside(rt, path)?;
     match fs::read_to_string(rt, file.as_str()) {
         Ok(found) => compare(rt, path, &found, &wanted_text(rt, system, owner)?),
         Err(error) if error.kind() == ErrorKind::NotFound => Ok(()),
@@ -35,11 +35,11 @@ pub(crate) fn check_owner(
     }
 }
 
-// The file that names the owner of the store in this file.
-fn owner_file(rt: &HostRuntime, path: &str) -> Result<String, Status> {
-    match format!(in rt.alloc(); "{path}.system") {
+/// The file of the text beside the store in this file, which names its owner.
+pub(crate) fn text_beside(rt: &HostRuntime, path: &str) -> Result<String, Status> {
+    match text_file(rt.alloc(), path) {
         Ok(file) => Ok(file),
-        Err(_) => Err(report_plainly(rt, RuntimeError::from(OutOfMemory))),
+        Err(error) => Err(report_plainly(rt, RuntimeError::from(error))),
     }
 }
 
@@ -77,7 +77,7 @@ pub(crate) fn note_owner(rt: &HostRuntime, store: StoreChoice<'_>, system: &Syst
     let Some(path) = store.path() else {
         return;
     };
-    let Ok(file) = owner_file(rt, path) else {
+    let Ok(file) = text_beside(rt, path) else {
         return;
     };
     let is_old = matches!(store, StoreChoice::Old(_));
@@ -97,7 +97,7 @@ fn write_owner(rt: &HostRuntime, file: &str, system: &System, owner: Owner) {
     let Ok(text) = wanted_text(rt, system, owner) else {
         return;
     };
-    if fs::write(rt, file, text.as_str()).is_err() {
+    if replace_text(rt, file, text.as_str()).is_err() {
         report(rt, format_args!("{file}: the file could not be written"));
     }
 }

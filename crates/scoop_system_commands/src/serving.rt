@@ -1,9 +1,10 @@
 //! `scoop node`: a node of a system, over UDP.
 
 use crate::ending::{End, Party, node_end, report_end, report_range};
+use crate::going_on::go_on;
 use crate::journaling::{open_journal, with_journal};
 use crate::keys::read_key;
-use crate::owning::{check_owner, note_owner};
+use crate::owning::check_owner;
 use crate::stores::open_node_store;
 use crate::system_file::{read_system, report_fault};
 use crate::watching::{Served, Shown, level_of, open_server, run_watched};
@@ -267,25 +268,25 @@ fn serve_stored<
 }
 
 // Closes the store of this name, over which a node was served.
-fn closed(ended: Result<FiledStore, RuntimeError>, name: &StoreName) -> Result<(), End> {
+fn closed(ended: Result<FiledStore, End>, name: &StoreName) -> Result<(), End> {
     match ended {
         Ok(store) => Ok(close_named(store, name)?),
-        Err(error) => Err(node_end(Some(name), error)),
+        Err(end) => Err(end),
     }
 }
 
-// Serves the node over a store in any place, which knows its owner from then on, and returns the store. It ends if the store
-// loses this name.
+// Serves the node over a store in any place, and returns the store. Refuses one that is older than the text beside it says. It
+// ends if the store loses this name.
 fn serve_kept<S, L, T, O>(
     rt: &HostRuntime,
     threads: &T,
     choice: StoreChoice<'_>,
     served: &Served<'_, O>,
     server: &mut Option<Server>,
-    store: Store<S>,
+    mut store: Store<S>,
     name: &StoreName,
     link: L,
-) -> Result<Store<S>, RuntimeError>
+) -> Result<Store<S>, End>
 where
     S: Alter + Drop + Send,
     L: Link + RefusesForged + Send,
@@ -293,11 +294,11 @@ where
     O: Objects + Sync,
 {
     let about = &served.shown.about;
-    note_owner(rt, choice, about.system, Owner::Node(about.place.number));
+    go_on(rt, choice, about.system, about.place.number, &mut store)?;
     let keeper = NamedKeeper::new(rt, store, name);
     match serve_with(rt, threads, served, server, keeper, link) {
         Ok(keeper) => Ok(keeper.into_inner()),
-        Err(error) => Err(error),
+        Err(error) => Err(node_end(Some(name), error)),
     }
 }
 

@@ -2,13 +2,14 @@
 
 use crate::ending::{End, Party, report_end, report_plainly, report_range};
 use crate::folder::{choice_of, make_folder, store_path};
+use crate::going_on::go_on;
 use crate::host::{Host, report_node};
 use crate::joining::run_beside;
 use crate::owning::{check_owner, note_owner};
 use crate::stores::{open_client_store, open_node_store};
 use crate::system_file::{read_system, report_fault};
 use scoop_command_line::{StoreChoice, UpOptions};
-use scoop_files::{FiledStore, close, report_file};
+use scoop_files::{FiledStore, NamedKeeper, StoreName, close, close_named, report_file};
 use scoop_journal::Owner;
 use scoop_keeper::{Keeper, MemoryKeeper};
 use scoop_message::{ClientId, OutOfMemory};
@@ -141,7 +142,7 @@ fn run_unstored_in<T: Threads + Wait + Clock + Net + Sync>(
     Ok(())
 }
 
-// Adds the node at this place, over its port and this keeper.
+// Adds the node at this place, over its port and this keeper, whose store has this name if it has one.
 fn add_host<K: Keeper<Global> + Send, T: Net>(
     rt: &HostRuntime,
     net: &T,
@@ -149,10 +150,10 @@ fn add_host<K: Keeper<Global> + Send, T: Net>(
     place: &NodePlace,
     serving: Serving,
     keeper: K,
-    path: Option<String>,
+    name: Option<StoreName>,
     hosts: &mut Vec<Host<K>>,
 ) -> Result<(), Status> {
-    match Host::open(rt, net, system, place, serving, keeper, path) {
+    match Host::open(rt, net, system, place, serving, keeper, name) {
         Ok(host) => keep(rt, host, hosts),
         Err(error) => Err(report_node(rt, system, place.address, None, error)),
     }
@@ -201,8 +202,9 @@ fn run_stored_in<T: Threads + Wait + Clock + Net + Sync>(
     let path = store_path(rt, dir, "client", client.0)?;
     let choice = choice_of(rt, &path)?;
     check_owner(rt, choice, plan.system(), Owner::Client(client))?;
+    let name = name_of(rt, choice)?;
     match open_client_store(rt, choice, None, client) {
-        Ok(store) => run_filed(rt, threads, plan, hosts, choice, store),
+        Ok(store) => run_filed(rt, threads, plan, hosts, choice, store, &name),
         Err(error) => Err(report_file(rt, Hints::Always, &path, error)),
     }
 }
@@ -215,8 +217,9 @@ fn run_filed<T: Threads + Wait + Clock + Net + Sync>(
     hosts: &mut Vec<Host<FiledStore>>,
     choice: StoreChoice<'_>,
     store: FiledStore,
+    name: &StoreName,
 ) -> Result<(), Status> {
-    let (ran, store) = run_kept(rt, threads, plan, hosts, choice, store);
+    let (ran, store) = run_kept(rt, threads, plan, hosts, choice, store, name);
     let closed = close_store(rt, choice.path().unwrap_or(""), store);
     match ran {
         Ok(()) => closed,
@@ -224,19 +227,22 @@ fn run_filed<T: Threads + Wait + Clock + Net + Sync>(
     }
 }
 
-// The same over a store in any place, which knows its owner from then on and is returned.
+// The same over a store in any place, which knows its owner from then on and is returned. The text beside it gets the client's
+// incarnation.
 fn run_kept<S: Alter + Drop + Send, T: Threads + Wait + Clock + Net + Sync>(
     rt: &HostRuntime,
     threads: &T,
     plan: &ClientPlan<'_>,
     hosts: &mut Vec<Host<Store<S>>>,
     choice: StoreChoice<'_>,
-    mut store: Store<S>,
+    store: Store<S>,
+    name: &StoreName,
 ) -> (Result<(), Status>, Store<S>) {
     let owner = Owner::Client(plan.place().client);
     note_owner(rt, choice, plan.system(), owner);
-    let ran = run_together(rt, threads, hosts, plan, &mut store);
-    (ran, store)
+    let mut keeper = NamedKeeper::new(rt, store, name);
+    let ran = run_together(rt, threads, hosts, plan, &mut keeper);
+    (ran, keeper.into_inner())
 }
 
 // Adds the node at this place, over its store.
@@ -283,28 +289,38 @@ fn add_opened<S: Alter + Drop + Send, T: Net>(
     place: &NodePlace,
     serving: Serving,
     choice: StoreChoice<'_>,
-    store: Store<S>,
+    mut store: Store<S>,
     hosts: &mut Vec<Host<Store<S>>>,
 ) -> Result<(), Status> {
-    note_owner(rt, choice, system, Owner::Node(place.number));
+    go_on(rt, choice, system, place.number, &mut store)?;
     let serving = match choice {
         StoreChoice::Old(_) => serving.going_on(),
         StoreChoice::New(_) | StoreChoice::None => serving,
     };
-    let Ok(path) = String::from_str(rt.alloc(), choice.path().unwrap_or("")) else {
-        return Err(report_plainly(rt, RuntimeError::from(OutOfMemory)));
-    };
-    add_host(rt, net, system, place, serving, store, Some(path), hosts)
+    let name = name_of(rt, choice)?;
+    add_host(rt, net, system, place, serving, store, Some(name), hosts)
+}
+
+fn name_of(rt: &HostRuntime, choice: StoreChoice<'_>) -> Result<StoreName, Status> {
+    match StoreName::new(rt.alloc(), choice.path().unwrap_or("")) {
+        Ok(name) => Ok(name),
+        Err(error) => Err(report_plainly(rt, RuntimeError::from(error))),
+    }
 }
 
 // Runs the nodes beside the client, and reports why the client ends early.
-fn run_together<K: Keeper<Global> + Send, T: Threads + Wait + Clock + Net + Sync>(
+fn run_together<K, C, T>(
     rt: &HostRuntime,
     threads: &T,
     hosts: &mut Vec<Host<K>>,
     plan: &ClientPlan<'_>,
-    keeper: &mut K,
-) -> Result<(), Status> {
+    keeper: &mut C,
+) -> Result<(), Status>
+where
+    K: Keeper<Global> + Send,
+    C: Keeper<Global>,
+    T: Threads + Wait + Clock + Net + Sync,
+{
     let place = plan.place();
     let link = match open_client_link(threads, rt.alloc(), plan.system(), &place) {
         Ok(link) => link,
@@ -349,32 +365,35 @@ fn close_hosts(
 // Reports why a node ended early, or closes its store.
 fn close_host(rt: &HostRuntime, system: &System, host: Host<FiledStore>) -> Result<(), Status> {
     match store_of(rt, system, host) {
-        Ok((store, path)) => close_kept(rt, path, store),
+        Ok((store, name)) => close_kept(rt, name, store),
         Err(status) => Err(status),
     }
 }
 
-// Reports why a node ended early, or returns its store and the file of that.
+// Reports why a node ended early, or returns its store and the name of that.
 fn store_of<S: Alter + Drop + Send>(
     rt: &HostRuntime,
     system: &System,
     host: Host<Store<S>>,
-) -> Result<(Option<Store<S>>, Option<String>), Status> {
+) -> Result<(Option<Store<S>>, Option<StoreName>), Status> {
     match host.report(rt, system) {
         Ok(()) => Ok(host.into_keeper()),
         Err(status) => Err(status),
     }
 }
 
-// Closes the store of a node, which is in this file.
+// Closes the store of a node, which has this name, unless it has lost it.
 fn close_kept(
     rt: &HostRuntime,
-    path: Option<String>,
+    name: Option<StoreName>,
     store: Option<FiledStore>,
 ) -> Result<(), Status> {
-    match store {
-        Some(store) => close_store(rt, path.as_deref().unwrap_or(""), store),
-        None => Ok(()),
+    let (Some(name), Some(store)) = (name, store) else {
+        return Ok(());
+    };
+    match close_named(store, &name) {
+        Ok(()) => Ok(()),
+        Err(error) => Err(report_file(rt, Hints::Always, name.path(), error)),
     }
 }
 

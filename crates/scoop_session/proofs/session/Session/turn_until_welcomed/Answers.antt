@@ -1,5 +1,5 @@
 use Rattle.scoop_session.proofs.Turned.{turned_more}
-use Rattle.scoop_session.proofs.session.Session.greet.Goals as goal
+use Rattle.scoop_session.proofs.session.Session.turn_until_welcomed.Goals as goal
 
 pub returns-in-Err-clause-turned : goal.returns-in-Err-clause-turned
 returns-in-Err-clause-turned g c = turned_more _ _ _ _ c.loop-taken.invariant c.in-Err.ensures.does

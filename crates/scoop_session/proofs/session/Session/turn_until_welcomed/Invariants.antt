@@ -1,5 +1,5 @@
 use Rattle.scoop_session.specs.Obeying.{TakesTurnsOnly}
-use Rattle.scoop_session.proofs.session.Session.greet.Given as goal
+use Rattle.scoop_session.proofs.session.Session.turn_until_welcomed.Given as goal
 
 abbrev pub invariant-loop-taken : goal.invariant-loop-taken
 invariant-loop-taken g l = TakesTurnsOnly l.initial.self.driver.seen l.self.driver.seen
