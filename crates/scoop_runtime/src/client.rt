@@ -1,13 +1,15 @@
 //! A client whose commands are the lines of an input.
 
-ghost use Rattle.std.specs.Prelude.{◌≡◌, None, Ok, Err, IfOk, OnErr, OnOk, is_some};
+ghost use Rattle.std.specs.Prelude.{◌≡◌, None, Ok, Err, IfOk, IsFalse, OnErr, OnOk, is_some};
 ghost use Rattle.scoop_client.specs.State.{phase_of};
 ghost use Rattle.scoop_keeper.specs.Keeper.{Stays};
 ghost use Rattle.scoop_system.specs.Known.{known_to};
 ghost use Rattle.scoop_runtime.specs.Beginnings.{BeginsNext};
 ghost use Rattle.scoop_runtime.specs.ClientLives.{BeginsNone, ClientRan, LivesOn, RunsLives};
-ghost use Rattle.scoop_session.specs.Obeying.{Drives};
+ghost use Rattle.scoop_session.specs.Obeying.{Drives, TakesTurnsOnly};
+ghost use Rattle.scoop_session.specs.Parting.{owes};
 ghost use Rattle.scoop_session.specs.Endings.{input_ended};
+ghost use Rattle.scoop_session.specs.Settling.{HasFor};
 
 use crate::cutting::{Remains, cut_left, tell_unended};
 use crate::plan::ClientPlan;
@@ -214,7 +216,8 @@ fn obey_lines<L: Link, J: Write + Drop, I: LineSource + Interrupt, P: Pause, W: 
     Ok(refusals)
 }
 
-// Does what a line asks. There is no reply if the journal doesn't have all that it rests on.
+// Does what a line asks. There is no reply if the journal doesn't have all that it rests on. Only the lines that led to
+// `Logged`, `Reserved` and `Noted` may wait.
 fn obey<L: Link, J: Write + Drop, P: Pause, I: Interrupt, N: Write>(
     plan: &ClientPlan<'_>,
     session: &mut Session<'_, L, J>,
@@ -224,6 +227,7 @@ fn obey<L: Link, J: Write + Drop, P: Pause, I: Interrupt, N: Write>(
     notes: &mut N,
 ) -> Result<Option<Reply>, RuntimeError>
     ensures written { OnOk result (session.new.driver.diary.failure ≡ None) }
+    ensures lines { IfOk result (λ replied. HasFor replied session.new.driver.diary.journal.now) }
     ensures drives { Drives session.old.driver.seen session.new.driver.seen }
 {
     let obeyed = session.obey(
@@ -275,6 +279,27 @@ fn obey_line<L: Link, J: Write + Drop, P: Pause, I: Interrupt, W: Write, N: Writ
     }
 }
 
+/// Greets these handlers. Returns the error with which the client ends, also if a line of its journal isn't written.
+pub(crate) fn greet_all<L: Link, J: Write + Drop>(
+    plan: &ClientPlan<'_>,
+    session: &mut Session<'_, L, J>,
+    handlers: &[HandlerId],
+    turns: u64,
+) -> Result<(), RuntimeError>
+    ensures greeted { OnOk result (IsFalse (owes session.new.driver.seen.client handlers.now)) }
+    ensures turned { TakesTurnsOnly session.old.driver.seen session.new.driver.seen }
+    ensures written { OnOk result (session.new.driver.diary.failure ≡ None) }
+{
+    let greeted = session.greet(handlers, turns);
+    if let Some(unwritten) = session.unwritten() {
+        return Err(unwritten);
+    }
+    match greeted {
+        Ok(()) => Ok(()),
+        Err(error) => Err(session.ended_by(error, plan.system().handlers())),
+    }
+}
+
 // Greets, and does what the lines ask. Borrows the session, so that no early return has to drop it.
 #[tactic(auto, using(crate::proofs::Names::drives_turned))]
 fn run_session<L: Link, J: Write + Drop, I: LineSource + Interrupt, P: Pause, W: Write, N: Write>(
@@ -290,13 +315,9 @@ fn run_session<L: Link, J: Write + Drop, I: LineSource + Interrupt, P: Pause, W:
     ensures drives { Drives session.old.driver.seen session.new.driver.seen }
     ensures ended { OnOk result (input_ended (is_some session.new.wish) (phase_of session.new.driver.seen.client) ≡ Ok (tt {0})) }
 {
-    let greeted = session.greet(known, plan.turns());
-    if let Some(unwritten) = session.unwritten() {
-        return Err(unwritten);
-    }
-    match greeted {
+    match greet_all(plan, session, known, plan.turns()) {
         Ok(()) => progress.is_ready = true,
-        Err(error) => return Err(session.ended_by(error, plan.system().handlers())),
+        Err(error) => return Err(error),
     }
     tell_ready(plan.place().client, plan.is_typed(), notes);
     let refusals = match obey_lines(plan, session, lines, progress, pause, writer, notes) {
@@ -452,8 +473,8 @@ where
 
 /// Runs a client over a link. It takes its next incarnation from the keeper, greets every handler that it uses, and then does what
 /// each line of the input asks. It writes one line for each, at once; for a refusal it writes `refused` and why, and goes on.
-/// It writes its journal, if there is one: a command before it sends anything for it, and what it received before it acts on
-/// it. Repeated datagrams are rate-limited. When nothing new comes for a second, the client writes to `waits` which handlers it
+/// It writes its journal, if there is one: a command and what it received before it sends a new message for them, and before it
+/// answers. Repeated datagrams are rate-limited. When nothing new comes for a second, the client writes to `waits` which handlers it
 /// waits for. A call of the link that fails is written to `faults`; only the thousandth in a row ends the client. Between
 /// the tries of a waiting block it pauses with `pause`.
 ///

@@ -7,7 +7,7 @@ ghost use Rattle.scoop_system.specs.Known.{known_to};
 ghost use Rattle.scoop_runtime.specs.ClientLives.{LivesAtMostOnce};
 ghost use Rattle.scoop_runtime.specs.Cutting.{BecomesOf, Cuts, IsNotGivenUp, Parts, PartsFrom, cut_text, freeing_text, held_text, unended_line};
 
-use crate::client::begin_client;
+use crate::client::{begin_client, greet_all};
 use crate::plan::ClientPlan;
 use scoop_client::HandlerList;
 use scoop_errors::PartyError;
@@ -49,7 +49,7 @@ fn print_held<N: Write>(client: ClientId, handlers: &[HandlerId], notes: &mut N)
     print_freeing(client, notes)
 }
 
-// Writes the same of those handlers that owe a client's next incarnation their welcome.
+// Writes the same of those handlers that owe a client's next incarnation their welcome, if there are any.
 fn tell_held<L: Link, J: Write + Drop, N: Write>(
     alloc: Global,
     client: ClientId,
@@ -58,6 +58,7 @@ fn tell_held<L: Link, J: Write + Drop, N: Write>(
     notes: &mut N,
 ) {
     let written = match session.awaited(alloc, handlers) {
+        Ok(awaited) if awaited.is_empty() => Ok(()),
         Ok(awaited) => print_held(client, &awaited, notes),
         Err(_) => print_held(client, handlers, notes),
     };
@@ -85,11 +86,11 @@ fn greet_anew<K: Keeper<Global>, L: Link, J: Write + Drop, N: Write>(
 {
     let client = begin_client(alloc, plan, keeper, known, journal)?;
     let mut session = Session::new(alloc, client, LentLink::new(link), turns, journal);
-    match session.greet(handlers, turns) {
+    match greet_all(plan, &mut session, handlers, turns) {
         Ok(()) => Ok(()),
         Err(error) => {
             tell_held(alloc, plan.place().client, &session, handlers, notes);
-            Err(session.ended_by(error, plan.system().handlers()))
+            Err(error)
         }
     }
 }
