@@ -3,6 +3,7 @@
 use crate::ending::End;
 use crate::host::Host;
 use crate::keyboard::Keyboard;
+use scoop_files::StoreName;
 use scoop_journal::{Journal, JournalFile};
 use scoop_keeper::Keeper;
 use scoop_link::UdpLink;
@@ -19,15 +20,16 @@ use std::{io, thread};
 
 // A client with its record and its link, before it runs.
 #[derive(Drop)]
-struct Asking<'a, 'p, 'k, K: Keeper<Global>, T: Net> {
+struct Asking<'a, 'p, 'k, 'n, K: Keeper<Global>, T: Net> {
     rt: &'a HostRuntime,
     net: &'a T,
     plan: &'a ClientPlan<'p>,
     keeper: &'k mut K,
     link: UdpLink,
+    names: &'n [StoreName],
 }
 
-impl<'a, 'p, 'k, K: Keeper<Global>, T: Net> Asking<'a, 'p, 'k, K, T> {
+impl<'a, 'p, 'k, 'n, K: Keeper<Global>, T: Net> Asking<'a, 'p, 'k, 'n, K, T> {
     fn run(self) -> Result<(), End> {
         let Asking {
             rt,
@@ -35,21 +37,23 @@ impl<'a, 'p, 'k, K: Keeper<Global>, T: Net> Asking<'a, 'p, 'k, K, T> {
             plan,
             keeper,
             link,
+            names,
         } = self;
-        ask(rt, net, plan, keeper, link)
+        ask(rt, net, plan, keeper, link, names)
     }
 }
 
 /// Runs the nodes, each in a thread, while the client runs. Then it asks the nodes to end, and joins all threads. Returns the
-/// nodes, and the end of the client.
-pub(crate) fn run_beside<K, C, T>(
+/// nodes, and the end of the client. The client ends when a store of these names is lost.
+pub(crate) fn run_beside<'n, K, C, T>(
     rt: &HostRuntime,
     threads: &T,
-    hosts: Vec<Host<K>>,
+    hosts: Vec<Host<'n, K>>,
     plan: &ClientPlan<'_>,
     keeper: &mut C,
     link: UdpLink,
-) -> (Vec<Host<K>>, Result<(), End>)
+    names: &[StoreName],
+) -> (Vec<Host<'n, K>>, Result<(), End>)
 where
     K: Keeper<Global> + Send,
     C: Keeper<Global>,
@@ -62,17 +66,18 @@ where
         plan,
         keeper,
         link,
+        names,
     };
     host_beside(threads, hosts, &ending, asking)
 }
 
 // Starts a thread for each node, runs the client in this one, and waits for all.
-fn host_beside<K, C, T>(
+fn host_beside<'n, K, C, T>(
     threads: &T,
-    mut hosts: Vec<Host<K>>,
+    mut hosts: Vec<Host<'n, K>>,
     ending: &Ending,
-    asking: Asking<'_, '_, '_, C, T>,
-) -> (Vec<Host<K>>, Result<(), End>)
+    asking: Asking<'_, '_, '_, '_, C, T>,
+) -> (Vec<Host<'n, K>>, Result<(), End>)
 where
     K: Keeper<Global> + Send,
     C: Keeper<Global>,
@@ -81,7 +86,8 @@ where
     let lent = hosts.as_mut_slice();
     let rt = asking.rt;
     let ran = thread::scope(thread::scope_env(), threads, move |scope| {
-        for host in lent.iter_mut() {
+        let each = lent.iter_mut();
+        for host in each {
             let spawned = scope.spawn(move || host.run(rt, threads, ending));
             if spawned.is_err() {
                 report_no_thread(rt);
@@ -110,8 +116,10 @@ fn ask<K: Keeper<Global>, T: Net>(
     plan: &ClientPlan<'_>,
     keeper: &mut K,
     link: UdpLink,
+    names: &[StoreName],
 ) -> Result<(), End> {
     let alloc = rt.alloc();
+    let mut lines = Keyboard::new(rt, net, plan.system(), names)?;
     let mut output = BufWriter::new(alloc, io::writer(rt)).map_err(|_| OutOfMemory)?;
     client_run(
         alloc,
@@ -119,7 +127,7 @@ fn ask<K: Keeper<Global>, T: Net>(
         keeper,
         link,
         None::<Journal<&JournalFile>>,
-        &mut Keyboard::new(rt, net, plan.system()),
+        &mut lines,
         rt.stderr(),
         rt.stderr(),
         &mut Backoff::new(rt, plan.place().client),

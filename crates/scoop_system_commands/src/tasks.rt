@@ -61,7 +61,7 @@ impl<'n, T: Net> ClientTask for Input<'n, T> {
         journal: Option<&JournalFile>,
         link: L,
     ) -> Result<(), End> {
-        let mut lines = Keyboard::new(rt, self.net, plan.system());
+        let mut lines = Keyboard::new(rt, self.net, plan.system(), &[])?;
         run_lines(rt, plan, store, journal, link, &mut lines)
     }
 }

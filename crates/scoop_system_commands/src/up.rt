@@ -9,7 +9,7 @@ use crate::owning::{check_owner, note_owner};
 use crate::stores::{open_client_store, open_node_store};
 use crate::system_file::{read_system, report_fault};
 use scoop_command_line::{StoreChoice, UpOptions};
-use scoop_files::{FiledStore, NamedKeeper, StoreName, close, close_named, report_file};
+use scoop_files::{FiledStore, NamedKeeper, StoreName, close_named, report_file};
 use scoop_journal::Owner;
 use scoop_keeper::{Keeper, MemoryKeeper};
 use scoop_message::{ClientId, OutOfMemory};
@@ -119,7 +119,7 @@ fn run_unstored_in<T: Threads + Wait + Clock + Net + Sync>(
     threads: &T,
     serving: Serving,
     plan: &ClientPlan<'_>,
-    hosts: &mut Vec<Host<MemoryKeeper>>,
+    hosts: &mut Vec<Host<'_, MemoryKeeper>>,
     keeper: &mut MemoryKeeper,
 ) -> Result<(), Status> {
     for place in plan.system().nodes() {
@@ -135,7 +135,7 @@ fn run_unstored_in<T: Threads + Wait + Clock + Net + Sync>(
             hosts,
         )?;
     }
-    run_together(rt, threads, hosts, plan, keeper)?;
+    run_together(rt, threads, &[], hosts, plan, keeper)?;
     for host in hosts.iter() {
         host.report(rt, plan.system())?;
     }
@@ -143,15 +143,15 @@ fn run_unstored_in<T: Threads + Wait + Clock + Net + Sync>(
 }
 
 // Adds the node at this place, over its port and this keeper, whose store has this name if it has one.
-fn add_host<K: Keeper<Global> + Send, T: Net>(
+fn add_host<'n, K: Keeper<Global> + Send, T: Net>(
     rt: &HostRuntime,
     net: &T,
     system: &System,
     place: &NodePlace,
     serving: Serving,
     keeper: K,
-    name: Option<StoreName>,
-    hosts: &mut Vec<Host<K>>,
+    name: Option<&'n StoreName>,
+    hosts: &mut Vec<Host<'n, K>>,
 ) -> Result<(), Status> {
     match Host::open(rt, net, system, place, serving, keeper, name) {
         Ok(host) => keep(rt, host, hosts),
@@ -159,10 +159,10 @@ fn add_host<K: Keeper<Global> + Send, T: Net>(
     }
 }
 
-fn keep<K: Keeper<Global>>(
+fn keep<'n, K: Keeper<Global>>(
     rt: &HostRuntime,
-    host: Host<K>,
-    hosts: &mut Vec<Host<K>>,
+    host: Host<'n, K>,
+    hosts: &mut Vec<Host<'n, K>>,
 ) -> Result<(), Status> {
     match hosts.push(host) {
         Ok(()) => Ok(()),
@@ -179,48 +179,82 @@ fn run_stored<T: Threads + Wait + Clock + Net + Sync>(
     dir: &str,
 ) -> Result<(), Status> {
     make_folder(rt, dir)?;
+    let names = names_in(rt, plan.system(), dir)?;
     let mut hosts = Vec::new(rt.alloc());
-    let ran = run_stored_in(rt, threads, serving, plan, dir, &mut hosts);
+    let ran = run_stored_in(
+        rt,
+        threads,
+        serving,
+        plan,
+        dir,
+        names.as_slice(),
+        &mut hosts,
+    );
     let ended = close_hosts(rt, plan.system(), hosts);
+    if names.iter().any(|name| name.is_lost()) {
+        ended?;
+    }
     ran?;
     ended
 }
 
-// The same over these nodes, which are none yet.
-fn run_stored_in<T: Threads + Wait + Clock + Net + Sync>(
+// The names of the nodes' stores in this folder.
+fn names_in(rt: &HostRuntime, system: &System, dir: &str) -> Result<Vec<StoreName>, Status> {
+    let mut names = Vec::new(rt.alloc());
+    for place in system.nodes() {
+        let name = name_in(rt, dir, "node", place.number)?;
+        if names.push(name).is_err() {
+            return Err(report_plainly(rt, RuntimeError::from(OutOfMemory)));
+        }
+    }
+    Ok(names)
+}
+
+// The name of a party's store in this folder.
+fn name_in(rt: &HostRuntime, dir: &str, kind: &str, number: u32) -> Result<StoreName, Status> {
+    let path = store_path(rt, dir, kind, number)?;
+    match StoreName::new(rt.alloc(), &path) {
+        Ok(name) => Ok(name),
+        Err(error) => Err(report_plainly(rt, RuntimeError::from(error))),
+    }
+}
+
+// The same over these nodes, which are none yet, and whose stores have these names.
+fn run_stored_in<'n, T: Threads + Wait + Clock + Net + Sync>(
     rt: &HostRuntime,
     threads: &T,
     serving: Serving,
     plan: &ClientPlan<'_>,
     dir: &str,
-    hosts: &mut Vec<Host<FiledStore>>,
+    names: &'n [StoreName],
+    hosts: &mut Vec<Host<'n, FiledStore>>,
 ) -> Result<(), Status> {
-    for place in plan.system().nodes() {
-        add_stored(rt, threads, plan.system(), place, serving, dir, hosts)?;
+    for (place, name) in plan.system().nodes().iter().zip(names) {
+        add_stored(rt, threads, plan.system(), place, serving, name, hosts)?;
     }
     let client = plan.place().client;
-    let path = store_path(rt, dir, "client", client.0)?;
-    let choice = choice_of(rt, &path)?;
+    let name = name_in(rt, dir, "client", client.0)?;
+    let choice = choice_of(rt, name.path())?;
     check_owner(rt, choice, plan.system(), Owner::Client(client))?;
-    let name = name_of(rt, choice)?;
     match open_client_store(rt, choice, None, client) {
-        Ok(store) => run_filed(rt, threads, plan, hosts, choice, store, &name),
-        Err(error) => Err(report_file(rt, Hints::Always, &path, error)),
+        Ok(store) => run_filed(rt, threads, plan, names, hosts, choice, store, &name),
+        Err(error) => Err(report_file(rt, Hints::Always, name.path(), error)),
     }
 }
 
-// The same over the client's store in this file, which is closed then.
+// The same over the client's store of this name, which is closed then.
 fn run_filed<T: Threads + Wait + Clock + Net + Sync>(
     rt: &HostRuntime,
     threads: &T,
     plan: &ClientPlan<'_>,
-    hosts: &mut Vec<Host<FiledStore>>,
+    names: &[StoreName],
+    hosts: &mut Vec<Host<'_, FiledStore>>,
     choice: StoreChoice<'_>,
     store: FiledStore,
     name: &StoreName,
 ) -> Result<(), Status> {
-    let (ran, store) = run_kept(rt, threads, plan, hosts, choice, store, name);
-    let closed = close_store(rt, choice.path().unwrap_or(""), store);
+    let (ran, store) = run_kept(rt, threads, plan, names, hosts, choice, store, name);
+    let closed = close_store(rt, name, store);
     match ran {
         Ok(()) => closed,
         Err(status) => Err(status),
@@ -233,7 +267,8 @@ fn run_kept<S: Alter + Drop + Send, T: Threads + Wait + Clock + Net + Sync>(
     rt: &HostRuntime,
     threads: &T,
     plan: &ClientPlan<'_>,
-    hosts: &mut Vec<Host<Store<S>>>,
+    names: &[StoreName],
+    hosts: &mut Vec<Host<'_, Store<S>>>,
     choice: StoreChoice<'_>,
     store: Store<S>,
     name: &StoreName,
@@ -241,48 +276,45 @@ fn run_kept<S: Alter + Drop + Send, T: Threads + Wait + Clock + Net + Sync>(
     let owner = Owner::Client(plan.place().client);
     note_owner(rt, choice, plan.system(), owner);
     let mut keeper = NamedKeeper::new(rt, store, name);
-    let ran = run_together(rt, threads, hosts, plan, &mut keeper);
+    let ran = run_together(rt, threads, names, hosts, plan, &mut keeper);
     (ran, keeper.into_inner())
 }
 
-// Adds the node at this place, over its store.
-fn add_stored<T: Net>(
+// Adds the node at this place, over its store of this name.
+fn add_stored<'n, T: Net>(
     rt: &HostRuntime,
     net: &T,
     system: &System,
     place: &NodePlace,
     serving: Serving,
-    dir: &str,
-    hosts: &mut Vec<Host<FiledStore>>,
+    name: &'n StoreName,
+    hosts: &mut Vec<Host<'n, FiledStore>>,
 ) -> Result<(), Status> {
-    let path = store_path(rt, dir, "node", place.number)?;
-    let choice = choice_of(rt, &path)?;
+    let choice = choice_of(rt, name.path())?;
     check_owner(rt, choice, system, Owner::Node(place.number))?;
-    add_filed(rt, net, system, place, serving, choice, hosts)
+    add_filed(rt, net, system, place, serving, choice, name, hosts)
 }
 
 // Adds the node over the store in this file. A function that names the files' type does one thing alone: the prover takes too
 // many steps at more.
-fn add_filed<T: Net>(
+fn add_filed<'n, T: Net>(
     rt: &HostRuntime,
     net: &T,
     system: &System,
     place: &NodePlace,
     serving: Serving,
     choice: StoreChoice<'_>,
-    hosts: &mut Vec<Host<FiledStore>>,
+    name: &'n StoreName,
+    hosts: &mut Vec<Host<'n, FiledStore>>,
 ) -> Result<(), Status> {
     match open_node_store(rt, choice) {
-        Ok(store) => add_opened(rt, net, system, place, serving, choice, store, hosts),
-        Err(error) => {
-            let path = choice.path().unwrap_or("");
-            Err(report_file(rt, Hints::Always, path, error))
-        }
+        Ok(store) => add_opened(rt, net, system, place, serving, choice, store, name, hosts),
+        Err(error) => Err(report_file(rt, Hints::Always, name.path(), error)),
     }
 }
 
 // Adds the node over the store that was opened by this choice, and goes on with what it holds if it is old.
-fn add_opened<S: Alter + Drop + Send, T: Net>(
+fn add_opened<'n, S: Alter + Drop + Send, T: Net>(
     rt: &HostRuntime,
     net: &T,
     system: &System,
@@ -290,29 +322,23 @@ fn add_opened<S: Alter + Drop + Send, T: Net>(
     serving: Serving,
     choice: StoreChoice<'_>,
     mut store: Store<S>,
-    hosts: &mut Vec<Host<Store<S>>>,
+    name: &'n StoreName,
+    hosts: &mut Vec<Host<'n, Store<S>>>,
 ) -> Result<(), Status> {
     go_on(rt, choice, system, place.number, &mut store)?;
     let serving = match choice {
         StoreChoice::Old(_) => serving.going_on(),
         StoreChoice::New(_) | StoreChoice::None => serving,
     };
-    let name = name_of(rt, choice)?;
     add_host(rt, net, system, place, serving, store, Some(name), hosts)
 }
 
-fn name_of(rt: &HostRuntime, choice: StoreChoice<'_>) -> Result<StoreName, Status> {
-    match StoreName::new(rt.alloc(), choice.path().unwrap_or("")) {
-        Ok(name) => Ok(name),
-        Err(error) => Err(report_plainly(rt, RuntimeError::from(error))),
-    }
-}
-
-// Runs the nodes beside the client, and reports why the client ends early.
+// Runs the nodes beside the client, and reports why the client ends early. It ends when a store of these names is lost.
 fn run_together<K, C, T>(
     rt: &HostRuntime,
     threads: &T,
-    hosts: &mut Vec<Host<K>>,
+    names: &[StoreName],
+    hosts: &mut Vec<Host<'_, K>>,
     plan: &ClientPlan<'_>,
     keeper: &mut C,
 ) -> Result<(), Status>
@@ -327,7 +353,7 @@ where
         Err(error) => return Err(report_client(rt, plan, End::Runtime(error))),
     };
     let lent = mem::replace(hosts, Vec::new(rt.alloc()));
-    let (lent, ran) = run_beside(rt, threads, lent, plan, keeper, link);
+    let (lent, ran) = run_beside(rt, threads, lent, plan, keeper, link, names);
     *hosts = lent;
     match ran {
         Ok(()) => Ok(()),
@@ -350,7 +376,7 @@ fn report_client(rt: &HostRuntime, plan: &ClientPlan<'_>, end: End) -> Status {
 fn close_hosts(
     rt: &HostRuntime,
     system: &System,
-    hosts: Vec<Host<FiledStore>>,
+    hosts: Vec<Host<'_, FiledStore>>,
 ) -> Result<(), Status> {
     let mut ended = Ok(());
     for host in hosts {
@@ -363,7 +389,7 @@ fn close_hosts(
 }
 
 // Reports why a node ended early, or closes its store.
-fn close_host(rt: &HostRuntime, system: &System, host: Host<FiledStore>) -> Result<(), Status> {
+fn close_host(rt: &HostRuntime, system: &System, host: Host<'_, FiledStore>) -> Result<(), Status> {
     match store_of(rt, system, host) {
         Ok((store, name)) => close_kept(rt, name, store),
         Err(status) => Err(status),
@@ -371,36 +397,33 @@ fn close_host(rt: &HostRuntime, system: &System, host: Host<FiledStore>) -> Resu
 }
 
 // Reports why a node ended early, or returns its store and the name of that.
-fn store_of<S: Alter + Drop + Send>(
+fn store_of<'n, S: Alter + Drop + Send>(
     rt: &HostRuntime,
     system: &System,
-    host: Host<Store<S>>,
-) -> Result<(Option<Store<S>>, Option<StoreName>), Status> {
+    host: Host<'n, Store<S>>,
+) -> Result<(Option<Store<S>>, Option<&'n StoreName>), Status> {
     match host.report(rt, system) {
         Ok(()) => Ok(host.into_keeper()),
         Err(status) => Err(status),
     }
 }
 
-// Closes the store of a node, which has this name, unless it has lost it.
+// Closes the store of a node.
 fn close_kept(
     rt: &HostRuntime,
-    name: Option<StoreName>,
+    name: Option<&StoreName>,
     store: Option<FiledStore>,
 ) -> Result<(), Status> {
-    let (Some(name), Some(store)) = (name, store) else {
-        return Ok(());
-    };
-    match close_named(store, &name) {
-        Ok(()) => Ok(()),
-        Err(error) => Err(report_file(rt, Hints::Always, name.path(), error)),
+    match (name, store) {
+        (Some(name), Some(store)) => close_store(rt, name, store),
+        _ => Ok(()),
     }
 }
 
-// Closes a store.
-fn close_store(rt: &HostRuntime, path: &str, store: FiledStore) -> Result<(), Status> {
-    match close(store) {
+// Closes the store of this name, unless it has lost that.
+fn close_store(rt: &HostRuntime, name: &StoreName, store: FiledStore) -> Result<(), Status> {
+    match close_named(store, name) {
         Ok(()) => Ok(()),
-        Err(error) => Err(report_file(rt, Hints::Always, path, error)),
+        Err(error) => Err(report_file(rt, Hints::Always, name.path(), error)),
     }
 }
