@@ -11,7 +11,7 @@ use jiff::Timestamp;
 use scoop_command_line::{NodeOptions, StoreChoice};
 use scoop_files::{FiledStore, NamedKeeper, StoreName, close_named};
 use scoop_journal::Owner;
-use scoop_journal_keeper::JournaledKeeper;
+use scoop_journal_keeper::{JournaledKeeper, Storage};
 use scoop_keeper::{Keeper, MemoryKeeper};
 use scoop_link::Link;
 use scoop_message::OutOfMemory;
@@ -272,7 +272,7 @@ where
     let about = &served.shown.about;
     note_owner(rt, choice, about.system, Owner::Node(about.place.number));
     let keeper = NamedKeeper::new(rt, store, name);
-    match serve_with(rt, threads, served, server, keeper, link) {
+    match serve_with(rt, threads, served, server, keeper, Storage::File, link) {
         Ok(keeper) => Ok(keeper.into_inner()),
         Err(error) => Err(error),
     }
@@ -291,17 +291,19 @@ fn serve_unstored<L: Link + RefusesForged + Send, T: Threads + Wait + Clock + Ne
         "no store: if this node restarts, it forgets what it acknowledged, which breaks the promise",
     );
     let keeper = MemoryKeeper::new(rt.alloc());
-    serve_with(rt, threads, served, server, keeper, link)?;
+    serve_with(rt, threads, served, server, keeper, Storage::Memory, link)?;
     Ok(())
 }
 
-// Serves the node over this keeper, and returns the keeper. The node writes its journal, if it has one.
+// Serves the node over this keeper, which keeps its states there, and returns the keeper. The node writes its journal, if it
+// has one.
 fn serve_with<K, L, T>(
     rt: &HostRuntime,
     threads: &T,
     served: &Served<'_>,
     server: &mut Option<Server>,
     keeper: K,
+    storage: Storage,
     link: L,
 ) -> Result<K, RuntimeError>
 where
@@ -319,6 +321,7 @@ where
     let keeper = JournaledKeeper::new(
         alloc,
         keeper,
+        storage,
         journal,
         served.shown.about.place.number,
         handlers,
