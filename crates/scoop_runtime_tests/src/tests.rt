@@ -7,6 +7,7 @@ mod emptied_keeper;
 mod ends;
 mod giving_up;
 mod going_on;
+mod journals;
 mod leaving;
 mod lossy_link;
 mod moments;

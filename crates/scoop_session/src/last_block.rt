@@ -1,9 +1,9 @@
 //! The diary of a client: its last block, and its journal if it writes one.
 
-ghost use Rattle.std.specs.Prelude.{◌≡◌, ⊤, None, OnErr, OnOk};
+ghost use Rattle.std.specs.Prelude.{◌≡◌, ⊤, None, IsTrue, OnErr, OnOk};
 ghost use Rattle.scoop_client.specs.State.{block_of};
 ghost use Rattle.scoop_journal.specs.declared.line.Line.TheVariants.{Broke as BrokeLine, Do as DoLine, Turn as TurnLine};
-ghost use Rattle.scoop_session.specs.Saying.{due_to};
+ghost use Rattle.scoop_session.specs.Saying.{SaysNothingNew, due_to};
 ghost use Rattle.scoop_session.specs.Diary.{Ends, Gathers, HasFailed, IsReady, IsSettled, TakesAll, arrival_of};
 
 use crate::said::{keep_due, says_nothing_new};
@@ -14,15 +14,19 @@ use scoop_message::{Block, HandlerId, Message, OutOfMemory};
 use std::alloc::{Allocator, Global};
 use std::io::Write;
 
+// The most lines that wait to be written.
+const MAX_LINES: u32 = 64;
+
 /// A diary that keeps only the block that the client had after its last command. It has the block's handlers, and how
 /// many calls and queries the client has logged at each. If there is a journal, it gathers a line of each step there. The
-/// lines are written before the client sends a message that it hasn't said, before an answer, and when the diary is let
-/// go. After a line that isn't written it refuses every further step.
+/// lines are written before the client sends a message that it hasn't said, before an answer, when they are many, and when
+/// the diary is let go. After a line that isn't written it refuses every further step.
 pub(crate) struct LastBlock<'j, J: Write + Drop> {
     block: Option<Block>,
     handlers: Option<HandlerList>,
     logged: [u32; MAX_NAMED_HANDLERS],
     said: Vec<Message>,
+    lines: u32,
     journal: &'j mut Option<Journal<J>>,
     failure: Option<AppendError>,
 }
@@ -41,6 +45,7 @@ impl<'j, J: Write + Drop> LastBlock<'j, J> {
             handlers: None,
             logged: [0; MAX_NAMED_HANDLERS],
             said: Vec::new(alloc),
+            lines: 0,
             journal,
             failure: None,
         }
@@ -56,6 +61,7 @@ impl<'j, J: Write + Drop> LastBlock<'j, J> {
             handlers: _,
             logged: _,
             said: _,
+            lines: _,
             journal,
             failure: _,
         } = self;
@@ -85,6 +91,7 @@ impl<'j, J: Write + Drop> LastBlock<'j, J> {
         if self.failure.is_some() {
             return;
         }
+        self.lines = self.lines.saturating_add(1);
         if let Err(error) = gather(self.journal, line) {
             self.failure = Some(error);
         }
@@ -103,6 +110,7 @@ impl<'j, J: Write + Drop> LastBlock<'j, J> {
         if self.failure.is_some() {
             return Err(OutOfMemory);
         }
+        self.lines = 0;
         match write(self.journal) {
             Ok(()) => Ok(()),
             Err(error) => {
@@ -110,6 +118,13 @@ impl<'j, J: Write + Drop> LastBlock<'j, J> {
                 Err(OutOfMemory)
             }
         }
+    }
+
+    // Whether the lines that are gathered may wait: nothing new is due, and they aren't too many.
+    fn may_wait<A: Allocator>(&self, client: &Client<A>) -> bool
+        ensures { IsTrue result → SaysNothingNew self.now.said.items client.now client.now.handlers }
+    {
+        self.lines < MAX_LINES && says_nothing_new(&self.said, client, client.handlers())
     }
 
     // Keeps the messages that are due now as those that are said.
@@ -248,7 +263,7 @@ impl<'j, A: Allocator, J: Write + Drop> Diary<A> for LastBlock<'j, J> {
         if self.failure.is_some() {
             return Err(OutOfMemory);
         }
-        if self.journal.is_none() || says_nothing_new(&self.said, client, client.handlers()) {
+        if self.journal.is_none() || self.may_wait(client) {
             return Ok(());
         }
         match self.write() {

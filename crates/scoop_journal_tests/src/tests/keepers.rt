@@ -1,7 +1,7 @@
 //! A keeper that writes a journal.
 
 use scoop_handler::{Heard, Note};
-use scoop_journal_keeper::JournaledKeeper;
+use scoop_journal_keeper::{JournaledKeeper, Storage};
 use scoop_keeper::{FailingKeeper, Keeper, KeeperError, MemoryKeeper};
 use scoop_message::{ClientId, HandlerId, Message};
 use scoop_record::read_image;
@@ -24,6 +24,8 @@ const IMAGE: [u8; 17] = *b"\x02\0\0\0\x01\x01\0\0\0\0\0\0\0\x05\0\0\0";
 
 const FIRST: &str = "scoop journal 1 node 1\nopen 1 0200000001010000000000000005000000 -\n";
 
+const RUN: &str = "begin 1\nfinish 1\n";
+
 const HEARD: &str = "hear 5351020100000001000000070000000100000000000000000000 \
     5351020200000001000000070000000100000000000000000000\n";
 
@@ -32,6 +34,18 @@ const HEARD: &str = "hear 5351020100000001000000070000000100000000000000000000 \
 struct Failing<'a> {
     text: &'a mut Vec<u8>,
     left: u32,
+}
+
+// A keeper in memory of handler 1, with a journal that takes a number of writes.
+fn journaled(
+    alloc: Global,
+    text: &mut Vec<u8>,
+    left: u32,
+) -> Result<JournaledKeeper<MemoryKeeper, Failing<'_>>, Fail> {
+    let handlers = Vec::from_slice(alloc, &[ONE])?;
+    let writer = Failing { text, left };
+    let kept = kept(alloc)?;
+    Ok(JournaledKeeper::new(alloc, kept, Storage::Memory, writer, 1, handlers))
 }
 
 impl Write for Failing<'_> {
@@ -65,11 +79,11 @@ fn events_are_written_after_the_first_lines(rt: HostRuntime) -> Result<(), Fail>
         text: &mut text,
         left: 9,
     };
-    let mut keeper = JournaledKeeper::new(alloc, kept(alloc)?, writer, 1, handlers);
+    let mut keeper = JournaledKeeper::new(alloc, kept(alloc)?, Storage::File, writer, 1, handlers);
     keeper.note_heard(&HELLO, &GREETED)?;
     keeper.note_finished(ONE)?;
     let _kept = keeper.into_inner();
-    let whole = format!(in alloc; "{FIRST}{HEARD}begin 1\nfinish 1\n")?;
+    let whole = format!(in alloc; "{FIRST}{HEARD}{RUN}")?;
     assert_eq!(rt; text.as_slice(), whole.as_bytes());
     Ok(())
 }
@@ -83,7 +97,7 @@ fn nothing_is_written_after_a_failed_write(rt: HostRuntime) -> Result<(), Fail> 
         text: &mut text,
         left: 1,
     };
-    let mut keeper = JournaledKeeper::new(alloc, kept(alloc)?, writer, 1, handlers);
+    let mut keeper = JournaledKeeper::new(alloc, kept(alloc)?, Storage::File, writer, 1, handlers);
     assert_eq!(rt;
         keeper.note_heard(&HELLO, &GREETED),
         Err(KeeperError::Refused)
@@ -101,7 +115,14 @@ fn a_keeper_that_fails_ends_the_node(rt: HostRuntime) -> Result<(), Fail> {
     let handlers = Vec::from_slice(alloc, &[ONE])?;
     // the opening is loaded, and the put is refused
     let failing = FailingKeeper::new(kept(alloc)?, 1);
-    let mut keeper = JournaledKeeper::new(alloc, failing, Vec::new(alloc), 1, handlers);
+    let mut keeper = JournaledKeeper::new(
+        alloc,
+        failing,
+        Storage::File,
+        Vec::new(alloc),
+        1,
+        handlers,
+    );
     keeper.note_heard(&HELLO, &GREETED)?;
     assert_eq!(rt; keeper.put_handler(&state), Err(KeeperError::Refused));
     Ok(())
@@ -111,10 +132,66 @@ fn a_keeper_that_fails_ends_the_node(rt: HostRuntime) -> Result<(), Fail> {
 fn a_handler_without_a_state_is_refused(rt: HostRuntime) -> Result<(), Fail> {
     let alloc = rt.alloc();
     let handlers = Vec::from_slice(alloc, &[HandlerId(2)])?;
-    let mut keeper = JournaledKeeper::new(alloc, kept(alloc)?, Vec::new(alloc), 1, handlers);
+    let mut keeper = JournaledKeeper::new(
+        alloc,
+        kept(alloc)?,
+        Storage::File,
+        Vec::new(alloc),
+        1,
+        handlers,
+    );
     assert_eq!(rt;
         keeper.note_finished(HandlerId(2)),
         Err(KeeperError::Refused)
     );
+    Ok(())
+}
+
+// One write for the life's first lines, one for what is heard first, and one for what is heard next with the runs before it.
+#[test]
+fn runs_over_a_keeper_in_memory_wait_for_what_is_heard_next(rt: HostRuntime) -> Result<(), Fail> {
+    let alloc = rt.alloc();
+    let mut text = Vec::new(alloc);
+    let mut keeper = journaled(alloc, &mut text, 3)?;
+    keeper.note_heard(&HELLO, &GREETED)?;
+    keeper.note_finished(ONE)?;
+    keeper.note_finished(ONE)?;
+    keeper.note_heard(&HELLO, &GREETED)?;
+    let _kept = keeper.into_inner();
+    let whole = format!(in alloc; "{FIRST}{HEARD}{RUN}{RUN}{HEARD}")?;
+    assert_eq!(rt; text.as_slice(), whole.as_bytes());
+    Ok(())
+}
+
+#[test]
+fn runs_that_wait_are_written_at_the_end(rt: HostRuntime) -> Result<(), Fail> {
+    let alloc = rt.alloc();
+    let whole = format!(in alloc; "{FIRST}{RUN}")?;
+    let mut text = Vec::new(alloc);
+    let mut keeper = journaled(alloc, &mut text, 2)?;
+    keeper.note_finished(ONE)?;
+    let _kept = keeper.into_inner();
+    assert_eq!(rt; text.as_slice(), whole.as_bytes());
+    text.clear();
+    let mut keeper = journaled(alloc, &mut text, 2)?;
+    keeper.note_finished(ONE)?;
+    drop(keeper);
+    assert_eq!(rt; text.as_slice(), whole.as_bytes());
+    Ok(())
+}
+
+#[test]
+fn a_run_after_a_failed_write_is_refused(rt: HostRuntime) -> Result<(), Fail> {
+    let alloc = rt.alloc();
+    let mut text = Vec::new(alloc);
+    let mut keeper = journaled(alloc, &mut text, 1)?;
+    keeper.note_finished(ONE)?;
+    assert_eq!(rt;
+        keeper.note_heard(&HELLO, &GREETED),
+        Err(KeeperError::Refused)
+    );
+    assert_eq!(rt; keeper.note_finished(ONE), Err(KeeperError::Refused));
+    let _kept = keeper.into_inner();
+    assert_eq!(rt; text.as_slice(), FIRST.as_bytes());
     Ok(())
 }

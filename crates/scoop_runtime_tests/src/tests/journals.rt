@@ -1,0 +1,309 @@
+//! The journal of a client: when it is written, and a writer that fails.
+
+use super::text_lines::TextLines;
+use scoop_driver::NoPause;
+use scoop_errors::PartyError;
+use scoop_frame::{Version, encode};
+use scoop_journal::Journal;
+use scoop_keeper::MemoryKeeper;
+use scoop_link::TapeLink;
+use scoop_message::limits::BUFFER_LEN;
+use scoop_message::{Answer, Block, ClientId, HandlerId, Message};
+use scoop_runtime::{ClientPlan, ClientStop, RuntimeError, client_cut, client_run};
+use scoop_system::System;
+use std::alloc::Global;
+use std::io;
+use std::io::{Error, ErrorKind, Write};
+use std::process::Abort;
+use std::test::Fail;
+
+const ACCOUNTS: &str = "\
+[[node]]
+number = 1
+address = \"127.0.0.1:47101\"
+[[handler]]
+number = 1
+node = 1
+class = \"account\"
+words = [100]
+[[handler]]
+number = 2
+node = 1
+class = \"account\"
+words = [0]
+[[client]]
+number = 7
+address = \"127.0.0.1:47107\"
+batch = 4
+";
+
+const SEVEN: ClientId = ClientId(7);
+
+const ONE: HandlerId = HandlerId(1);
+
+const TWO: HandlerId = HandlerId(2);
+
+// The client's first block.
+const BLOCK: Block = Block {
+    client: SEVEN,
+    inc: 1,
+    num: 1,
+};
+
+const WELCOMES: [Message; 2] = [
+    Message::Welcome(ONE, SEVEN, 1),
+    Message::Welcome(TWO, SEVEN, 1),
+];
+
+const JOINT: &[u8] = b"reserve 1 2\ncall 1 withdraw 30\ncall 2 deposit 30\nend\n";
+
+// The replies to its block.
+const TO_JOINT: [Message; 8] = [
+    Message::Locked(ONE, BLOCK),
+    Message::Locked(TWO, BLOCK),
+    Message::Opened(ONE, BLOCK),
+    Message::Opened(TWO, BLOCK),
+    Message::Unlocked(ONE, BLOCK),
+    Message::Unlocked(TWO, BLOCK),
+    Message::Logged(ONE, BLOCK, 2),
+    Message::Logged(TWO, BLOCK, 2),
+];
+
+const ASKS: &[u8] = b"reserve 1\nquery 1 balance\nend\n";
+
+const TO_ASKS: [Message; 5] = [
+    Message::Locked(ONE, BLOCK),
+    Message::Opened(ONE, BLOCK),
+    Message::Unlocked(ONE, BLOCK),
+    Message::Answer(ONE, BLOCK, 1, Answer::Value(100)),
+    Message::Logged(ONE, BLOCK, 2),
+];
+
+const UNWRITTEN: RuntimeError = RuntimeError::Ended(PartyError::Write);
+
+// What a writer took, and the number of writes after which it fails.
+#[derive(Drop)]
+struct Written {
+    text: Vec<u8>,
+    writes: u32,
+    limit: u32,
+}
+
+impl Written {
+    fn up_to(alloc: Global, limit: u32) -> Written {
+        Written {
+            text: Vec::new(alloc),
+            writes: 0,
+            limit,
+        }
+    }
+}
+
+// A writer that counts its writes.
+#[derive(Drop)]
+struct Counting<'a> {
+    written: &'a mut Written,
+}
+
+impl Write for Counting<'_> {
+    fn write(&mut self, buf: &[u8]) -> io::Result<usize> {
+        if self.written.writes == self.written.limit {
+            return Err(Error::new(ErrorKind::Other, "full"));
+        }
+        self.written.writes = self.written.writes.saturating_add(1);
+        self.written.text.write(buf)
+    }
+
+    fn flush(&mut self) -> io::Result<()> {
+        Ok(())
+    }
+}
+
+// Feeds the frames of these messages.
+fn feed(link: &mut TapeLink, messages: &[Message]) -> Option<()> {
+    for message in messages {
+        if !message.fits() || !Version::One.carries(message) {
+            return None;
+        }
+        let mut buffer = [0; BUFFER_LEN];
+        let len = encode(Version::One, message, &mut buffer);
+        link.feed(&buffer[..len]).ok()?;
+    }
+    Some(())
+}
+
+// A link that gives the welcomes, and then these replies.
+fn link_of(alloc: Global, replies: &[Message]) -> Option<TapeLink> {
+    let mut link = TapeLink::new(alloc, 64).ok()?;
+    feed(&mut link, &WELCOMES)?;
+    feed(&mut link, replies)?;
+    Some(link)
+}
+
+// The plan of client 7.
+fn plan_in(system: &System) -> Option<ClientPlan<'_>> {
+    let place = *system.client(SEVEN)?;
+    match ClientPlan::new(system, place, 20, false) {
+        Ok(plan) => Some(plan),
+        Err(_) => None,
+    }
+}
+
+// Runs the client of this plan over a link that gives these replies. Returns its end and its output.
+fn ask(
+    alloc: Global,
+    plan: &ClientPlan<'_>,
+    lines: &[u8],
+    replies: &[Message],
+    written: &mut Written,
+) -> Option<(Result<(), ClientStop>, Vec<u8>)> {
+    let link = link_of(alloc, replies)?;
+    let mut keeper = MemoryKeeper::new(alloc);
+    let mut output = Vec::new(alloc);
+    let mut notes = Vec::new(alloc);
+    let ended = client_run(
+        alloc,
+        plan,
+        &mut keeper,
+        link,
+        Some(Journal::new(alloc, Counting { written })),
+        &mut TextLines::new(lines),
+        Vec::new(alloc),
+        Vec::new(alloc),
+        &mut NoPause,
+        &mut output,
+        &mut notes,
+    );
+    Some((ended, output))
+}
+
+// The number of lines of the text that begin so.
+fn lines_of(text: &[u8], start: &[u8]) -> usize {
+    let mut count = 0usize;
+    for line in text.split(|byte| *byte == b'\n') {
+        if line.starts_with(start) {
+            count = count.saturating_add(1);
+        }
+    }
+    count
+}
+
+// The life takes one write for its first line and one for the greeting. The block takes one before its new messages go in each
+// of five rounds (Lock, Lock, Open, Unlock, Log), and one before it is told as ended. Its lines are four commands and eight
+// turns.
+#[test]
+fn a_joint_block_takes_six_writes(rt: HostRuntime) -> Result<(), Fail> {
+    let alloc = rt.alloc();
+    let system = System::read(alloc, ACCOUNTS)?;
+    let plan = plan_in(&system).ok_or("no plan")?;
+    let mut written = Written::up_to(alloc, 100);
+    let (ended, output) = ask(alloc, &plan, JOINT, &TO_JOINT, &mut written).ok_or("no client")?;
+    assert_eq!(rt; ended, Ok(()));
+    let replies = "reserved 7.1.1\nlogged 1 1\nlogged 2 1\nended\n";
+    assert!(rt; output.as_slice() == replies.as_bytes());
+    assert_eq!(rt; lines_of(&written.text, b"do "), 4);
+    assert_eq!(rt; lines_of(&written.text, b"turn 53"), 10);
+    assert_eq!(rt; written.writes, 2 + 6);
+    Ok(())
+}
+
+// After this number of writes the writer fails, and the client prints this before it ends.
+fn fails_after(
+    rt: &impl Abort,
+    alloc: Global,
+    lines: &[u8],
+    replies: &[Message],
+    limit: u32,
+    prints: &str,
+) -> Result<(), Fail> {
+    let system = System::read(alloc, ACCOUNTS)?;
+    let plan = plan_in(&system).ok_or("no plan")?;
+    let mut written = Written::up_to(alloc, limit);
+    let (ended, output) = ask(alloc, &plan, lines, replies, &mut written).ok_or("no client")?;
+    assert_eq!(rt;
+        ended.err().map(|stop| stop.error),
+        Some(UNWRITTEN),
+        "{limit}"
+    );
+    assert!(rt; output.as_slice() == prints.as_bytes(), "{limit}");
+    assert_eq!(rt; written.writes, limit);
+    Ok(())
+}
+
+#[test]
+fn a_client_answers_nothing_that_its_journal_lacks(rt: HostRuntime) -> Result<(), Fail> {
+    let alloc = rt.alloc();
+    for limit in 0..6 {
+        fails_after(&rt, alloc, JOINT, &TO_JOINT, limit, "")?;
+    }
+    let logged = "reserved 7.1.1\nlogged 1 1\nlogged 2 1\n";
+    fails_after(&rt, alloc, JOINT, &TO_JOINT, 6, logged)?;
+    fails_after(&rt, alloc, JOINT, &TO_JOINT, 7, logged)?;
+    let reserved = "reserved 7.1.1\n";
+    fails_after(&rt, alloc, ASKS, &TO_ASKS, 5, reserved)?;
+    fails_after(&rt, alloc, ASKS, &TO_ASKS, 6, reserved)
+}
+
+// The call's line waits for the next new message. The client is let go before that, and cuts its block then.
+#[test]
+fn lines_that_wait_are_written_at_the_end(rt: HostRuntime) -> Result<(), Fail> {
+    let alloc = rt.alloc();
+    let system = System::read(alloc, ACCOUNTS)?;
+    let plan = plan_in(&system).ok_or("no plan")?;
+    let lines = b"reserve 1 2\ncall 1 deposit 5\n";
+    let mut written = Written::up_to(alloc, 100);
+    let replies = &TO_JOINT[..6];
+    let (ended, output) = ask(alloc, &plan, lines, replies, &mut written).ok_or("no client")?;
+    assert_eq!(rt;
+        ended.err().map(|stop| stop.error),
+        Some(RuntimeError::InsideBlock)
+    );
+    assert!(rt; output.as_slice() == b"reserved 7.1.1\nlogged 1 1\n".as_slice());
+    assert_eq!(rt; lines_of(&written.text, b"do call 1 1 5"), 1);
+    assert_eq!(rt; lines_of(&written.text, b"scoop journal 1 client 7 2 4"), 1);
+    Ok(())
+}
+
+// Greets with client 7 to cut its blocks. Returns its end and its output.
+fn cut(
+    alloc: Global,
+    plan: &ClientPlan<'_>,
+    written: &mut Written,
+) -> Option<(Result<(), RuntimeError>, Vec<u8>)> {
+    let link = link_of(alloc, &[])?;
+    let mut keeper = MemoryKeeper::new(alloc);
+    let mut output = Vec::new(alloc);
+    let mut notes = Vec::new(alloc);
+    let ended = client_cut(
+        alloc,
+        plan,
+        &mut keeper,
+        link,
+        Some(Journal::new(alloc, Counting { written })),
+        Vec::new(alloc),
+        Vec::new(alloc),
+        &mut output,
+        &mut notes,
+    );
+    // no handler is told as one that may hold a block
+    if !notes.is_empty() {
+        return None;
+    }
+    Some((ended, output))
+}
+
+#[test]
+fn a_cut_is_told_once_the_journal_has_it(rt: HostRuntime) -> Result<(), Fail> {
+    let alloc = rt.alloc();
+    let system = System::read(alloc, ACCOUNTS)?;
+    let plan = plan_in(&system).ok_or("no plan")?;
+    let mut written = Written::up_to(alloc, 1);
+    let (ended, output) = cut(alloc, &plan, &mut written).ok_or("no client")?;
+    assert_eq!(rt; ended, Err(UNWRITTEN));
+    assert!(rt; output.is_empty());
+    let mut written = Written::up_to(alloc, 2);
+    let (ended, output) = cut(alloc, &plan, &mut written).ok_or("no client")?;
+    assert_eq!(rt; ended, Ok(()));
+    assert!(rt; output.as_slice() == b"cut client 7 at handlers 1 2\n".as_slice());
+    Ok(())
+}
