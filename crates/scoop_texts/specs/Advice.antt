@@ -76,7 +76,7 @@ party_advice party.NoThread = codes "the operating system refuses more threads: 
 party_advice (party.Driver e) = driver_advice e
 party_advice (party.Loop end) = loop_advice end
 party_advice (party.WrongClass h) =
-    codes "it stores fewer or more words for the handler than its class has: name this node's store, or the system's file that made it"
+    codes "it stores fewer or more words for the handler than its class has: name this node's store, or the system's file that made it. A program's own object needs the rows of the file's class"
 party_advice (party.Store refusal) = keeper_advice refusal
 party_advice (party.NotClosed cause) = never_advice
 party_advice party.OutOfMemory = memory_advice

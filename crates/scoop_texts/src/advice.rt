@@ -234,7 +234,7 @@ fn party_advice(error: PartyError) -> &'static str
         PartyError::Loop(end) => loop_advice(end),
         PartyError::WrongClass(_) => {
             "it stores fewer or more words for the handler than its class has: name this node's store, or the system's file that \
-            made it"
+            made it. A program's own object needs the rows of the file's class"
         }
         PartyError::Store(refusal) => refusal.advice(),
         PartyError::NotClosed(_) => NEVER,
