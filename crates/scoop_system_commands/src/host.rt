@@ -39,18 +39,18 @@ type HostLink = AdmittingLink<UdpLink, NoReport>;
 /// A node with its link and its keeper. Its thread has both while the node runs. It hears only the clients of the system's
 /// file.
 #[derive(Drop)]
-pub(crate) struct Host<'n, K: Keeper<Global>> {
+pub(crate) struct Host<K: Keeper<Global>> {
     plan: NodePlan,
     address: SocketAddr,
     serving: Serving,
     link: Option<HostLink>,
     keeper: Option<K>,
     // The name of its store, if it has one.
-    name: Option<&'n StoreName>,
+    name: Option<StoreName>,
     error: Option<RuntimeError>,
 }
 
-impl<'n, K: Keeper<Global> + Send> Host<'n, K> {
+impl<K: Keeper<Global> + Send> Host<K> {
     /// The node at this place over its port and this keeper.
     pub(crate) fn open<T: Net>(
         rt: &HostRuntime,
@@ -59,8 +59,8 @@ impl<'n, K: Keeper<Global> + Send> Host<'n, K> {
         place: &NodePlace,
         serving: Serving,
         keeper: K,
-        name: Option<&'n StoreName>,
-    ) -> Result<Host<'n, K>, RuntimeError> {
+        name: Option<StoreName>,
+    ) -> Result<Host<K>, RuntimeError> {
         let plan = NodePlan::of(rt.alloc(), system, place)?;
         let link = open_node_link(net, rt.alloc(), system, place)?;
         let clients = clients_of(rt.alloc(), system)?;
@@ -105,7 +105,7 @@ impl<'n, K: Keeper<Global> + Send> Host<'n, K> {
         link: HostLink,
         ending: &Ending,
     ) -> Result<K, RuntimeError> {
-        let Some(name) = self.name else {
+        let Some(name) = &self.name else {
             return self.serve_over(rt, threads, keeper, link, ending);
         };
         let keeper = NamedKeeper::new(rt, keeper, name);
@@ -143,13 +143,16 @@ impl<'n, K: Keeper<Global> + Send> Host<'n, K> {
     /// Reports why the node ended early, if it did.
     pub(crate) fn report(&self, rt: &HostRuntime, system: &System) -> Result<(), Status> {
         match self.error {
-            Some(error) => { Err(report_node(rt, system, self.address, self.name, error)) }
+            Some(error) => {
+                let name = self.name.as_ref();
+                Err(report_node(rt, system, self.address, name, error))
+            }
             None => Ok(()),
         }
     }
 
     /// The keeper, unless the node ended early, and the name of its store.
-    pub(crate) fn into_keeper(self) -> (Option<K>, Option<&'n StoreName>) {
+    pub(crate) fn into_keeper(self) -> (Option<K>, Option<StoreName>) {
         let Host { keeper, name, .. } = self;
         (keeper, name)
     }

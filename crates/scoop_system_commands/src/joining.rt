@@ -45,15 +45,15 @@ impl<'a, 'p, 'k, 'n, K: Keeper<Global>, T: Net> Asking<'a, 'p, 'k, 'n, K, T> {
 
 /// Runs the nodes, each in a thread, while the client runs. Then it asks the nodes to end, and joins all threads. Returns the
 /// nodes, and the end of the client. The client ends when a store of these names is lost.
-pub(crate) fn run_beside<'n, K, C, T>(
+pub(crate) fn run_beside<K, C, T>(
     rt: &HostRuntime,
     threads: &T,
-    hosts: Vec<Host<'n, K>>,
+    hosts: Vec<Host<K>>,
     plan: &ClientPlan<'_>,
     keeper: &mut C,
     link: UdpLink,
     names: &[StoreName],
-) -> (Vec<Host<'n, K>>, Result<(), End>)
+) -> (Vec<Host<K>>, Result<(), End>)
 where
     K: Keeper<Global> + Send,
     C: Keeper<Global>,
@@ -72,12 +72,12 @@ where
 }
 
 // Starts a thread for each node, runs the client in this one, and waits for all.
-fn host_beside<'n, K, C, T>(
+fn host_beside<K, C, T>(
     threads: &T,
-    mut hosts: Vec<Host<'n, K>>,
+    mut hosts: Vec<Host<K>>,
     ending: &Ending,
     asking: Asking<'_, '_, '_, '_, C, T>,
-) -> (Vec<Host<'n, K>>, Result<(), End>)
+) -> (Vec<Host<K>>, Result<(), End>)
 where
     K: Keeper<Global> + Send,
     C: Keeper<Global>,
@@ -86,8 +86,7 @@ where
     let lent = hosts.as_mut_slice();
     let rt = asking.rt;
     let ran = thread::scope(thread::scope_env(), threads, move |scope| {
-        let each = lent.iter_mut();
-        for host in each {
+        for host in lent.iter_mut() {
             let spawned = scope.spawn(move || host.run(rt, threads, ending));
             if spawned.is_err() {
                 report_no_thread(rt);

@@ -9,7 +9,7 @@ use crate::owning::{check_owner, note_owner};
 use crate::stores::{open_client_store, open_node_store};
 use crate::system_file::{read_system, report_fault};
 use scoop_command_line::{StoreChoice, UpOptions};
-use scoop_files::{FiledStore, NamedKeeper, StoreName, close_named, report_file};
+use scoop_files::{FileError, FiledStore, NamedKeeper, StoreName, close_named, report_file};
 use scoop_journal::Owner;
 use scoop_keeper::{Keeper, MemoryKeeper};
 use scoop_message::{ClientId, OutOfMemory};
@@ -119,7 +119,7 @@ fn run_unstored_in<T: Threads + Wait + Clock + Net + Sync>(
     threads: &T,
     serving: Serving,
     plan: &ClientPlan<'_>,
-    hosts: &mut Vec<Host<'_, MemoryKeeper>>,
+    hosts: &mut Vec<Host<MemoryKeeper>>,
     keeper: &mut MemoryKeeper,
 ) -> Result<(), Status> {
     for place in plan.system().nodes() {
@@ -143,15 +143,15 @@ fn run_unstored_in<T: Threads + Wait + Clock + Net + Sync>(
 }
 
 // Adds the node at this place, over its port and this keeper, whose store has this name if it has one.
-fn add_host<'n, K: Keeper<Global> + Send, T: Net>(
+fn add_host<K: Keeper<Global> + Send, T: Net>(
     rt: &HostRuntime,
     net: &T,
     system: &System,
     place: &NodePlace,
     serving: Serving,
     keeper: K,
-    name: Option<&'n StoreName>,
-    hosts: &mut Vec<Host<'n, K>>,
+    name: Option<StoreName>,
+    hosts: &mut Vec<Host<K>>,
 ) -> Result<(), Status> {
     match Host::open(rt, net, system, place, serving, keeper, name) {
         Ok(host) => keep(rt, host, hosts),
@@ -159,10 +159,10 @@ fn add_host<'n, K: Keeper<Global> + Send, T: Net>(
     }
 }
 
-fn keep<'n, K: Keeper<Global>>(
+fn keep<K: Keeper<Global>>(
     rt: &HostRuntime,
-    host: Host<'n, K>,
-    hosts: &mut Vec<Host<'n, K>>,
+    host: Host<K>,
+    hosts: &mut Vec<Host<K>>,
 ) -> Result<(), Status> {
     match hosts.push(host) {
         Ok(()) => Ok(()),
@@ -191,11 +191,26 @@ fn run_stored<T: Threads + Wait + Clock + Net + Sync>(
         &mut hosts,
     );
     let ended = close_hosts(rt, plan.system(), hosts);
-    if names.iter().any(|name| name.is_lost()) {
-        ended?;
+    let lost = names.iter().find(|name| name.is_lost());
+    end_of(rt, lost, ran, ended)
+}
+
+// The end of the parties, whose nodes ended so. It is that of a store that was found to be lost, if there is one.
+fn end_of(
+    rt: &HostRuntime,
+    lost: Option<&StoreName>,
+    ran: Result<(), Status>,
+    ended: Result<(), Status>,
+) -> Result<(), Status> {
+    match (lost, ran, ended) {
+        (Some(_), _, Err(status)) => Err(status),
+        (Some(name), _, Ok(())) => {
+            let lost = FileError::Lost;
+            Err(report_file(rt, Hints::Always, name.path(), lost))
+        }
+        (None, Err(status), _) => Err(status),
+        (None, Ok(()), ended) => ended,
     }
-    ran?;
-    ended
 }
 
 // The names of the nodes' stores in this folder.
@@ -213,21 +228,25 @@ fn names_in(rt: &HostRuntime, system: &System, dir: &str) -> Result<Vec<StoreNam
 // The name of a party's store in this folder.
 fn name_in(rt: &HostRuntime, dir: &str, kind: &str, number: u32) -> Result<StoreName, Status> {
     let path = store_path(rt, dir, kind, number)?;
-    match StoreName::new(rt.alloc(), &path) {
+    name_of(rt, &path)
+}
+
+fn name_of(rt: &HostRuntime, path: &str) -> Result<StoreName, Status> {
+    match StoreName::new(rt.alloc(), path) {
         Ok(name) => Ok(name),
         Err(error) => Err(report_plainly(rt, RuntimeError::from(error))),
     }
 }
 
 // The same over these nodes, which are none yet, and whose stores have these names.
-fn run_stored_in<'n, T: Threads + Wait + Clock + Net + Sync>(
+fn run_stored_in<T: Threads + Wait + Clock + Net + Sync>(
     rt: &HostRuntime,
     threads: &T,
     serving: Serving,
     plan: &ClientPlan<'_>,
     dir: &str,
-    names: &'n [StoreName],
-    hosts: &mut Vec<Host<'n, FiledStore>>,
+    names: &[StoreName],
+    hosts: &mut Vec<Host<FiledStore>>,
 ) -> Result<(), Status> {
     for (place, name) in plan.system().nodes().iter().zip(names) {
         add_stored(rt, threads, plan.system(), place, serving, name, hosts)?;
@@ -248,7 +267,7 @@ fn run_filed<T: Threads + Wait + Clock + Net + Sync>(
     threads: &T,
     plan: &ClientPlan<'_>,
     names: &[StoreName],
-    hosts: &mut Vec<Host<'_, FiledStore>>,
+    hosts: &mut Vec<Host<FiledStore>>,
     choice: StoreChoice<'_>,
     store: FiledStore,
     name: &StoreName,
@@ -268,7 +287,7 @@ fn run_kept<S: Alter + Drop + Send, T: Threads + Wait + Clock + Net + Sync>(
     threads: &T,
     plan: &ClientPlan<'_>,
     names: &[StoreName],
-    hosts: &mut Vec<Host<'_, Store<S>>>,
+    hosts: &mut Vec<Host<Store<S>>>,
     choice: StoreChoice<'_>,
     store: Store<S>,
     name: &StoreName,
@@ -281,14 +300,14 @@ fn run_kept<S: Alter + Drop + Send, T: Threads + Wait + Clock + Net + Sync>(
 }
 
 // Adds the node at this place, over its store of this name.
-fn add_stored<'n, T: Net>(
+fn add_stored<T: Net>(
     rt: &HostRuntime,
     net: &T,
     system: &System,
     place: &NodePlace,
     serving: Serving,
-    name: &'n StoreName,
-    hosts: &mut Vec<Host<'n, FiledStore>>,
+    name: &StoreName,
+    hosts: &mut Vec<Host<FiledStore>>,
 ) -> Result<(), Status> {
     let choice = choice_of(rt, name.path())?;
     check_owner(rt, choice, system, Owner::Node(place.number))?;
@@ -297,15 +316,15 @@ fn add_stored<'n, T: Net>(
 
 // Adds the node over the store in this file. A function that names the files' type does one thing alone: the prover takes too
 // many steps at more.
-fn add_filed<'n, T: Net>(
+fn add_filed<T: Net>(
     rt: &HostRuntime,
     net: &T,
     system: &System,
     place: &NodePlace,
     serving: Serving,
     choice: StoreChoice<'_>,
-    name: &'n StoreName,
-    hosts: &mut Vec<Host<'n, FiledStore>>,
+    name: &StoreName,
+    hosts: &mut Vec<Host<FiledStore>>,
 ) -> Result<(), Status> {
     match open_node_store(rt, choice) {
         Ok(store) => add_opened(rt, net, system, place, serving, choice, store, name, hosts),
@@ -314,7 +333,7 @@ fn add_filed<'n, T: Net>(
 }
 
 // Adds the node over the store that was opened by this choice, and goes on with what it holds if it is old.
-fn add_opened<'n, S: Alter + Drop + Send, T: Net>(
+fn add_opened<S: Alter + Drop + Send, T: Net>(
     rt: &HostRuntime,
     net: &T,
     system: &System,
@@ -322,15 +341,16 @@ fn add_opened<'n, S: Alter + Drop + Send, T: Net>(
     serving: Serving,
     choice: StoreChoice<'_>,
     mut store: Store<S>,
-    name: &'n StoreName,
-    hosts: &mut Vec<Host<'n, Store<S>>>,
+    name: &StoreName,
+    hosts: &mut Vec<Host<Store<S>>>,
 ) -> Result<(), Status> {
     go_on(rt, choice, system, place.number, &mut store)?;
     let serving = match choice {
         StoreChoice::Old(_) => serving.going_on(),
         StoreChoice::New(_) | StoreChoice::None => serving,
     };
-    add_host(rt, net, system, place, serving, store, Some(name), hosts)
+    let own = name_of(rt, name.path())?;
+    add_host(rt, net, system, place, serving, store, Some(own), hosts)
 }
 
 // Runs the nodes beside the client, and reports why the client ends early. It ends when a store of these names is lost.
@@ -338,7 +358,7 @@ fn run_together<K, C, T>(
     rt: &HostRuntime,
     threads: &T,
     names: &[StoreName],
-    hosts: &mut Vec<Host<'_, K>>,
+    hosts: &mut Vec<Host<K>>,
     plan: &ClientPlan<'_>,
     keeper: &mut C,
 ) -> Result<(), Status>
@@ -376,7 +396,7 @@ fn report_client(rt: &HostRuntime, plan: &ClientPlan<'_>, end: End) -> Status {
 fn close_hosts(
     rt: &HostRuntime,
     system: &System,
-    hosts: Vec<Host<'_, FiledStore>>,
+    hosts: Vec<Host<FiledStore>>,
 ) -> Result<(), Status> {
     let mut ended = Ok(());
     for host in hosts {
@@ -389,7 +409,7 @@ fn close_hosts(
 }
 
 // Reports why a node ended early, or closes its store.
-fn close_host(rt: &HostRuntime, system: &System, host: Host<'_, FiledStore>) -> Result<(), Status> {
+fn close_host(rt: &HostRuntime, system: &System, host: Host<FiledStore>) -> Result<(), Status> {
     match store_of(rt, system, host) {
         Ok((store, name)) => close_kept(rt, name, store),
         Err(status) => Err(status),
@@ -397,11 +417,11 @@ fn close_host(rt: &HostRuntime, system: &System, host: Host<'_, FiledStore>) -> 
 }
 
 // Reports why a node ended early, or returns its store and the name of that.
-fn store_of<'n, S: Alter + Drop + Send>(
+fn store_of<S: Alter + Drop + Send>(
     rt: &HostRuntime,
     system: &System,
-    host: Host<'n, Store<S>>,
-) -> Result<(Option<Store<S>>, Option<&'n StoreName>), Status> {
+    host: Host<Store<S>>,
+) -> Result<(Option<Store<S>>, Option<StoreName>), Status> {
     match host.report(rt, system) {
         Ok(()) => Ok(host.into_keeper()),
         Err(status) => Err(status),
@@ -411,11 +431,11 @@ fn store_of<'n, S: Alter + Drop + Send>(
 // Closes the store of a node.
 fn close_kept(
     rt: &HostRuntime,
-    name: Option<&StoreName>,
+    name: Option<StoreName>,
     store: Option<FiledStore>,
 ) -> Result<(), Status> {
     match (name, store) {
-        (Some(name), Some(store)) => close_store(rt, name, store),
+        (Some(name), Some(store)) => close_store(rt, &name, store),
         _ => Ok(()),
     }
 }
