@@ -129,7 +129,7 @@ struct Blocks<'a> {
 
 impl fmt::Display for Blocks<'_> {
     fn fmt<W: fmt::Write>(&self, f: &mut fmt::Formatter<W>) -> fmt::Result {
-        let mut named = 0;
+        let mut named: usize = 0;
         for mark in self.marks {
             let Newest { handler, block } = *mark;
             if block.num == 0 {
@@ -141,7 +141,7 @@ impl fmt::Display for Blocks<'_> {
                 _ => f.write_str(", ")?,
             }
             write!(f, "{block} at handler {handler}")?;
-            named += 1;
+            named = named.saturating_add(1);
         }
         if named == 0 {
             f.write_str("none")

@@ -3,6 +3,7 @@
 use crate::ending::End;
 use crate::host::Host;
 use crate::keyboard::Keyboard;
+use crate::watching::Task;
 use scoop_files::StoreName;
 use scoop_journal::{Journal, JournalFile};
 use scoop_keeper::Keeper;
@@ -29,7 +30,8 @@ struct Asking<'a, 'p, 'k, 'n, K: Keeper<Global>, T: Net> {
     names: &'n [StoreName],
 }
 
-impl<'a, 'p, 'k, 'n, K: Keeper<Global>, T: Net> Asking<'a, 'p, 'k, 'n, K, T> {
+impl<'a, 'p, 'k, 'n, K: Keeper<Global>, T: Net> Task<Result<(), End>>
+    for Asking<'a, 'p, 'k, 'n, K, T> {
     fn run(self) -> Result<(), End> {
         let Asking {
             rt,
@@ -68,23 +70,23 @@ where
         link,
         names,
     };
-    host_beside(threads, hosts, &ending, asking)
+    host_beside(rt, threads, hosts, &ending, asking)
 }
 
-// Starts a thread for each node, runs the client in this one, and waits for all.
-fn host_beside<K, C, T>(
+// Starts a thread for each node, does the client's task in this one, and waits for all.
+fn host_beside<K, S, T>(
+    rt: &HostRuntime,
     threads: &T,
     mut hosts: Vec<Host<K>>,
     ending: &Ending,
-    asking: Asking<'_, '_, '_, '_, C, T>,
+    task: S,
 ) -> (Vec<Host<K>>, Result<(), End>)
 where
     K: Keeper<Global> + Send,
-    C: Keeper<Global>,
-    T: Threads + Wait + Clock + Net + Sync,
+    S: Task<Result<(), End>>,
+    T: Threads + Wait + Clock + Sync,
 {
     let lent = hosts.as_mut_slice();
-    let rt = asking.rt;
     let ran = thread::scope(thread::scope_env(), threads, move |scope| {
         for host in lent.iter_mut() {
             let spawned = scope.spawn(move || host.run(rt, threads, ending));
@@ -92,7 +94,7 @@ where
                 report_no_thread(rt);
             }
         }
-        let ran = asking.run();
+        let ran = task.run();
         ending.ask();
         ran
     });

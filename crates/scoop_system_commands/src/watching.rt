@@ -204,9 +204,10 @@ where
     node_run(threads, alloc, plan, serving, keeper, link, notes, output)
 }
 
-// What this thread does while a node runs in another one.
-trait Task: Drop {
-    fn run(self);
+/// What one thread does while nodes run in others. Its type stays a parameter where a thread starts: the prover looks into at most
+/// 128 of the structs that a closure captures, and those of a task are too many.
+pub(crate) trait Task<R>: Drop {
+    fn run(self) -> R;
 }
 
 // The status and the log of a node that another thread runs.
@@ -220,7 +221,7 @@ struct Screen<'a, 's, T> {
     log: Log<Stderr>,
 }
 
-impl<'a, 's, T: Wait + Clock> Task for Screen<'a, 's, T> {
+impl<'a, 's, T: Wait + Clock> Task<()> for Screen<'a, 's, T> {
     // Shows the node until it has ended.
     fn run(self) {
         let Screen {
@@ -273,8 +274,7 @@ where
     run_beside(rt, threads, node, screen)
 }
 
-// Starts a thread for the node, does the task in this one, and returns the node's keeper when both have ended. The task's type is
-// a parameter: the prover looks into at most 128 of the structs that the closure captures, and those of a screen are too many.
+// Starts a thread for the node, does the task in this one, and returns the node's keeper when both have ended.
 fn run_beside<K, L, T, O, S>(
     rt: &HostRuntime,
     threads: &T,
@@ -286,7 +286,7 @@ where
     L: Link + RefusesForged + Send,
     T: Threads + Wait + Clock + Sync,
     O: Objects + Sync,
-    S: Task,
+    S: Task<()>,
 {
     let (alloc, output, notes) = (rt.alloc(), rt.stdout(), rt.stderr());
     thread::scope(thread::scope_env(), threads, move |scope| {
