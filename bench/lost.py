@@ -164,7 +164,7 @@ def old_copy(system):
     newest = system.path("newest.db")
     copy(system.store, newest)
     copy(kept, system.store)
-    refused = is_refused(system, f"handler 1: {system.store}.system has block 7.2.", "and the store has 7.1.1")
+    refused = is_refused(system, f"{system.store}.system has block 7.2.", "and the store has 7.1.1")
     copy(newest, system.store)
     back = system.goes_on()
     system.kill()
