@@ -81,11 +81,13 @@ fn load_into<K: Keeper<Global>>(
 
 // Refuses the store with these marks if the text says more.
 fn require_marks(rt: &HostRuntime, path: &str, text: &str, marks: &[Newest]) -> Result<(), Status> {
-    let Some(newest) = first_older(text, marks).and_then(newest_of) else {
+    let Some(line) = first_older(text, marks) else {
         return Ok(());
     };
     let status = report_file(rt, Hints::Always, path, FileError::Older);
-    hint_of_block(rt, path, newest, mark_beside(marks, &newest));
+    if let Some(newest) = newest_of(line) {
+        hint_of_block(rt, path, newest, mark_beside(marks, &newest));
+    }
     Err(status)
 }
 
