@@ -15,6 +15,7 @@ use std::alloc::Global;
 use std::io;
 use std::io::{Error, ErrorKind, Write};
 use std::process::Abort;
+use std::sync::atomic::{AtomicU32, AtomicUsize, Ordering};
 use std::test::Fail;
 
 const ACCOUNTS: &str = "\
@@ -81,37 +82,46 @@ const TO_ASKS: [Message; 5] = [
 
 const UNWRITTEN: RuntimeError = RuntimeError::Ended(PartyError::Write);
 
-// What a writer took, and the number of writes after which it fails.
+// A writer that counts its writes, and the lines that begin in one of two ways. It fails after a number of writes.
 #[derive(Drop)]
 struct Written {
-    text: Vec<u8>,
-    writes: u32,
+    starts: [&'static [u8]; 2],
+    lines: [AtomicUsize; 2],
+    writes: AtomicU32,
     limit: u32,
 }
 
 impl Written {
-    fn up_to(alloc: Global, limit: u32) -> Written {
+    fn up_to(limit: u32, starts: [&'static [u8]; 2]) -> Written {
         Written {
-            text: Vec::new(alloc),
-            writes: 0,
+            starts,
+            lines: [AtomicUsize::new(0), AtomicUsize::new(0)],
+            writes: AtomicU32::new(0),
             limit,
         }
     }
+
+    fn count(&self) -> u32 {
+        self.writes.load(Ordering::SeqCst)
+    }
+
+    // How many lines began in each way.
+    fn lines(&self) -> [usize; 2] {
+        let [first, second] = &self.lines;
+        [first.load(Ordering::SeqCst), second.load(Ordering::SeqCst)]
+    }
 }
 
-// A writer that counts its writes.
-#[derive(Drop)]
-struct Counting<'a> {
-    written: &'a mut Written,
-}
-
-impl Write for Counting<'_> {
+impl Write for &Written {
     fn write(&mut self, buf: &[u8]) -> io::Result<usize> {
-        if self.written.writes == self.written.limit {
+        if self.count() == self.limit {
             return Err(Error::new(ErrorKind::Other, "full"));
         }
-        self.written.writes = self.written.writes.saturating_add(1);
-        self.written.text.write(buf)
+        self.writes.fetch_add(1, Ordering::SeqCst);
+        let ([first, second], [one, two]) = (&self.lines, self.starts);
+        first.fetch_add(lines_of(buf, one), Ordering::SeqCst);
+        second.fetch_add(lines_of(buf, two), Ordering::SeqCst);
+        Ok(buf.len())
     }
 
     fn flush(&mut self) -> io::Result<()> {
@@ -155,7 +165,7 @@ fn ask(
     plan: &ClientPlan<'_>,
     lines: &[u8],
     replies: &[Message],
-    written: &mut Written,
+    written: &Written,
 ) -> Option<(Result<(), ClientStop>, Vec<u8>)> {
     let link = link_of(alloc, replies)?;
     let mut keeper = MemoryKeeper::new(alloc);
@@ -166,7 +176,7 @@ fn ask(
         plan,
         &mut keeper,
         link,
-        Some(Journal::new(alloc, Counting { written })),
+        Some(Journal::new(alloc, written)),
         &mut TextLines::new(lines),
         Vec::new(alloc),
         Vec::new(alloc),
@@ -196,14 +206,13 @@ fn a_joint_block_takes_six_writes(rt: HostRuntime) -> Result<(), Fail> {
     let alloc = rt.alloc();
     let system = System::read(alloc, ACCOUNTS)?;
     let plan = plan_in(&system).ok_or("no plan")?;
-    let mut written = Written::up_to(alloc, 100);
-    let (ended, output) = ask(alloc, &plan, JOINT, &TO_JOINT, &mut written).ok_or("no client")?;
+    let written = Written::up_to(100, [b"do ", b"turn 53"]);
+    let (ended, output) = ask(alloc, &plan, JOINT, &TO_JOINT, &written).ok_or("no client")?;
     assert_eq!(rt; ended, Ok(()));
     let replies = "reserved 7.1.1\nlogged 1 1\nlogged 2 1\nended\n";
     assert!(rt; output.as_slice() == replies.as_bytes());
-    assert_eq!(rt; lines_of(&written.text, b"do "), 4);
-    assert_eq!(rt; lines_of(&written.text, b"turn 53"), 10);
-    assert_eq!(rt; written.writes, 2 + 6);
+    assert_eq!(rt; written.lines(), [4, 10]);
+    assert_eq!(rt; written.count(), 2 + 6);
     Ok(())
 }
 
@@ -218,15 +227,15 @@ fn fails_after(
 ) -> Result<(), Fail> {
     let system = System::read(alloc, ACCOUNTS)?;
     let plan = plan_in(&system).ok_or("no plan")?;
-    let mut written = Written::up_to(alloc, limit);
-    let (ended, output) = ask(alloc, &plan, lines, replies, &mut written).ok_or("no client")?;
+    let written = Written::up_to(limit, [b"do ", b"turn 53"]);
+    let (ended, output) = ask(alloc, &plan, lines, replies, &written).ok_or("no client")?;
     assert_eq!(rt;
         ended.err().map(|stop| stop.error),
         Some(UNWRITTEN),
         "{limit}"
     );
     assert!(rt; output.as_slice() == prints.as_bytes(), "{limit}");
-    assert_eq!(rt; written.writes, limit);
+    assert_eq!(rt; written.count(), limit);
     Ok(())
 }
 
@@ -251,16 +260,15 @@ fn lines_that_wait_are_written_at_the_end(rt: HostRuntime) -> Result<(), Fail> {
     let system = System::read(alloc, ACCOUNTS)?;
     let plan = plan_in(&system).ok_or("no plan")?;
     let lines = b"reserve 1 2\ncall 1 deposit 5\n";
-    let mut written = Written::up_to(alloc, 100);
+    let written = Written::up_to(100, [b"do call 1 1 5", b"scoop journal 1 client 7 2 4"]);
     let replies = &TO_JOINT[..6];
-    let (ended, output) = ask(alloc, &plan, lines, replies, &mut written).ok_or("no client")?;
+    let (ended, output) = ask(alloc, &plan, lines, replies, &written).ok_or("no client")?;
     assert_eq!(rt;
         ended.err().map(|stop| stop.error),
         Some(RuntimeError::InsideBlock)
     );
     assert!(rt; output.as_slice() == b"reserved 7.1.1\nlogged 1 1\n".as_slice());
-    assert_eq!(rt; lines_of(&written.text, b"do call 1 1 5"), 1);
-    assert_eq!(rt; lines_of(&written.text, b"scoop journal 1 client 7 2 4"), 1);
+    assert_eq!(rt; written.lines(), [1, 1]);
     Ok(())
 }
 
@@ -268,7 +276,7 @@ fn lines_that_wait_are_written_at_the_end(rt: HostRuntime) -> Result<(), Fail> {
 fn cut(
     alloc: Global,
     plan: &ClientPlan<'_>,
-    written: &mut Written,
+    written: &Written,
 ) -> Option<(Result<(), RuntimeError>, Vec<u8>)> {
     let link = link_of(alloc, &[])?;
     let mut keeper = MemoryKeeper::new(alloc);
@@ -279,7 +287,7 @@ fn cut(
         plan,
         &mut keeper,
         link,
-        Some(Journal::new(alloc, Counting { written })),
+        Some(Journal::new(alloc, written)),
         Vec::new(alloc),
         Vec::new(alloc),
         &mut output,
@@ -297,12 +305,12 @@ fn a_cut_is_told_once_the_journal_has_it(rt: HostRuntime) -> Result<(), Fail> {
     let alloc = rt.alloc();
     let system = System::read(alloc, ACCOUNTS)?;
     let plan = plan_in(&system).ok_or("no plan")?;
-    let mut written = Written::up_to(alloc, 1);
-    let (ended, output) = cut(alloc, &plan, &mut written).ok_or("no client")?;
+    let written = Written::up_to(1, [b"do ", b"turn 53"]);
+    let (ended, output) = cut(alloc, &plan, &written).ok_or("no client")?;
     assert_eq!(rt; ended, Err(UNWRITTEN));
     assert!(rt; output.is_empty());
-    let mut written = Written::up_to(alloc, 2);
-    let (ended, output) = cut(alloc, &plan, &mut written).ok_or("no client")?;
+    let written = Written::up_to(2, [b"do ", b"turn 53"]);
+    let (ended, output) = cut(alloc, &plan, &written).ok_or("no client")?;
     assert_eq!(rt; ended, Ok(()));
     assert!(rt; output.as_slice() == b"cut client 7 at handlers 1 2\n".as_slice());
     Ok(())
