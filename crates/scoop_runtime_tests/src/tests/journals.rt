@@ -159,21 +159,24 @@ fn plan_in(system: &System) -> Option<ClientPlan<'_>> {
     }
 }
 
-// Runs the client of this plan over a link that gives these replies. Returns its end and its output.
+// Runs client 7 over a link that gives these replies. Returns its end and its output.
 fn ask(
     alloc: Global,
-    plan: &ClientPlan<'_>,
+    system: &System,
     lines: &[u8],
     replies: &[Message],
     written: &Written,
 ) -> Option<(Result<(), ClientStop>, Vec<u8>)> {
+    let Some(plan) = plan_in(system) else {
+        return None;
+    };
     let link = link_of(alloc, replies)?;
     let mut keeper = MemoryKeeper::new(alloc);
     let mut output = Vec::new(alloc);
     let mut notes = Vec::new(alloc);
     let ended = client_run(
         alloc,
-        plan,
+        &plan,
         &mut keeper,
         link,
         Some(Journal::new(alloc, written)),
@@ -205,9 +208,8 @@ fn lines_of(text: &[u8], start: &[u8]) -> usize {
 fn a_joint_block_takes_six_writes(rt: HostRuntime) -> Result<(), Fail> {
     let alloc = rt.alloc();
     let system = System::read(alloc, ACCOUNTS)?;
-    let plan = plan_in(&system).ok_or("no plan")?;
     let written = Written::up_to(100, [b"do ", b"turn 53"]);
-    let (ended, output) = ask(alloc, &plan, JOINT, &TO_JOINT, &written).ok_or("no client")?;
+    let (ended, output) = ask(alloc, &system, JOINT, &TO_JOINT, &written).ok_or("no client")?;
     assert_eq!(rt; ended, Ok(()));
     let replies = "reserved 7.1.1\nlogged 1 1\nlogged 2 1\nended\n";
     assert!(rt; output.as_slice() == replies.as_bytes());
@@ -226,9 +228,8 @@ fn fails_after(
     prints: &str,
 ) -> Result<(), Fail> {
     let system = System::read(alloc, ACCOUNTS)?;
-    let plan = plan_in(&system).ok_or("no plan")?;
     let written = Written::up_to(limit, [b"do ", b"turn 53"]);
-    let (ended, output) = ask(alloc, &plan, lines, replies, &written).ok_or("no client")?;
+    let (ended, output) = ask(alloc, &system, lines, replies, &written).ok_or("no client")?;
     assert_eq!(rt;
         ended.err().map(|stop| stop.error),
         Some(UNWRITTEN),
@@ -258,11 +259,10 @@ fn a_client_answers_nothing_that_its_journal_lacks(rt: HostRuntime) -> Result<()
 fn lines_that_wait_are_written_at_the_end(rt: HostRuntime) -> Result<(), Fail> {
     let alloc = rt.alloc();
     let system = System::read(alloc, ACCOUNTS)?;
-    let plan = plan_in(&system).ok_or("no plan")?;
     let lines = b"reserve 1 2\ncall 1 deposit 5\n";
     let written = Written::up_to(100, [b"do call 1 1 5", b"scoop journal 1 client 7 2 4"]);
     let replies = &TO_JOINT[..6];
-    let (ended, output) = ask(alloc, &plan, lines, replies, &written).ok_or("no client")?;
+    let (ended, output) = ask(alloc, &system, lines, replies, &written).ok_or("no client")?;
     assert_eq!(rt;
         ended.err().map(|stop| stop.error),
         Some(RuntimeError::InsideBlock)
@@ -275,16 +275,19 @@ fn lines_that_wait_are_written_at_the_end(rt: HostRuntime) -> Result<(), Fail> {
 // Greets with client 7 to cut its blocks. Returns its end and its output.
 fn cut(
     alloc: Global,
-    plan: &ClientPlan<'_>,
+    system: &System,
     written: &Written,
 ) -> Option<(Result<(), RuntimeError>, Vec<u8>)> {
+    let Some(plan) = plan_in(system) else {
+        return None;
+    };
     let link = link_of(alloc, &[])?;
     let mut keeper = MemoryKeeper::new(alloc);
     let mut output = Vec::new(alloc);
     let mut notes = Vec::new(alloc);
     let ended = client_cut(
         alloc,
-        plan,
+        &plan,
         &mut keeper,
         link,
         Some(Journal::new(alloc, written)),
@@ -304,13 +307,12 @@ fn cut(
 fn a_cut_is_told_once_the_journal_has_it(rt: HostRuntime) -> Result<(), Fail> {
     let alloc = rt.alloc();
     let system = System::read(alloc, ACCOUNTS)?;
-    let plan = plan_in(&system).ok_or("no plan")?;
     let written = Written::up_to(1, [b"do ", b"turn 53"]);
-    let (ended, output) = cut(alloc, &plan, &written).ok_or("no client")?;
+    let (ended, output) = cut(alloc, &system, &written).ok_or("no client")?;
     assert_eq!(rt; ended, Err(UNWRITTEN));
     assert!(rt; output.is_empty());
     let written = Written::up_to(2, [b"do ", b"turn 53"]);
-    let (ended, output) = cut(alloc, &plan, &written).ok_or("no client")?;
+    let (ended, output) = cut(alloc, &system, &written).ok_or("no client")?;
     assert_eq!(rt; ended, Ok(()));
     assert!(rt; output.as_slice() == b"cut client 7 at handlers 1 2\n".as_slice());
     Ok(())
