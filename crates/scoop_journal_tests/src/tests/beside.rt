@@ -1,10 +1,7 @@
 //! Texts beside stores, which keepers bring up to date.
 
 use super::named::path_of;
-use scoop_files::{
-    FileError, NameWatch, NamedKeeper, StoreName, adopt_since, close, create_after, replace_text,
-    text_file, update_marks,
-};
+use scoop_files::{NameWatch, NamedKeeper, StoreName, replace_text, text_file, update_marks};
 use scoop_handler::HandlerState;
 use scoop_keeper::{FailingKeeper, Keeper, KeeperError, MemoryKeeper};
 use scoop_message::{Block, ClientId, HandlerId};
@@ -37,7 +34,7 @@ fn alternates<K: Keeper<Global>>(
     first: u8,
     count: u8,
 ) -> Result<(), Fail> {
-    for num in first..first + count {
+    for num in first..first.saturating_add(count) {
         keeper.put_handler(&state(alloc, 1, num)?)?;
         keeper.put_handler(&state(alloc, 2, num)?)?;
     }
@@ -168,41 +165,6 @@ fn a_new_text_takes_the_place_of_the_old_one(rt: HostRuntime) -> Result<(), Fail
     assert!(rt; files.has("node = 1\nnewest.3.8 = \"8.1.1\"\nnewest.1.7 = \"7.9.3\"\n"));
     let fresh = format!(in rt.alloc(); "{}.new", files.text)?;
     assert!(rt; !fs::exists(&rt, fresh.as_str())?);
-    files.remove();
-    Ok(())
-}
-
-// Takes the client's next incarnation in a new store, in which the last one is 41.
-fn takes_one(files: &Files<'_>, alloc: Global) -> Result<u32, Fail> {
-    let path = files.path.as_str();
-    let name = StoreName::new(alloc, path)?;
-    let mut keeper = NamedKeeper::new(files.rt, create_after(files.rt, path, CLIENT, 41)?, &name);
-    let inc = keeper.next_incarnation(CLIENT)?;
-    close(keeper.into_inner())?;
-    Ok(inc)
-}
-
-// Whether the store is older for the client than an incarnation.
-fn is_older(files: &Files<'_>, least: u32) -> Result<bool, Fail> {
-    match adopt_since(files.rt, files.path.as_str(), CLIENT, least) {
-        Ok(store) => {
-            close(store)?;
-            Ok(false)
-        }
-        Err(FileError::OlderClient) => Ok(true),
-        Err(error) => Err(Fail::from(error)),
-    }
-}
-
-#[test]
-fn a_clients_incarnation_is_in_the_text_at_once(rt: HostRuntime) -> Result<(), Fail> {
-    let files = Files::new(&rt, "client")?;
-    fs::write(&rt, files.text.as_str(), "client = 7\n")?;
-    assert_eq!(rt; takes_one(&files, rt.alloc())?, 42);
-    assert!(rt; files.has("client = 7\nincarnation = 42\n"));
-    assert!(rt; !is_older(&files, 0)?);
-    assert!(rt; !is_older(&files, 42)?);
-    assert!(rt; is_older(&files, 43)?);
     files.remove();
     Ok(())
 }
