@@ -12,7 +12,7 @@ use jiff::Timestamp;
 use scoop_command_line::{NodeOptions, StoreChoice};
 use scoop_files::{FiledStore, NamedKeeper, StoreName, close_named};
 use scoop_journal::Owner;
-use scoop_journal_keeper::JournaledKeeper;
+use scoop_journal_keeper::{JournaledKeeper, Storage};
 use scoop_keeper::{Keeper, MemoryKeeper};
 use scoop_link::Link;
 use scoop_message::OutOfMemory;
@@ -296,7 +296,7 @@ where
     let about = &served.shown.about;
     go_on(rt, choice, about.system, about.place.number, &mut store)?;
     let keeper = NamedKeeper::new(rt, store, name);
-    match serve_with(rt, threads, served, server, keeper, link) {
+    match serve_with(rt, threads, served, server, keeper, Storage::File, link) {
         Ok(keeper) => Ok(keeper.into_inner()),
         Err(error) => Err(node_end(Some(name), error)),
     }
@@ -319,17 +319,19 @@ fn serve_unstored<
         "no store: if this node restarts, it forgets what it acknowledged, which breaks the promise",
     );
     let keeper = MemoryKeeper::new(rt.alloc());
-    serve_with(rt, threads, served, server, keeper, link)?;
+    serve_with(rt, threads, served, server, keeper, Storage::Memory, link)?;
     Ok(())
 }
 
-// Serves the node over this keeper, and returns the keeper. The node writes its journal, if it has one.
+// Serves the node over this keeper, which keeps its states there, and returns the keeper. The node writes its journal, if it
+// has one.
 fn serve_with<K, L, T, O>(
     rt: &HostRuntime,
     threads: &T,
     served: &Served<'_, O>,
     server: &mut Option<Server>,
     keeper: K,
+    storage: Storage,
     link: L,
 ) -> Result<K, RuntimeError>
 where
@@ -348,6 +350,7 @@ where
     let keeper = JournaledKeeper::new(
         alloc,
         keeper,
+        storage,
         journal,
         served.shown.about.place.number,
         handlers,
