@@ -88,8 +88,8 @@ fn prepare<D: Diary<A>, A: Allocator>(client: &Client<A>, diary: &mut D) -> Resu
     }
 }
 
-// One turn of a client over its link: it gets the diary ready, sends every due message, receives once, hears the
-// message that came, and reports the turn to the diary.
+// One turn of a client over its link. It gets the diary ready, sends every due message, and receives once. Then it reports
+// the turn to the diary, and hears the message that came.
 pub(crate) fn take_turn<L: Link, D: Diary<A>, A: Allocator>(
     client: &mut Client<A>,
     link: &mut L,

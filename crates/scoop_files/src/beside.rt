@@ -38,7 +38,7 @@ fn newest(handler: HandlerId, mark: &Mark) -> Newest {
     }
 }
 
-/// Puts this text in place of a file's. It stands in a file beside it until the disk has all of it, so that a kill or a loss of
+/// Puts this text in place of a file's. It stands in a file beside it until the disk has all of it. So a kill or a loss of
 /// power leaves the old text or the new one.
 pub fn replace_text(rt: &HostRuntime, file: &str, text: &str) -> io::Result<()> {
     let Ok(fresh) = format!(in rt.alloc(); "{file}.new") else {

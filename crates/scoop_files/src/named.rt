@@ -108,7 +108,7 @@ fn is_cut(first: Found, second: Found) -> bool {
     }
 }
 
-// What a store's name and its log led to, at the first look or a later one.
+// The files that a store's name and its log led to, at the first look or a later one.
 #[derive(Clone, Copy)]
 struct Standing {
     file: Found,
@@ -175,10 +175,11 @@ impl<'a> NameWatch<'a> {
 
 /// A keeper that passes every call on to the one under it, over the store of this name. It looks at the name at its first put,
 /// and at every 64th one after it. The put is `Refused` if the name leads to another file than when the keeper was made, or to
-/// none, or if the file was cut, and so is every later one. The log is looked at too, if it stands beside the name: if the name is a link, it doesn't.
+/// none, or if the file was cut, and so is every later one. The log is looked at too, if it stands beside the name: if the
+/// name is a link, it doesn't.
 ///
 /// At each look but the first, and at the end, the text beside the store gets lines for the marks that were stored since the
-/// last one, if there is such a text. It gets a client's incarnation at once. It never says more than what is stored, and a
+/// last one. A missing text stays missing. The text gets a client's incarnation at once. It never says more than what is stored, and a
 /// text that can't be written stays as it is.
 ///
 /// Contracts see the keeper under it.
@@ -256,7 +257,7 @@ impl<'a, K: Drop> NamedKeeper<'a, K> {
         let _noted = note_marks(&mut self.seen, state);
     }
 
-    // Brings the text up to date. What isn't written is kept for the next look.
+    // Brings the text up to date. Marks that aren't written are kept for the next look.
     fn write_seen(&mut self)
         ensures { self.new ≡ self.old }
     {

@@ -7,8 +7,8 @@ use Rattle.scoop_journal.specs.Journal.{Commits, JournalState, ended}
 use Rattle.scoop_journal_keeper.specs.declared.journaled.Storage.{Storage}
 use Rattle.scoop_journal_keeper.specs.declared.journaled.Storage.TheVariants.{File, Memory}
 
--- The keeper under it and where that keeps its states, its journal, its node and the node's handlers. `has_begun` says that the
--- first lines of the node's life are written, and `is_told` that an event was noted whose state isn't stored yet.
+-- The keeper under it and where that keeps its states, its journal, its node and the node's handlers. `has_begun`: the first
+-- lines of the node's life are written. `is_told`: an event was noted whose state isn't stored yet.
 pub record JournaledRecord (K W : Type 0) : Type 0 where
   pub keeper : K
   pub storage : Storage

@@ -20,8 +20,8 @@ use std::marker::Model;
 pub enum Storage {
     /// In a file. The lines of an event are written before the state after it is stored.
     File,
-    /// In memory alone. That an entry has run is gathered, and written with what a handler hears next: the state is lost with
-    /// the node, and nobody is told of it before.
+    /// In memory alone. The lines of an entry that has run wait for what a handler hears next. Until then no reply tells of
+    /// it, and the node loses the state at its end.
     Memory,
 }
 
@@ -112,7 +112,7 @@ fn gather_run<W: Write + Drop, A: Allocator>(
     }
 }
 
-// Notes that an entry has run. Over a storage in a file it is written now, by one call of the writer.
+// Notes that an entry has run. It is written now, by one call of the writer, if the storage is a file.
 fn note_run<W: Write + Drop, A: Allocator>(
     journal: &mut Journal<W, A>,
     storage: Storage,

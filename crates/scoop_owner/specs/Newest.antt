@@ -115,6 +115,6 @@ abbrev pub noted_at : Newest → List Newest → Option ℕ → List Newest
 noted_at n marks None = marks ++ (n ∷ [])
 noted_at n marks (Some place) = slice_set marks place n
 
--- the mark in place of the client's at that handler, or behind the others
+-- the mark in place of the client's at that handler, or after the others
 abbrev pub noted : Newest → List Newest → List Newest
 noted n marks = noted_at n marks (position (λ m. is_beside m n) marks)

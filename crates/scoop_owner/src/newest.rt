@@ -21,7 +21,7 @@ pub struct Newest {
     pub block: Block,
 }
 
-/// What a line of the text beside a store says, `None` if it names no newest block.
+/// The newest block that a line of the text beside a store names, `None` if it names none.
 pub fn newest_of(line: &str) -> Option<Newest>
     ensures { result ≡ newest_of line.now }
 {
@@ -75,7 +75,7 @@ pub fn mark_beside<'a>(marks: &'a [Newest], wanted: &Newest) -> Option<&'a Newes
     marks.iter().find(|mark| is_beside(*mark, wanted))
 }
 
-/// Puts the mark in place of the client's at that handler, or behind the others. `OutOfMemory` if there is no room for one
+/// Puts the mark in place of the client's at that handler, or after the others. `OutOfMemory` if there is no room for one
 /// more; then nothing has changed.
 pub fn note_newest(marks: &mut Vec<Newest>, newest: Newest) -> Result<(), OutOfMemory>
     ensures ok { OnOk result (marks.new.items ≡ noted newest marks.old.items) }
