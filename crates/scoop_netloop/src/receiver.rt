@@ -23,7 +23,7 @@ use std::alloc::Allocator;
 use std::sync::Wait;
 
 // The loop's end after an event that the node refused.
-fn end_of_node(error: BookError) -> Option<ServeEnd>
+pub(crate) fn end_of_node(error: BookError) -> Option<ServeEnd>
     ensures { IfSome result IsExecutorEnd }
 {
     let end = end_after(error)?;
