@@ -298,7 +298,7 @@ where
 {
     let about = &served.shown.about;
     go_on(rt, choice, about.system, about.place.number, &mut store)?;
-    let keeper = NamedKeeper::new(rt, GatheringStore::new(store), name);
+    let keeper = NamedKeeper::new(rt, GatheringStore::new(rt.alloc(), store), name);
     match serve_with(rt, threads, served, server, keeper, Storage::File, link) {
         Ok(keeper) => Ok(keeper.into_inner().into_inner()),
         Err(error) => Err(node_end(Some(name), error)),
