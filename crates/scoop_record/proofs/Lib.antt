@@ -6,6 +6,7 @@ pub mod Front
 pub mod Queues
 pub mod WithEntries
 pub mod Stored
+pub mod Gathered
 pub mod MapLemmas
 pub mod MigrateLemmas
 pub mod NumberLemmas
