@@ -1,9 +1,8 @@
 -- States that were stored in turn, as contents for each handler.
-use Rattle.std.proofs.Common.{◌≡◌, ◌↔◌, ◌==◌, ℕ, true, false, List, [], ◌∷◌, Option, Some, None, Result, Ok, Err, OnOk, OnErr, refl, sym, ap, ◌∙◌, arith}
+use Rattle.std.proofs.Common.{◌≡◌, ◌↔◌, ◌==◌, ℕ, List, [], ◌∷◌, Option, Some, None, Result, Ok, Err, OnOk, OnErr, refl, sym, ap, ◌∙◌, arith}
 use Rattle.std.specs.Prelude.{if◌then◌else◌}
 use Rattle.std.specs.Option.{option_or}
 use Rattle.std.proofs.lemmas.Bool.Decides.{Decides-eqb}
-use Rattle.sqlite_value.specs.declared.value.Value.TheVariants.{Blob}
 use Rattle.sqlite.specs.Effect.{Database}
 use Rattle.scoop_handler.specs.State.{HandlerState, IsState}
 use Rattle.scoop_handler.proofs.Basics.{by_test}
@@ -11,7 +10,7 @@ use Rattle.scoop_record.specs.Range.{InRange}
 use Rattle.scoop_record.specs.Image.{image, pending_row}
 use Rattle.scoop_record.specs.Tables.{value_at}
 use Rattle.scoop_record.specs.Store.{handlers_in, incs_in, Saves, SavesAll}
-use Rattle.scoop_keeper.specs.Keeper.{Stored, Holds, IsTheOne, Stays, StaysAt, IsSame}
+use Rattle.scoop_keeper.specs.Keeper.{Stored, Holds, IsTheOne, Stays, IsSame}
 use Rattle.scoop_record.specs.Gathering.{last_of, Over, OverOne}
 use Rattle.scoop_record.proofs.MapLemmas.{saved, saved_incs, stays, incs_stay}
 use Rattle.scoop_record.proofs.MigrateLemmas.{own_rows}

@@ -7,6 +7,7 @@ pub mod Queues
 pub mod WithEntries
 pub mod Stored
 pub mod Gathered
+pub mod GatheringLemmas
 pub mod MapLemmas
 pub mod MigrateLemmas
 pub mod NumberLemmas

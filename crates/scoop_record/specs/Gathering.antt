@@ -34,7 +34,7 @@ Gathers old new s = GathersAt (find (is_of s.number) old) old new s
 
 -- no two states are of one handler
 abbrev pub AreOfOthers : List HandlerState → Type 0
-AreOfOthers states = NoRepeats (map (λ s. s.number) states)
+AreOfOthers states = NoRepeats (map (λ s. s.number.0) states)
 
 -- the store, and the states that were put since the last commit
 pub record GatheringRecord (S : Type 0) : Type 0 where

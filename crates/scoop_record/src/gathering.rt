@@ -1,8 +1,7 @@
 //! A keeper that gathers states, and stores them together.
 
-ghost use Rattle.std.specs.Prelude.{◌≡◌, ◌⊎◌, ◌==◌, [], drop, find, map, IfOk, IfErr, IfSome, OnOk, OnErr, MatchOption};
-ghost use Rattle.scoop_handler.specs.State.{HandlerState as State};
-ghost use Rattle.scoop_record.specs.Gathering.{Gathers, gathering, is_of};
+ghost use Rattle.std.specs.Prelude.{◌≡◌, ◌⊎◌, [], find, None, Some, Err, IfOk, IfErr, IfSome, OnOk, OnErr, MatchOption};
+ghost use Rattle.scoop_record.specs.Gathering.{AreOfOthers, Gathers, gathering, is_of};
 ghost use Rattle.scoop_keeper.specs.Keyed.{IsFirst};
 
 use crate::store::Store;
@@ -26,8 +25,6 @@ pub struct GatheringStore<S: Alter + Drop> {
 
 impl<S: Alter + Drop> Model for GatheringStore<S> {
     ghost use Rattle.scoop_record.specs.Gathering.{GatheringRecord, gathering, AreOfOthers};
-    ghost use Rattle.scoop_record.specs.Store.{IsIdle};
-
     ghost use Rattle.sqlite.specs.Held.{held_code};
     ghost use Rattle.std.specs.Coded.{codes};
 
@@ -37,7 +34,7 @@ impl<S: Alter + Drop> Model for GatheringStore<S> {
 
     ghost view = { λ g. gathering g.store g.pending.items };
 
-    ghost invariant = { λ g. AreOfOthers g.pending.items × IsIdle S.Store g.store };
+    ghost invariant = { λ g. AreOfOthers g.pending.items };
 }
 
 impl<S: Alter + Drop> GatheringStore<S> {
@@ -94,7 +91,7 @@ impl<S: Alter + Drop> Keeper<Global> for GatheringStore<S> {
     ghost use Rattle.sqlite.specs.Effect.{Database};
     ghost use Rattle.scoop_keeper.specs.declared.keeper.KeeperError.{KeeperError};
     ghost use Rattle.scoop_keeper.specs.Keeper.{Damaged, Keeps, Stays, IsSame, IsTheOne, Sets, IsPutError, next_of, last_incarnation, stored_of};
-    ghost use Rattle.scoop_record.specs.Store.{handlers_in, incs_in, IsSound, Advances, SavesAll};
+    ghost use Rattle.scoop_record.specs.Store.{handlers_in, incs_in, IsSound, IsOpenOnOk, Advances, SavesAll};
     ghost use Rattle.scoop_record.specs.Gathering.{Over};
 
     ghost handlers = { λ g. Over g.pending (handlers_in (seen S.Store g.store).now.trees) };
@@ -105,16 +102,18 @@ impl<S: Alter + Drop> Keeper<Global> for GatheringStore<S> {
 
     ghost is_honest = { λ g. IsSound (seen S.Store g.store) };
 
+    // Only memory can be refused here. An incarnation is stored at once, so Ok means that the connection is open.
     ghost put_gives = { λ _ _ result _. IfErr result (λ e. e ≡ KeeperError.OutOfMemory) };
 
+    ghost next_gives = { λ _ _ result after. IsOpenOnOk result (seen S.Store after.store) (seen S.Store after.store) };
+
+    // Nothing is stored before the commit.
     fn put_handler(&mut self, state: &HandlerState) -> Result<(), KeeperError>
         ensures gathers { OnOk result (Gathers self.old.pending self.new.pending state.now) }
+        ensures store { self.new.store ≡ self.old.store }
         ensures refused { OnErr result (self.new ≡ self.old) }
         ensures named { IfErr result (λ e. e ≡ KeeperError.OutOfMemory) }
-        // Nothing is stored before the commit.
-        ensures store { self.new.store ≡ self.old.store }
-        ensures stored { IsSound (seen S.Store self.new.store)
-            → OnOk result (Keeps (Over self.old.pending (handlers_in (seen S.Store self.old.store).now.trees))
+        ensures stored { OnOk result (Keeps (Over self.old.pending (handlers_in (seen S.Store self.old.store).now.trees))
             (Over self.new.pending (handlers_in (seen S.Store self.new.store).now.trees)) state.now) }
     {
         gather(&mut self.pending, state)?;
@@ -140,12 +139,41 @@ impl<S: Alter + Drop> Keeper<Global> for GatheringStore<S> {
     }
 
     fn next_incarnation(&mut self, client: ClientId) -> Result<u32, KeeperError>
+        ensures is_open { IsOpenOnOk result (seen S.Store self.new.store) (seen S.Store self.new.store) }
         ensures next { IsSound (seen S.Store self.new.store) → IfOk result (λ inc. inc ≡ next_of (incs_in (seen S.Store self.old.store).now.trees client.0)) }
+        ensures stored { IsSound (seen S.Store self.new.store)
+            → IfOk result (Sets (incs_in (seen S.Store self.old.store).now.trees) (incs_in (seen S.Store self.new.store).now.trees) client.0) }
+        ensures spent { IsSound (seen S.Store self.new.store) → result ≡ Err KeeperError.IncarnationsSpent
+            → incs_in (seen S.Store self.old.store).now.trees client.0 ≡ Some last_incarnation }
+        ensures refused { IsSound (seen S.Store self.new.store)
+            → OnErr result (IsSame (incs_in (seen S.Store self.old.store).now.trees) (incs_in (seen S.Store self.new.store).now.trees)) }
+        ensures named { IfErr result (λ e. IsPutError e ⊎ (e ≡ KeeperError.IncarnationsSpent)) }
+        ensures handlers { IsSound (seen S.Store self.new.store)
+            → Stays (Over self.old.pending (handlers_in (seen S.Store self.old.store).now.trees))
+            (Over self.new.pending (handlers_in (seen S.Store self.new.store).now.trees)) }
+        ensures pending { self.new.pending ≡ self.old.pending }
+        ensures honest { IsSound (seen S.Store self.new.store) → IsSound (seen S.Store self.old.store) }
+        ensures survives { Survives (seen S.Store self.old.store) (seen S.Store self.new.store) (λ trees. (db : Database)
+            × Advances (seen S.Store self.old.store).now db client.0 × (trees ≡ db.trees)) }
     {
         self.store.next_incarnation(client)
     }
 
     fn commit(&mut self) -> Result<(), KeeperError>
+        ensures handlers { IsSound (seen S.Store self.new.store)
+            → Stays (Over self.old.pending (handlers_in (seen S.Store self.old.store).now.trees))
+            (Over self.new.pending (handlers_in (seen S.Store self.new.store).now.trees)) }
+        ensures emptied { OnOk result (self.new.pending ≡ []) }
+        ensures pending { OnErr result (self.new.pending ≡ self.old.pending) }
+        ensures refused { IsSound (seen S.Store self.new.store)
+            → OnErr result ((seen S.Store self.new.store).now ≡ (seen S.Store self.old.store).now) }
+        ensures incarnations { IsSound (seen S.Store self.new.store)
+            → IsSame (incs_in (seen S.Store self.old.store).now.trees) (incs_in (seen S.Store self.new.store).now.trees) }
+        ensures named { IfErr result IsPutError }
+        ensures honest { IsSound (seen S.Store self.new.store) → IsSound (seen S.Store self.old.store) }
+        // A crash leaves what it could leave before the call, or all of the states that waited.
+        ensures survives { Survives (seen S.Store self.old.store) (seen S.Store self.new.store) (λ trees. (db : Database)
+            × SavesAll (seen S.Store self.old.store).now db self.old.pending × (trees ≡ db.trees)) }
     {
         self.store.put_all(&self.pending)?;
         self.pending.clear();
