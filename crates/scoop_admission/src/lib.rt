@@ -18,5 +18,9 @@
 #![tactic(auto)]
 
 mod admitting_link;
+mod budget;
+mod budget_link;
+mod taken;
 
 pub use admitting_link::{AdmittingLink, NoReport, Strangers};
+pub use budget_link::BudgetLink;
