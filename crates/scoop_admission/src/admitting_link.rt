@@ -179,6 +179,15 @@ impl<L: Link, S: Strangers, A: Allocator> Link for AdmittingLink<L, S, A> {
         Ok(None)
     }
 
+    fn flush(&mut self) -> Result<(), LinkFault>
+        ensures faults { CountsFault result (L.fault_count self.old.inner) (L.fault_count self.new.inner) }
+
+        ensures flushed { Exchanges (L.told self.old.inner) (L.told self.new.inner) [] [] }
+        ensures others { self.new ≡ record self.old { inner = self.new.inner } }
+    {
+        self.inner.flush()
+    }
+
     fn faults(&self) -> u64 {
         self.inner.faults()
     }

@@ -44,6 +44,8 @@ impl<'a, K: Keeper<Global>> Keeper<Global> for CountingKeeper<'a, K> {
 
     ghost incarnations = { λ c. K.incarnations c };
 
+    ghost outlasting = { λ c. K.outlasting c };
+
     ghost is_honest = { λ c. K.is_honest c };
 
     ghost put_gives = { λ old state result new. K.put_gives old state result new };
@@ -63,6 +65,10 @@ impl<'a, K: Keeper<Global>> Keeper<Global> for CountingKeeper<'a, K> {
 
     fn next_incarnation(&mut self, client: ClientId) -> Result<u32, KeeperError> {
         self.keeper.next_incarnation(client)
+    }
+
+    fn commit(&mut self) -> Result<(), KeeperError> {
+        self.keeper.commit()
     }
 
     fn note_heard(&mut self, message: &Message, heard: &Heard) -> Result<(), KeeperError> {

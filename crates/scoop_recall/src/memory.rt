@@ -1,6 +1,6 @@
 //! Replies that a link remembers.
 
-ghost use Rattle.std.specs.Prelude.{◌≡◌, ◌<◌, slice_get, unwrap_or};
+ghost use Rattle.std.specs.Prelude.{◌≡◌, ◌<◌, IsTrue};
 ghost use Rattle.scoop_recall.specs.Recall.{byte_at, place_in};
 
 use scoop_link::{Datagram, Party};
@@ -24,6 +24,15 @@ impl Model for Memory {
     ghost Value = { MemoryValue };
 
     ghost view = { λ m. record { question = m.question; to = m.to; reply = m.reply } };
+}
+
+impl Memory {
+    /// Whether it is the reply to these bytes, and what is counted for their handler is what was counted then.
+    pub(crate) fn answers(&self, bytes: &[u8], counted: u64) -> bool
+        ensures { IsTrue result → self.now.question ≡ bytes.now }
+    {
+        self.seen == counted && self.question.as_slice() == bytes
+    }
 }
 
 // The byte at this place, 0 after the last one.

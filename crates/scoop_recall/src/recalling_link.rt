@@ -82,12 +82,13 @@ fn no_memories<A: Allocator>(alloc: A) -> Result<Vec<Option<Memory>, A>, AllocEr
     Ok(memories)
 }
 
-// Answers a datagram by the reply that is remembered for it, if the counted states are those that were seen then. Returns whether it did.
+// Answers a datagram by the reply that is remembered for it, if no more states are counted for its handler since. Returns whether
+// it did.
 fn answer<L: Link>(
     inner: &mut L,
     memories: &[Option<Memory>],
     bytes: &[u8],
-    seen: u64,
+    counted: u64,
 ) -> Result<bool, LinkFault>
     requires { length memories.now ≡ ROOM }
     ensures faults { CountsFault result (L.fault_count inner.old) (L.fault_count inner.new) }
@@ -96,7 +97,7 @@ fn answer<L: Link>(
     let Some(memory) = &memories[place_in(bytes)] else {
         return Ok(false);
     };
-    if memory.seen != seen || memory.question.as_slice() != bytes {
+    if !memory.answers(bytes, counted) {
         return Ok(false);
     }
     match inner.send(memory.to, memory.reply.as_slice()) {
@@ -209,6 +210,15 @@ impl<'a, L: Link, A: Allocator> Link for RecallingLink<'a, L, A> {
             }
         }
         Ok(None)
+    }
+
+    fn flush(&mut self) -> Result<(), LinkFault>
+        ensures faults { CountsFault result (L.fault_count self.old.inner) (L.fault_count self.new.inner) }
+
+        ensures flushed { Exchanges (L.told self.old.inner) (L.told self.new.inner) [] [] }
+        ensures others { self.new ≡ record self.old { inner = self.new.inner } }
+    {
+        self.inner.flush()
     }
 
     fn faults(&self) -> u64 {
