@@ -27,8 +27,8 @@ so_far-also : (ms : Memories) (a b c : Option Told) (n : ℕ) → SoFar ms a b n
 so_far-also ms a b c n first one = record {
   recalled = first.recalled ++ one.memory ∷ [];
   exchanged = rw (map-append question_of first.recalled (one.memory ∷ [])) (rw (map-append sent_again first.recalled (one.memory ∷ []))
-    (exchanges-append a b c (map question_of first.recalled) (one.memory.question ∷ []) (map sent_again first.recalled) (sent_again one.memory ∷ [])
-    first.exchanged one.exchanged));
+      (exchanges-append a b c (map question_of first.recalled) (one.memory.question ∷ []) (map sent_again first.recalled) (sent_again one.memory ∷ [])
+      first.exchanged one.exchanged));
   all_remembered = All-append (IsRemembered ms) first.recalled (one.memory ∷ []) first.all_remembered (All-one ms one.memory one.remembered);
   number = omega (arith, length-append first.recalled (one.memory ∷ []), first.number);
 }
@@ -43,7 +43,7 @@ pub recalls-then : (ms : Memories) (a b c : Option Told) (n : ℕ) (more : List 
 recalls-then ms a b c n more first then fits = record {
   recalled = first.recalled;
   exchanged = subst (λ gone. Exchanges a c (map question_of first.recalled ++ more) gone) (append-nil (map sent_again first.recalled))
-    (exchanges-append a b c (map question_of first.recalled) more (map sent_again first.recalled) [] first.exchanged then);
+      (exchanges-append a b c (map question_of first.recalled) more (map sent_again first.recalled) [] first.exchanged then);
   all_remembered = first.all_remembered;
   at_most = omega (arith, first.number, fits);
 }

@@ -6,7 +6,7 @@
 //!
 //! ```
 //! let changes = Changes::new(alloc)?;
-//! let mut tape = TapeLink::new(alloc, 2)?;
+//! let mut tape = TapeLink::new(alloc, 3)?;
 //! for _ in 0..3 {
 //!     tape.feed(&LOCK)?;
 //! }
@@ -15,9 +15,9 @@
 //! // the node hears the first one, and replies
 //! assert_eq!(rt; link.receive(&mut buffer), Ok(Some(26)));
 //! assert!(rt; link.send(CLIENT, &BUSY).is_ok());
-//! // the second one is answered by the link, as the third one would be
-//! changes.count(HandlerId(1));
-//! assert_eq!(rt; link.receive(&mut buffer), Ok(Some(26)));
+//! // the link answers the others by itself
+//! assert_eq!(rt; link.receive(&mut buffer), Ok(None));
+//! assert_eq!(rt; link.inner().sent(2), Some((CLIENT, BUSY)));
 //! ```
 #![tactic(auto)]
 

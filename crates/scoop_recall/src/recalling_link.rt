@@ -44,8 +44,9 @@ enum Taken {
 /// handler since it passed these bytes on. Every other datagram passes on.
 ///
 /// It remembers the last reply to each client of each handler, as far as there is room: 256 replies, four of them to clients
-/// whose numbers are equal modulo 64. A reply is the first datagram that is sent after one was passed on. What has no reply
-/// isn't remembered, so its repeats pass on: the node may not have heard it.
+/// whose numbers are equal modulo 64. A reply is the first datagram that is sent after one was passed on; so a link that holds
+/// replies back has to be under this one. What has no reply isn't remembered, so its repeats pass on: the node may not have heard
+/// it.
 ///
 /// A receive takes datagrams from the inner link until one passes on, at most 64, and returns nothing if each was answered. If
 /// a remembered reply can't be sent, its datagram is lost, and the receive returns the fault. Contracts see the inner link, the
@@ -180,7 +181,10 @@ impl<'a, L: Link, A: Allocator> Link for RecallingLink<'a, L, A> {
 
         ensures sent { Exchanges (L.told self.old.inner) (L.told self.new.inner) [] (sent_by result to bytes.now) }
         ensures remembers { OnOk result (self.new ≡ record self.old {
-            inner = self.new.inner; memories = remembered self.old.memories self.old.asked to (kept bytes.now); asked = None }) }
+          inner = self.new.inner;
+          memories = remembered self.old.memories self.old.asked to (kept bytes.now);
+          asked = None;
+        }) }
         ensures failed { OnErr result (self.new ≡ record self.old { inner = self.new.inner }) }
     {
         match self.inner.send(to, bytes) {

@@ -14,8 +14,10 @@ use std::thread::Threads;
 use std::time::Clock;
 
 // The link of such a node.
-type HearingLink<'c, 't, L, S, T> =
-    RecallingLink<'c, AdmittingLink<BudgetLink<L, SystemTimes<'t, T>>, S>>;
+type HearingLink<'c, 't, L, S, T> = RecallingLink<
+    'c,
+    AdmittingLink<BudgetLink<L, SystemTimes<'t, T>>, S>,
+>;
 
 // Lets this link pass on what the node may hear.
 fn hearing_link<'c, 't, L: Link, S: Strangers, T: Clock>(
