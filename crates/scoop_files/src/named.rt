@@ -178,7 +178,7 @@ impl<'a> NameWatch<'a> {
 /// none, or if the file was cut, and so is every later one. The log is looked at too, if it stands beside the name: if the
 /// name is a link, it doesn't.
 ///
-/// At the first commit after each look but the first, and at the end, the text beside the store gets lines for the marks that
+/// At the first commit after each look, and at the end, the text beside the store gets lines for the marks that
 /// were stored since the last one. It doesn't get them at the end if a commit of theirs is missing. A missing text stays missing.
 /// The text gets a client's incarnation at once. It never says more than what is committed, and a text that can't be written
 /// stays as it is. A commit is `Refused` if the name is known to be lost.

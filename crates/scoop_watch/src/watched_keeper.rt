@@ -77,7 +77,11 @@ impl<'a, K: Keeper<Global>, R: Wait> Keeper<Global> for WatchedKeeper<'a, K, R> 
     }
 
     fn commit(&mut self) -> Result<(), KeeperError> {
-        self.keeper.commit()
+        let committed = self.keeper.commit();
+        if let Err(error) = committed {
+            self.watch.refuse_commit(self.rt, error);
+        }
+        committed
     }
 
     fn note_heard(&mut self, message: &Message, heard: &Heard) -> Result<(), KeeperError> {
