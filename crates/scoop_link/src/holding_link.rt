@@ -1,7 +1,7 @@
 //! A link that holds back what is sent.
 
-ghost use Rattle.std.specs.Prelude.{◌≡◌, ◌≤◌, ◌⊎◌, [], None, Ok, IfOk, IfSome};
-ghost use Rattle.scoop_link.specs.Link.{CountsFault, Exchanges, taken_by};
+ghost use Rattle.std.specs.Prelude.{◌≡◌, ◌≤◌, [], true, false, None, Ok, IfOk, IfSome};
+ghost use Rattle.scoop_link.specs.Link.{CountsFault, Exchanges, sent_by, taken_by};
 ghost use Rattle.scoop_link.specs.declared.holding_link.TheConstants.{MAX_HELD};
 ghost use Rattle.scoop_link.specs.Holding.{Holds, Releases, count_after, holding};
 
@@ -16,16 +16,17 @@ use std::marker::Model;
 /// So many datagrams come at most between two flushes.
 pub const MAX_HELD: usize = 64;
 
-/// A link that holds back what is sent until it is flushed. A node whose store commits many changes at once replies over
-/// it: it takes what has come, commits, and flushes.
+/// A link that holds back what is sent until it is flushed, or one that passes all on at once. A node whose store commits
+/// many changes together replies over one that holds: it takes what has come, commits, and flushes.
 ///
-/// The first receive after a flush waits as the inner link does, and each later one takes only what is there already.
-/// After `MAX_HELD` datagrams, or while as many are held, a receive returns `None`. A datagram for which there is no
-/// memory is lost. Contracts see the inner link, what is held, and how many came since the last flush. The link doesn't
-/// record its datagrams.
+/// Of a link that holds, the first receive after a flush waits as the inner link does, and each later one takes only what is
+/// there already. After `MAX_HELD` datagrams, or while as many are held, a receive returns `None`. A datagram for which there
+/// is no memory is lost. Contracts see the inner link, whether it holds, what is held, and how many datagrams came since the
+/// last flush. The link doesn't record its datagrams.
 #[derive(Drop)]
 pub struct HoldingLink<L: Link, A: Allocator = Global> {
     inner: L,
+    holds: bool,
     held: VecDeque<(Party, Datagram), A>,
     taken: usize,
 }
@@ -35,19 +36,27 @@ impl<L: Link, A: Allocator> Model for HoldingLink<L, A> {
 
     ghost Value = { HoldingValue L };
 
-    ghost view = { λ h. holding h.inner h.held.items h.taken };
+    ghost view = { λ h. holding h.inner h.holds h.held.items h.taken };
 }
 
 impl<L: Link, A: Allocator> HoldingLink<L, A> {
-    /// The link, which holds nothing yet. Takes no memory.
-    pub fn new(alloc: A, inner: L) -> HoldingLink<L, A>
-        ensures { result ≡ holding inner [] 0 }
+    /// A link that holds back what is sent if `holds`, and else passes it on. It holds nothing yet. Takes no memory.
+    pub fn new(alloc: A, inner: L, holds: bool) -> HoldingLink<L, A>
+        ensures { result ≡ holding inner holds [] 0 }
     {
         HoldingLink {
             inner,
+            holds,
             held: VecDeque::new(alloc),
             taken: 0,
         }
+    }
+
+    /// The inner link.
+    pub fn inner(&self) -> &L
+        ensures { result.now ≡ self.now.inner }
+    {
+        &self.inner
     }
 }
 
@@ -74,10 +83,14 @@ impl<L: Link, A: Allocator> Link for HoldingLink<L, A> {
     fn send(&mut self, to: Party, bytes: &[u8]) -> Result<(), LinkFault>
         ensures faults { CountsFault result (L.fault_count self.old.inner) (L.fault_count self.new.inner) }
 
-        ensures ok { result ≡ Ok tt }
-        ensures held { Holds self.old.held to bytes.now self.new.held }
-        ensures others { self.new ≡ record self.old { held = self.new.held } }
+        ensures held { self.old.holds ≡ true → (result ≡ Ok tt) × Holds self.old.held to bytes.now self.new.held
+            × (self.new ≡ record self.old { held = self.new.held }) }
+        ensures passed { self.old.holds ≡ false → Exchanges (L.told self.old.inner) (L.told self.new.inner) [] (sent_by result to bytes.now)
+            × (self.new ≡ record self.old { inner = self.new.inner }) }
     {
+        if !self.holds {
+            return self.inner.send(to, bytes);
+        }
         let _lost_without_memory = self.held.push_back((to, Datagram::of(bytes)));
         Ok(())
     }
@@ -87,10 +100,13 @@ impl<L: Link, A: Allocator> Link for HoldingLink<L, A> {
         ensures faults { CountsFault result (L.fault_count self.old.inner) (L.fault_count self.new.inner) }
 
         ensures taken { Exchanges (L.told self.old.inner) (L.told self.new.inner) (taken_by result buffer.new) [] }
-        ensures full { MAX_HELD ≤ self.old.taken → (result ≡ Ok None) × (self.new ≡ self.old) }
-        ensures count { self.new.taken ≡ count_after result self.old.taken }
-        ensures held { self.new.held ≡ self.old.held }
+        ensures full { self.old.holds ≡ true → MAX_HELD ≤ self.old.taken → (result ≡ Ok None) × (self.new ≡ self.old) }
+        ensures count { self.new.taken ≡ count_after self.old.holds result self.old.taken }
+        ensures others { (self.new.held ≡ self.old.held) × (self.new.holds ≡ self.old.holds) }
     {
+        if !self.holds {
+            return self.inner.receive(buffer);
+        }
         if self.taken >= MAX_HELD || self.held.len() >= MAX_HELD {
             return Ok(None);
         }
@@ -108,7 +124,7 @@ impl<L: Link, A: Allocator> Link for HoldingLink<L, A> {
         ensures faults { CountsFault result (L.fault_count self.old.inner) (L.fault_count self.new.inner) }
 
         ensures released { Releases result (L.told self.old.inner) (L.told self.new.inner) self.old.held self.new.held }
-        ensures taken { self.new.taken ≡ 0 }
+        ensures others { (self.new.taken ≡ 0) × (self.new.holds ≡ self.old.holds) }
     {
         if self.taken > 0 {
             self.inner.set_waits(true);

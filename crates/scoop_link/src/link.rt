@@ -45,8 +45,8 @@ pub trait Link: Drop {
         ensures told { Exchanges (told self.old) (told self.new) [] [] }
     {}
 
-    /// Sends what the link holds back. Links that hold nothing back do nothing; one around another link passes the call on.
-    /// Returns `LinkFault` exactly if the count of faults rises.
+    /// Sends what the link holds back. A link that holds nothing back does nothing. A node's link around another one passes the
+    /// call on; a client's holds nothing back. Returns `LinkFault` exactly if the count of faults rises.
     fn flush(&mut self) -> Result<(), LinkFault>
         ensures faults { CountsFault result (fault_count self.old) (fault_count self.new) }
         ensures told { Exchanges (told self.old) (told self.new) [] [] }

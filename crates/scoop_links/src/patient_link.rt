@@ -143,6 +143,18 @@ impl<L: Link, E: Write + Drop> Link for PatientLink<L, E> {
         }
     }
 
+    fn flush(&mut self) -> Result<(), LinkFault>
+        ensures faults { CountsFault result self.old.faults self.new.faults }
+
+        ensures flushed { Exchanges (L.told self.old.inner) (L.told self.new.inner) [] [] }
+        ensures failed { OnErr result (L.fault_count self.new.inner ≡ L.fault_count self.old.inner + 1) }
+    {
+        match self.inner.flush() {
+            Ok(()) => Ok(()),
+            Err(_) => self.fail(),
+        }
+    }
+
     fn faults(&self) -> u64 {
         self.faults
     }

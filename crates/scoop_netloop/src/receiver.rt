@@ -23,7 +23,7 @@ use std::alloc::Allocator;
 use std::sync::Wait;
 
 // The loop's end after an event that the node refused.
-fn end_of_node(error: BookError) -> Option<ServeEnd>
+pub(crate) fn end_of_node(error: BookError) -> Option<ServeEnd>
     ensures { IfSome result IsExecutorEnd }
 {
     let end = end_after(error)?;
@@ -57,7 +57,25 @@ fn send_reply<L: Link>(link: &mut L, version: Version, reply: &Message) -> Resul
     link.send(Party::Client(reply.client()), &answer[..len])
 }
 
-// Receives once, and answers the datagram that came. Returns the loop's end, if it comes here.
+// Commits what was heard and what has run, and then sends the replies that the link held back.
+fn settle<B: Behaviour, K: Keeper<A>, A: Allocator + Copy, L: Link, R: Wait>(
+    rt: &R,
+    node: &Node<B, K, A>,
+    link: &mut L,
+) -> Option<ServeEnd>
+    ensures told { Exchanges (L.told link.old) (L.told link.new) [] [] }
+    ensures faults { CountsTurn result (L.fault_count link.old) (L.fault_count link.new) }
+{
+    if let Err(error) = node.commit(rt) {
+        return end_of_node(error);
+    }
+    match link.flush() {
+        Ok(()) => None,
+        Err(_) => Some(ServeEnd::LinkFault),
+    }
+}
+
+// Receives once, and answers the datagram that came. If none came, it settles what came before. Returns the loop's end, if it comes here.
 fn turn<B: Behaviour, K: Keeper<A>, A: Allocator + Copy, L: Link, R: Wait>(
     rt: &R,
     node: &Node<B, K, A>,
@@ -71,7 +89,7 @@ fn turn<B: Behaviour, K: Keeper<A>, A: Allocator + Copy, L: Link, R: Wait>(
     let mut buffer = [0; BUFFER_LEN];
     let len = match link.receive(&mut buffer) {
         Ok(Some(len)) => len,
-        Ok(None) => return None,
+        Ok(None) => return settle(rt, node, link),
         Err(_) => return Some(ServeEnd::LinkFault),
     };
     let Ok((version, message)) = decode(&buffer[..len]) else {
