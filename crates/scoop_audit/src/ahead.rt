@@ -11,7 +11,7 @@ use scoop_replay::{NodeReplay, ReplayError};
 use scoop_weaver::Post;
 use std::alloc::Global;
 
-// Messages that a node hears before it stores what they changed, at most.
+// Messages that a node hears before it stores what they changed, at most. Its link holds back the replies to as many.
 const MAX_HEARD: u64 = 64;
 
 // The blobs with which the next life opens a handler, and whether they are those of its state.
@@ -80,34 +80,40 @@ fn look(
     Ok(())
 }
 
-// Makes the entry of a line.
-fn enter(line: &Line<'_>, node: &mut NodeReplay, post: &mut Post) -> Result<(), ReplayError> {
-    let made = match line {
-        Line::Hear(message, reply) => match node.hear(post, message, reply) {
-            Ok(_) => Ok(()),
-            Err(error) => Err(error),
-        },
-        Line::Finish(handler) => match node.finish(post, *handler) {
-            Ok(_) => Ok(()),
-            Err(error) => Err(error),
-        },
-        Line::Begin(handler) => node.begin(post, *handler),
-        _ => Ok(()),
-    };
-    made
-}
-
-// The handler of an entry, and how many messages it hears.
-fn entry_of(line: &Line<'_>) -> Option<(HandlerId, u64)> {
-    match line {
-        Line::Hear(message, _) => Some((message.handler(), 1)),
-        Line::Begin(handler) | Line::Finish(handler) => Some((*handler, 0)),
-        _ => None,
+// An entry that the rules refuse.
+fn refused(error: ReplayError) -> Result<Option<(HandlerId, u64)>, OutOfMemory> {
+    match error {
+        ReplayError::OutOfMemory => Err(OutOfMemory),
+        _ => Ok(None),
     }
 }
 
-// Makes the entries of a life, which hears this many messages. Returns how many entries lead to the states with which the next
-// life opens, the most if there are several answers. `None` if there is no answer, or an entry isn't by the rules.
+// Makes the entry of a line. Returns its handler, and how many messages it hears. `None` if the rules refuse the entry, or
+// the line isn't one.
+fn enter(
+    line: &Line<'_>,
+    node: &mut NodeReplay,
+    post: &mut Post,
+) -> Result<Option<(HandlerId, u64)>, OutOfMemory> {
+    match line {
+        Line::Hear(message, reply) => match node.hear(post, message, reply) {
+            Ok(_) => Ok(Some((message.handler(), 1))),
+            Err(error) => refused(error),
+        },
+        Line::Begin(handler) => match node.begin(post, *handler) {
+            Ok(()) => Ok(Some((*handler, 0))),
+            Err(error) => refused(error),
+        },
+        Line::Finish(handler) => match node.finish(post, *handler) {
+            Ok(_) => Ok(Some((*handler, 0))),
+            Err(error) => refused(error),
+        },
+        _ => Ok(None),
+    }
+}
+
+// Makes the entries of a life that hears this many messages. Returns how many of them lead to the states with which the next
+// life opens: the most, if there are several answers. `None` if there is no answer, or an entry can't be made.
 fn reach(
     alloc: Global,
     node: &mut NodeReplay,
@@ -117,7 +123,7 @@ fn reach(
 ) -> Result<Option<u64>, OutOfMemory> {
     let mut post = Post::new(alloc);
     let mut stored = None;
-    let mut changed: Option<HandlerId> = None;
+    let mut changed = None;
     for entries in 0..u64::MAX {
         let is_near = hears <= MAX_HEARD;
         if is_near {
@@ -132,22 +138,17 @@ fn reach(
         let Ok(Some(line)) = cursor.next() else {
             return Ok(None);
         };
-        let Some((handler, heard)) = entry_of(&line) else {
+        let Some((handler, heard)) = enter(&line, node, &mut post)? else {
             return Ok(None);
         };
-        match enter(&line, node, &mut post) {
-            Ok(()) => {}
-            Err(ReplayError::OutOfMemory) => return Err(OutOfMemory),
-            Err(_) => return Ok(None),
-        }
         changed = if is_near { Some(handler) } else { None };
         hears = hears.saturating_sub(heard);
     }
     Ok(None)
 }
 
-/// How many entries of the life that begins here were stored, if the next life shows it: it opens with the states after them,
-/// and this one hears at most 64 messages more. The most, if there are several answers.
+/// How many entries of the life that begins here were stored, if the next life shows it. That opens with the states after
+/// them, and after them this life hears at most 64 messages. The most, if there are several answers.
 pub(crate) fn stored_entries(
     alloc: Global,
     node: &NodeReplay,
