@@ -178,9 +178,10 @@ impl<'a> NameWatch<'a> {
 /// none, or if the file was cut, and so is every later one. The log is looked at too, if it stands beside the name: if the
 /// name is a link, it doesn't.
 ///
-/// At each look but the first, and at the end, the text beside the store gets lines for the marks that were stored since the
-/// last one. A missing text stays missing. The text gets a client's incarnation at once. It never says more than what is stored, and a
-/// text that can't be written stays as it is.
+/// At the first commit after each look but the first, and at the end, the text beside the store gets lines for the marks that
+/// were stored since the last one. It doesn't get them at the end if a commit of theirs is missing. A missing text stays missing.
+/// The text gets a client's incarnation at once. It never says more than what is committed, and a text that can't be written
+/// stays as it is. A commit is `Refused` if the name is known to be lost.
 ///
 /// Contracts see the keeper under it.
 #[derive(Drop)]
@@ -193,6 +194,10 @@ pub struct NamedKeeper<'a, K> {
     left: u32,
     // The marks that were stored since the text was written.
     seen: Vec<Newest>,
+    // Whether a put has looked at the name since the text was written.
+    is_due: bool,
+    // Whether all that was put is committed.
+    is_settled: bool,
 }
 
 impl<'a, K> Model for NamedKeeper<'a, K> {
@@ -213,6 +218,8 @@ impl<'a, K: Drop> NamedKeeper<'a, K> {
             standing: Standing::of(rt, name),
             left: 0,
             seen: Vec::new(rt.alloc()),
+            is_due: false,
+            is_settled: true,
         }
     }
 
@@ -224,7 +231,7 @@ impl<'a, K: Drop> NamedKeeper<'a, K> {
         let found = look(self.rt, self.name.path.as_str());
         if self.name.is_lost() || !self.standing.is_file(found) {
             self.name.lose();
-        } else {
+        } else if self.is_settled {
             self.write_seen();
         }
         self.keeper
@@ -245,7 +252,7 @@ impl<'a, K: Drop> NamedKeeper<'a, K> {
             self.name.lose();
             return false;
         }
-        self.write_seen();
+        self.is_due = true;
         self.left = BETWEEN;
         true
     }
@@ -254,7 +261,19 @@ impl<'a, K: Drop> NamedKeeper<'a, K> {
     fn note(&mut self, state: &HandlerState)
         ensures { self.new ≡ self.old }
     {
+        self.is_settled = false;
         let _noted = note_marks(&mut self.seen, state);
+    }
+
+    // All that was put is committed. The text is brought up to date if a put has looked at the name since the last time.
+    fn settle(&mut self)
+        ensures { self.new ≡ self.old }
+    {
+        self.is_settled = true;
+        if self.is_due {
+            self.is_due = false;
+            self.write_seen();
+        }
     }
 
     // Brings the text up to date. Marks that aren't written are kept for the next look.
@@ -274,6 +293,8 @@ impl<'a, K: Keeper<Global>> Keeper<Global> for NamedKeeper<'a, K> {
     ghost handlers = { λ n. K.handlers n };
 
     ghost incarnations = { λ n. K.incarnations n };
+
+    ghost outlasting = { λ n. K.outlasting n };
 
     ghost is_honest = { λ n. K.is_honest n };
 
@@ -305,6 +326,18 @@ impl<'a, K: Keeper<Global>> Keeper<Global> for NamedKeeper<'a, K> {
             let _written = update_incarnation(self.rt, self.name.text.as_str(), inc);
         }
         next
+    }
+
+    fn commit(&mut self) -> Result<(), KeeperError> {
+        let done = if self.name.is_lost() {
+            Err(KeeperError::Refused)
+        } else {
+            self.keeper.commit()
+        };
+        if done.is_ok() {
+            self.settle();
+        }
+        done
     }
 
     fn note_heard(&mut self, message: &Message, heard: &Heard) -> Result<(), KeeperError> {

@@ -5,8 +5,8 @@ ghost use Rattle.scoop_netloop.specs.Ends.{CountsEnd, Reports, is_over};
 ghost use Rattle.scoop_netloop.specs.Serving.{ServesPass, ServesFirst};
 
 use crate::executor::{Gate, execute};
-use crate::receiver::{end_of_node, receive_all};
-use crate::stop::{ExecutorEnd, ServeEnd, Stop};
+use crate::receiver::receive_all;
+use crate::stop::{ExecutorEnd, ServeEnd, Stop, end_after_commit};
 use crossbeam_channel::{Receiver, Sender};
 use scoop_book::{Node, Pass};
 use scoop_keeper::Keeper;
@@ -133,7 +133,7 @@ where
     ensures { Reports end result }
 {
     match (end, node.commit(rt)) {
-        (ServeEnd::Stopped, Err(error)) => end_of_node(error).unwrap_or(end),
+        (ServeEnd::Stopped, Err(error)) => end_after_commit(error),
         _ => end,
     }
 }

@@ -1,15 +1,16 @@
 //! The thread that hears messages over the link.
 
-ghost use Rattle.std.specs.Prelude.{[], IfSome};
+ghost use Rattle.std.specs.Prelude.{◌≡◌, [], None, IfSome};
 ghost use Rattle.scoop_message.specs.Message.{Fits, client_of};
 ghost use Rattle.scoop_frame.specs.Version.{Carries};
 ghost use Rattle.scoop_frame.specs.Frame.{frame};
 ghost use Rattle.scoop_link.specs.Link.{CountsFault, Exchanges, sent_by};
+ghost use Rattle.scoop_book.specs.Closing.{IsCommitted};
 ghost use Rattle.scoop_netloop.specs.Ends.{CountsEnd, CountsTurn, IsExecutorEnd, is_complete, is_over};
 ghost use Rattle.scoop_netloop.specs.Serving.{ServesPass};
 
 use crate::answer::runs_after;
-use crate::stop::{ServeEnd, Stop, end_after};
+use crate::stop::{ServeEnd, Stop, end_after, end_after_commit};
 use crossbeam_channel::{SendError, Sender};
 use scoop_book::{BookError, Node, Pass};
 use scoop_frame::{Version, decode, encode};
@@ -23,7 +24,7 @@ use std::alloc::Allocator;
 use std::sync::Wait;
 
 // The loop's end after an event that the node refused.
-pub(crate) fn end_of_node(error: BookError) -> Option<ServeEnd>
+fn end_of_node(error: BookError) -> Option<ServeEnd>
     ensures { IfSome result IsExecutorEnd }
 {
     let end = end_after(error)?;
@@ -63,11 +64,12 @@ fn settle<B: Behaviour, K: Keeper<A>, A: Allocator + Copy, L: Link, R: Wait>(
     node: &Node<B, K, A>,
     link: &mut L,
 ) -> Option<ServeEnd>
+    ensures committed { result ≡ None → IsCommitted K.handlers K.outlasting K.is_honest }
     ensures told { Exchanges (L.told link.old) (L.told link.new) [] [] }
     ensures faults { CountsTurn result (L.fault_count link.old) (L.fault_count link.new) }
 {
     if let Err(error) = node.commit(rt) {
-        return end_of_node(error);
+        return Some(end_after_commit(error));
     }
     match link.flush() {
         Ok(()) => None,

@@ -114,6 +114,19 @@ pub(crate) fn end_after(error: BookError) -> Option<NodeEnd> {
     }
 }
 
+// The end after a commit that the node refused, which it refuses for its keeper or for memory.
+pub(crate) fn end_after_commit(error: BookError) -> ServeEnd
+    ensures { IsExecutorEnd result }
+{
+    match error {
+        BookError::OutOfMemory => ServeEnd::OutOfMemory,
+        BookError::NodeFailed
+        | BookError::HistoryFull
+        | BookError::UnknownHandler
+        | BookError::StoreRefused => ServeEnd::NodeFailed,
+    }
+}
+
 // The end after a job that the node didn't finish. A job that this loop began is its handler's.
 pub(crate) fn end_after_job(cause: FinishRefusal) -> NodeEnd {
     match cause {

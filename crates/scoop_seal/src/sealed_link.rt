@@ -154,13 +154,6 @@ impl<L: Link> Link for SealedLink<L> {
         Ok(None)
     }
 
-    fn set_waits(&mut self, waits: bool)
-        ensures told { Exchanges (L.told self.old.inner) (L.told self.new.inner) [] [] }
-        ensures others { self.new ≡ record self.old { inner = self.new.inner } }
-    {
-        self.inner.set_waits(waits);
-    }
-
     fn flush(&mut self) -> Result<(), LinkFault>
         ensures faults { CountsFault result (fault_sum self.old.faults (L.fault_count self.old.inner))
             (fault_sum self.new.faults (L.fault_count self.new.inner)) }
