@@ -10,8 +10,8 @@ use scoop_pacing::Times;
 use std::alloc::{AllocError, Allocator};
 use std::marker::Model;
 
-/// Datagrams of one client that pass in a period, at most. A client sends each handler one datagram, and waits for its reply: 64
-/// at most at once. A client that did 5,000 blocks a second, as fast as it could, sent some 20 in a period.
+/// Datagrams of one client that pass in a period, at most. A client sends a handler one datagram, and waits for its reply: 64 at
+/// most at once, and then no more than the node hears. Measured clients send fewer than 20 in a period.
 pub(crate) const BUDGET: u32 = 64;
 
 /// Microseconds of a period.
