@@ -1,5 +1,5 @@
 -- A node's journal, line by line.
-use Rattle.std.proofs.Common.{◌≡◌, ◌<◌, ◌+◌, ℕ, zero, suc, List, [], ◌∷◌, ◌++◌, length, map, slice_get, Option, Some, None, Result, Ok, Err, refl, sym, ap, ◌∙◌, subst, append_assoc, arith}
+use Rattle.std.proofs.Common.{◌≡◌, ◌<◌, ◌≤◌, ◌+◌, ℕ, zero, suc, List, [], ◌∷◌, ◌++◌, length, map, slice_get, Option, Some, None, Result, Ok, Err, refl, sym, ap, ◌∙◌, subst, append_assoc, arith}
 use Rattle.std.specs.Prelude.{IfSome, OnOk}
 use Rattle.std.specs.List.{AllByRecursion}
 use Rattle.std.proofs.lemmas.List.{length-append}
@@ -13,7 +13,7 @@ use Rattle.scoop_replay.specs.Node.{GoesOn, IsNodeTale, NodeValue, OpensAgain, a
 use Rattle.scoop_audit.specs.Lines.{HasNoNewline, text_of_all}
 use Rattle.scoop_audit.specs.Node.{BeginsLife, EntersBy, IsEntryOf, NodeRead, NodeUpTo, Opens, OpensAs, OpensFrom, PassesOver, ReadsNode, TellsEntry, TellsNode}
 use Rattle.scoop_audit.specs.Node.{tells_entry, tells_life, tells_nothing}
-use Rattle.scoop_audit.proofs.Texts.{text_more, texts_more}
+use Rattle.scoop_audit.proofs.Texts.{text_more, texts_left, texts_more}
 
 line_entry : (l : Line) (old new : NodeValue) (post more : List Message) → EntersBy l old new post more → GoesOn (IsEntryOf l) old new post more
 line_entry (NodeLife n) old new post more by = absurd by
@@ -137,6 +137,9 @@ all_more (x ∷ ls) l are entry = (are.0, all_more ls l are.1 entry)
 pub passes_more : (bytes rest : List ℕ) (l : Line) → TellsEntry l → PassesOver bytes (ended l ++ rest) → PassesOver bytes rest
 passes_more bytes rest l entry p =
     record { lines = p.lines ++ l ∷ []; bytes_are = text_more bytes rest p.lines l p.bytes_are; are = all_more p.lines l p.are entry }
+
+pub passes_left : (bytes rest : List ℕ) → PassesOver bytes rest → length rest ≤ length bytes
+passes_left bytes rest p = texts_left bytes rest p.lines p.bytes_are
 
 pub node_read :
     (bytes rest : List ℕ) (old now : NodeValue) (post more : List Message) → NodeUpTo bytes rest old now post more → HasNoNewline rest
