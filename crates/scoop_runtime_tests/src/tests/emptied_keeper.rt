@@ -31,8 +31,6 @@ impl Keeper<Global> for EmptiedKeeper {
 
     ghost outlasting = { λ _ _ _. ⊤ };
 
-    ghost outlasting = { λ _ _ _. ⊤ };
-
     ghost is_honest = { λ _. ⊥ };
 
     fn put_handler(&mut self, state: &HandlerState<Global>) -> Result<(), KeeperError> {
@@ -54,10 +52,6 @@ impl Keeper<Global> for EmptiedKeeper {
 
     fn next_incarnation(&mut self, client: ClientId) -> Result<u32, KeeperError> {
         self.keeper.next_incarnation(client)
-    }
-
-    fn commit(&mut self) -> Result<(), KeeperError> {
-        self.keeper.commit()
     }
 
     fn commit(&mut self) -> Result<(), KeeperError> {
