@@ -17,7 +17,7 @@ fn replies(rt: &impl Abort, link: &mut RecallingLink<'_, TapeLink>, wanted: usiz
 
 fn has_sent(rt: &impl Abort, link: &RecallingLink<'_, TapeLink>, wanted: usize) {
     assert_eq!(rt;
-        link.inner().sent(wanted - 1),
+        link.inner().sent(wanted.saturating_sub(1)),
         Some((CLIENT, b"reply".as_slice()))
     );
     assert!(rt; link.inner().sent(wanted).is_none());

@@ -11,7 +11,7 @@ fn holding(rt: &impl Abort, alloc: Global, room: usize, holds: bool) -> HoldingL
 
 fn has_sent(rt: &impl Abort, link: &HoldingLink<TapeLink>, i: usize, first: Option<u8>) {
     let sent = link.inner().sent(i);
-    assert_eq!(rt; sent.map(|(_, bytes)| bytes[0]), first);
+    assert_eq!(rt; sent.and_then(|(_, bytes)| bytes.first().copied()), first);
 }
 
 #[test]
