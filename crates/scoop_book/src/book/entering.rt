@@ -163,8 +163,7 @@ impl<B: Behaviour, K: Keeper<A>, A: Allocator + Copy> Book<B, K, A> {
             Ok(heard) => heard,
             Err(error) => return Err(put_refused(&mut self.failed, error)),
         };
-        let reply = heard_reply(&heard);
-        self.history.enter(pass, &Event::Hear(*message), &reply);
+        self.history.enter_heard(pass, message, &heard);
         Ok(heard)
     }
 
