@@ -66,8 +66,9 @@ def changed(text, random):
         if at is not None:
             answer = words[at][1][:-1] + ("1" if words[at][1][-1] != "1" else "2")
             yield "an answer changed", joined(lines[:at] + ["turn " + answer] + lines[at + 1:])
-        # one after which its life takes another command, since the last one of a killed life may have done nothing
-        at = pick(random, [at for at, w in enumerate(words) if w[:2] == ["do", "reserve"] and next_kind(words, at) == "do"])
+        # one after which its life takes another command, which is refused then: the last one of a killed life may have done nothing
+        steps = [at for at, w in enumerate(words) if w[0] in ("do", "scoop")]
+        at = pick(random, [at for at, after in zip(steps, steps[1:]) if words[at][:2] == ["do", "reserve"] and words[after][0] == "do"])
         if at is not None:
             yield "a reserve left out", joined(without(at))
         at = pick(random, [at for at, w in enumerate(words) if w[:2] == ["do", "call"]])
@@ -79,11 +80,6 @@ def changed(text, random):
         ends = lives[1:] + [len(lines)]
         begin, end = max(zip(lives, ends), key=lambda life: life[1] - life[0])
         yield "a life left out", joined(lines[:begin] + lines[end:])
-
-
-def next_kind(words, at):
-    """What the next line after this one is that is a command or begins a life."""
-    return next((w[0] for w in words[at + 1:at + 200] if w[0] in ("do", "scoop")), "scoop")
 
 
 def main():
