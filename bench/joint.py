@@ -1,5 +1,5 @@
 #!/usr/bin/env python3
-"""Measures running systems: python3 bench/joint.py [--program PATH] [--blocks N] [--journals]
+"""Measures running systems: python3 bench/joint.py [--program PATH] [--blocks N] [--journals | --pairs | --erlang]
 
 Two nodes as processes of their own, with a cell each, and clients that set both cells in each of their blocks: how many
 blocks a second one client gets and eight get together, with the record in memory and in a file; how many blocks with one
@@ -8,7 +8,7 @@ node; and beside them bare round trips of a datagram between two processes, and 
 (`erlang_joint.escript`), where `escript` is there. On a machine that others use too, take the best of
 several runs.
 """
-import argparse, multiprocessing, os, shutil, socket, struct, subprocess, sys, tempfile, threading, time
+import argparse, multiprocessing, os, re, shutil, socket, struct, subprocess, sys, tempfile, threading, time
 
 from ports import free_ports
 
@@ -17,18 +17,20 @@ NODES, CLIENTS = [1, 2], range(11, 20)
 
 
 class System:
-    """Two nodes, with their record in memory or in files. All parties may write journals."""
+    """Two nodes, with their record in memory or in files, and this many pairs of handlers, one of each pair on each node. All
+    parties may write journals."""
 
-    def __init__(self, program, in_file, journals=False):
+    def __init__(self, program, in_file, journals=False, pairs=1, batch=1):
         self.program, self.folder, self.journals = program, tempfile.mkdtemp(prefix="joint"), journals
         ports = free_ports(len(NODES) + len(CLIENTS))
         self.ports = ports
         text = ""
         for n in NODES:
             text += f'[[node]]\nnumber = {n}\naddress = "127.0.0.1:{ports[n - 1]}"\n'
-            text += f'[[handler]]\nnumber = {n}\nnode = {n}\nclass = "cell"\nwords = [0]\n'
+            for pair in range(pairs):
+                text += f'[[handler]]\nnumber = {2 * pair + n}\nnode = {n}\nclass = "cell"\nwords = [0]\n'
         for i, c in enumerate(CLIENTS):
-            text += f'[[client]]\nnumber = {c}\naddress = "127.0.0.1:{ports[2 + i]}"\n'
+            text += f'[[client]]\nnumber = {c}\naddress = "127.0.0.1:{ports[2 + i]}"\nbatch = {batch}\n'
         self.file = os.path.join(self.folder, "system.toml")
         with open(self.file, "w") as f:
             f.write(text)
@@ -44,20 +46,24 @@ class System:
     def journal(self, name):
         return ["--journal", os.path.join(self.folder, f"{name}.journal")] if self.journals else []
 
-    def run_clients(self, clients, lines):
-        """How long the clients take together for these lines, the time in which they begin left out."""
+    def run_clients(self, clients, lines, pairs=1):
+        """How long the clients take together for these lines of pair 0, the time in which they begin left out. With several pairs
+        each client has its own."""
         begun = []
-        for c in clients:
+        for place, c in enumerate(clients):
+            first = 2 * (place % pairs) + 1
             words = [self.program, "client", str(c), "--system", self.file]
             words += ["--new", os.path.join(self.folder, f"client-{c}.db")] + self.journal(f"client-{c}")
             p = subprocess.Popen(words, stdin=subprocess.PIPE, stdout=subprocess.PIPE)
             # it has greeted once its first block has ended
-            p.stdin.write(b"reserve 1 2\nend\n")
+            p.stdin.write(f"reserve {first} {first + 1}\nend\n".encode())
             p.stdin.flush()
             p.stdout.readline(), p.stdout.readline()
             begun.append(p)
         start = time.perf_counter()
-        readers = [threading.Thread(target=p.communicate, args=(lines,)) for p in begun]
+        readers = [
+            threading.Thread(target=p.communicate, args=(lines(2 * (place % pairs) + 1),)) for place, p in enumerate(begun)
+        ]
         for r in readers:
             r.start()
         for r in readers:
@@ -75,16 +81,17 @@ class System:
 
 
 def blocks(count):
-    return b"reserve 1 2\ncall 1 set 1\ncall 2 set 1\nend\n" * count
+    """Joint blocks that set both cells of the pair that begins with this handler."""
+    return lambda h: f"reserve {h} {h + 1}\ncall {h} set 1\ncall {h + 1} set 1\nend\n".encode() * count
 
 
 def asking(count):
     """Blocks over two handlers with one query, whose answer travels as the reply to the repeated question."""
-    return b"reserve 1 2\nquery 1 get\nend\n" * count
+    return lambda h: b"reserve 1 2\nquery 1 get\nend\n" * count
 
 
 def queries(count):
-    return b"reserve 1\n" + b"query 1 get\n" * count + b"end\n"
+    return lambda h: b"reserve 1\n" + b"query 1 get\n" * count + b"end\n"
 
 
 def flood(port, stopped, counted):
@@ -149,15 +156,63 @@ def journals(program, count):
         sys.stdout.flush()
 
 
+def pairs(program, count):
+    """Joint blocks in files, of one client and of eight with a pair of handlers each, in turn, five times."""
+    best = {1: [], 8: []}
+    for _ in range(5):
+        for some in best:
+            system = System(program, True, pairs=8)
+            taken = system.run_clients(list(CLIENTS)[:some], blocks(count // some), pairs=8)
+            best[some].append(count // some * some / taken)
+            system.end()
+    for some, rates in best.items():
+        rates.sort()
+        print(f"joint blocks in files, {some} clients, a pair each: best {rates[-1]:.0f} a second, median {rates[2]:.0f}")
+    print(f"    eight do {best[8][-1] / best[1][-1]:.2f} times as many (medians {best[8][2] / best[1][2]:.2f})")
+
+
+def rate_in_erlang(some, count):
+    words = ["escript", os.path.join(TOP, "bench/erlang_joint.escript"), str(some), str(count // some)]
+    told = subprocess.run(words, check=True, capture_output=True, text=True).stdout
+    return int(re.search(r"clients: (\d+) joint", told).group(1))
+
+
+def erlang(program, count):
+    """Joint blocks in memory beside Erlang's `global:trans`, in turn, five times: with one entry in a Log, and with up to four."""
+    for some in (1, 8):
+        rates = {"batch 1": [], "batch 4": [], "Erlang": []}
+        for _ in range(5):
+            for batch in (1, 4):
+                system = System(program, False, batch=batch)
+                taken = system.run_clients(list(CLIENTS)[:some], blocks(count // some))
+                rates[f"batch {batch}"].append(count // some * some / taken)
+                system.end()
+            rates["Erlang"].append(rate_in_erlang(some, count // (1 if some == 1 else 4)))
+        for what, found in rates.items():
+            found.sort()
+            print(f"joint blocks in memory, {some} clients, {what}: best {found[-1]:.0f} a second, median {found[2]:.0f}")
+        peer = rates["Erlang"]
+        for what in ("batch 1", "batch 4"):
+            found = rates[what]
+            print(f"    {what} does {found[-1] / peer[-1]:.2f} times as many as Erlang (medians {found[2] / peer[2]:.2f})")
+        sys.stdout.flush()
+
+
 def main():
     parser = argparse.ArgumentParser()
     parser.add_argument("--program", default=os.path.join(TOP, "crates/scoop/out/scoop"))
     parser.add_argument("--blocks", type=int, default=500)
     parser.add_argument("--journals", action="store_true", help="measures what journals cost, and nothing else")
+    parser.add_argument("--pairs", action="store_true", help="measures clients with handlers of their own over files, and nothing else")
+    parser.add_argument("--erlang", action="store_true", help="measures beside Erlang's global:trans, and nothing else")
     given = parser.parse_args()
     program, count = os.path.abspath(given.program), given.blocks
     if given.journals:
         return journals(program, count)
+    if given.pairs:
+        return pairs(program, count)
+    if given.erlang:
+        return erlang(program, count)
     for in_file in (False, True):
         where = "file" if in_file else "memory"
         for some in (1, 8):

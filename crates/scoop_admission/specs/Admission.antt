@@ -1,5 +1,5 @@
 -- The frames of known clients, and a link that passes on no other ones.
-use Rattle.std.specs.Prelude.{◌≡◌, ℕ, ◌+◌, ◌-◌, ◌^◌, ◌≤◌, min, ◌==◌, Bool, List, [], ◌∷◌, ◌++◌, length, take, All, Option, Some, None, Result, Ok, Err, IsTrue, IsFalse, ⊤}
+use Rattle.std.specs.Prelude.{◌≡◌, ℕ, ◌≤◌, ◌==◌, Bool, List, [], ◌∷◌, take, Option, Some, None, Result, Ok, Err, IsTrue, IsFalse, ⊤}
 use Rattle.std.specs.List.{list_any}
 use Rattle.scoop_message.specs.declared.name.ClientId.{ClientId}
 use Rattle.scoop_message.specs.declared.message.Message.{Message}
@@ -10,9 +10,9 @@ use Rattle.scoop_frame.specs.Frame.{IsFrame}
 use Rattle.scoop_link.specs.declared.link.LinkFault.{LinkFault}
 use Rattle.scoop_link.specs.Link.{Told, Exchanges}
 use Rattle.scoop_admission.specs.declared.admitting_link.Sender.{Sender}
-use Rattle.scoop_admission.specs.declared.admitting_link.Taken.{Taken}
-use Rattle.scoop_admission.specs.declared.admitting_link.Taken.TheVariants.{Nothing, Strange, Admitted}
-use Rattle.scoop_admission.specs.declared.admitting_link.TheConstants.{MAX_TAKEN}
+use Rattle.scoop_admission.specs.declared.taken.Taken.{Taken}
+use Rattle.scoop_admission.specs.declared.taken.Taken.TheVariants.{Nothing, Dropped, Passed}
+use Rattle.scoop_admission.specs.Taking.{Drops, TakesPast}
 
 -- the client and the handler of the frame that the bytes are; none if they are no frame
 abbrev pub Sends : Option Sender → List ℕ → Type 0
@@ -47,33 +47,14 @@ pub record AdmittingValue (L : Type 0) : Type 0 where
 abbrev pub admitting : {L : Type 0} → L → List ClientId → AdmittingValue L
 admitting inner clients = record { inner = inner; clients = clients; refused = 0 }
 
--- one more, if the count can rise
-abbrev pub one_more : ℕ → ℕ
-one_more n = min (n + 1) (2 ^ 64 - 1)
-
--- the count after these: one more for each, if it can rise
-abbrev pub count_after : ℕ → List (List ℕ) → ℕ
-count_after refused [] = refused
-count_after refused (d ∷ ds) = count_after (one_more refused) ds
-
--- These frames of strangers were taken and counted, no more than MAX_TAKEN, and then these datagrams.
-pub record TakesAdmitted (clients : List ClientId) (before after : Option Told) (refused now : ℕ) (given : List (List ℕ)) : Type 0 where
-  pub strange : List (List ℕ)
-  pub exchanged : Exchanges before after (strange ++ given) []
-  pub all_strange : All (IsStranger clients) strange
-  pub counted : now ≡ count_after refused strange
-  pub at_most : length strange + length given ≤ MAX_TAKEN
-
--- this datagram of a stranger was taken and counted
-pub record TakesStrange (clients : List ClientId) (before after : Option Told) (refused now : ℕ) (d : List ℕ) : Type 0 where
-  pub exchanged : Exchanges before after (d ∷ []) []
-  pub is_strange : IsStranger clients d
-  pub counted : now ≡ one_more refused
+-- frames of strangers were taken and counted, no more than MAX_TAKEN, and then these datagrams
+abbrev pub TakesAdmitted : List ClientId → Option Told → Option Told → ℕ → ℕ → List (List ℕ) → Type 0
+TakesAdmitted clients before after refused now given = TakesPast (IsStranger clients) before after refused now given
 
 -- the outcome of one receive of the inner link
 abbrev pub TakesOne : Result Taken LinkFault → List ClientId → Option Told → Option Told → ℕ → ℕ → List ℕ → Type 0
 TakesOne (Ok Nothing) clients before after refused now buffer = Exchanges before after [] [] × (now ≡ refused)
-TakesOne (Ok Strange) clients before after refused now buffer = (d : List ℕ) × TakesStrange clients before after refused now d
-TakesOne (Ok (Admitted n)) clients before after refused now buffer =
+TakesOne (Ok Dropped) clients before after refused now buffer = (d : List ℕ) × Drops (IsStranger clients) before after refused now d
+TakesOne (Ok (Passed n)) clients before after refused now buffer =
     Exchanges before after (take n buffer ∷ []) [] × (now ≡ refused) × IsAdmitted clients (take n buffer) × (n ≤ BUFFER_LEN)
 TakesOne (Err fault) clients before after refused now buffer = Exchanges before after [] [] × (now ≡ refused)

@@ -2,17 +2,16 @@
 
 ghost use Rattle.std.specs.Prelude.{◌≡◌, ◌≤◌, [], take, None, IfOk, IfSome, MatchOption};
 ghost use Rattle.scoop_link.specs.Link.{CountsFault, Exchanges, sent_by, taken_by};
-ghost use Rattle.scoop_admission.specs.Admission.{Sends, IsStranger, IsAdmitted, TakesAdmitted, TakesOne, admitting, is_listed, one_more};
+ghost use Rattle.scoop_admission.specs.Admission.{Sends, IsStranger, IsAdmitted, TakesAdmitted, TakesOne, admitting, is_listed};
+ghost use Rattle.scoop_admission.specs.Taking.{one_more};
 
+use crate::taken::{MAX_TAKEN, Taken};
 use scoop_frame::decode;
 use scoop_link::{Link, LinkFault, Party};
 use scoop_message::limits::BUFFER_LEN;
 use scoop_message::{ClientId, HandlerId};
 use std::alloc::{Allocator, Global};
 use std::marker::Model;
-
-// The most datagrams that one receive takes.
-const MAX_TAKEN: usize = 64;
 
 /// A receiver of reports on the frames that are dropped.
 pub trait Strangers: Drop {
@@ -69,15 +68,6 @@ fn stranger_in(clients: &[ClientId], bytes: &[u8]) -> Option<Sender>
             }
         }
     }
-}
-
-// The outcome of one receive of the inner link.
-enum Taken {
-    Nothing,
-    // The frame of a stranger.
-    Strange,
-    // A datagram of this length, which passes on.
-    Admitted(usize),
 }
 
 /// A link that passes on the frames of the clients that it knows, and bytes that are no frame. It drops and counts the
@@ -149,9 +139,9 @@ impl<L: Link, S: Strangers, A: Allocator> AdmittingLink<L, S, A> {
         match stranger_in(self.clients.as_slice(), &buffer[..len]) {
             Some(sender) => {
                 self.refuse(sender);
-                Ok(Taken::Strange)
+                Ok(Taken::Dropped)
             }
-            None => Ok(Taken::Admitted(len)),
+            None => Ok(Taken::Passed(len)),
         }
     }
 }
@@ -180,13 +170,22 @@ impl<L: Link, S: Strangers, A: Allocator> Link for AdmittingLink<L, S, A> {
     {
         for _ in 0..MAX_TAKEN {
             match self.take(buffer) {
-                Ok(Taken::Strange) => {}
+                Ok(Taken::Dropped) => {}
                 Ok(Taken::Nothing) => return Ok(None),
-                Ok(Taken::Admitted(len)) => return Ok(Some(len)),
+                Ok(Taken::Passed(len)) => return Ok(Some(len)),
                 Err(fault) => return Err(fault),
             }
         }
         Ok(None)
+    }
+
+    fn flush(&mut self) -> Result<(), LinkFault>
+        ensures faults { CountsFault result (L.fault_count self.old.inner) (L.fault_count self.new.inner) }
+
+        ensures flushed { Exchanges (L.told self.old.inner) (L.told self.new.inner) [] [] }
+        ensures others { self.new ≡ record self.old { inner = self.new.inner } }
+    {
+        self.inner.flush()
     }
 
     fn faults(&self) -> u64 {

@@ -1,6 +1,7 @@
 -- A node's journal, line by line.
-use Rattle.std.proofs.Common.{◌≡◌, ◌<◌, ◌+◌, ℕ, zero, suc, List, [], ◌∷◌, ◌++◌, length, map, slice_get, Option, Some, None, Result, Ok, Err, refl, sym, ap, ◌∙◌, subst, append_assoc, arith}
+use Rattle.std.proofs.Common.{◌≡◌, ◌<◌, ◌≤◌, ◌+◌, ℕ, zero, suc, List, [], ◌∷◌, ◌++◌, length, map, slice_get, Option, Some, None, Result, Ok, Err, refl, sym, ap, ◌∙◌, subst, append_assoc, arith}
 use Rattle.std.specs.Prelude.{IfSome, OnOk}
+use Rattle.std.specs.List.{AllByRecursion}
 use Rattle.std.proofs.lemmas.List.{length-append}
 use Rattle.scoop_message.specs.declared.message.Message.{Message}
 use Rattle.scoop_handler.specs.Local.{LocalHandler}
@@ -10,9 +11,9 @@ use Rattle.scoop_journal.specs.Journal.{ended}
 use Rattle.scoop_weave.specs.NodeHistories.{reopened}
 use Rattle.scoop_replay.specs.Node.{GoesOn, IsNodeTale, NodeValue, OpensAgain, after_entry, after_reopening}
 use Rattle.scoop_audit.specs.Lines.{HasNoNewline, text_of_all}
-use Rattle.scoop_audit.specs.Node.{BeginsLife, EntersBy, IsEntryOf, NodeRead, NodeUpTo, Opens, OpensAs, OpensFrom, ReadsNode, TellsEntry, TellsNode}
-use Rattle.scoop_audit.specs.Node.{leaves_out, tells_entry, tells_life, tells_nothing}
-use Rattle.scoop_audit.proofs.Texts.{text_more, texts_more}
+use Rattle.scoop_audit.specs.Node.{BeginsLife, EntersBy, IsEntryOf, NodeRead, NodeUpTo, Opens, OpensAs, OpensFrom, PassesOver, ReadsNode, TellsEntry, TellsNode}
+use Rattle.scoop_audit.specs.Node.{tells_entry, tells_life, tells_nothing}
+use Rattle.scoop_audit.proofs.Texts.{text_more, texts_left, texts_more}
 
 line_entry : (l : Line) (old new : NodeValue) (post more : List Message) → EntersBy l old new post more → GoesOn (IsEntryOf l) old new post more
 line_entry (NodeLife n) old new post more by = absurd by
@@ -74,8 +75,10 @@ module _ (old between new : NodeValue) (post sent more : List Message) where
 
   module _ (number : ℕ) (opens : List Line) (numbered : number ≡ between.number) (same : new.number ≡ between.number) (again : OpensAgain between new sent more)
       (opened : Opens opens new.handlers) where
-    reads_life : (lines : List Line) → ReadsNode lines old between post sent → ReadsNode (lines ++ NodeLife number ∷ opens) old new post more
-    reads_life lines reads =
+    reads_life :
+        (lines unstored : List Line) → AllByRecursion TellsEntry unstored → ReadsNode lines old between post sent
+        → ReadsNode (lines ++ (unstored ++ NodeLife number ∷ opens)) old new post more
+    reads_life lines unstored entries reads =
         record {
           number = same ∙ reads.number;
           told = λ words opening t at tale.
@@ -87,66 +90,56 @@ module _ (old between new : NodeValue) (post sent more : List Message) where
                 handlers_are = now;
                 is_tale = subst (λ n. IsNodeTale words n opening (after_reopening words r.tale) more new.trail) (sym same) x.0;
                 tells =
-                    subst (λ n. TellsNode words new.number t (lines ++ NodeLife n ∷ opens) (after_reopening words r.tale)) (sym numbered ∙ refl)
-                    (subst (λ n. TellsNode words n t (lines ++ NodeLife between.number ∷ opens) (after_reopening words r.tale)) (sym same)
-                    (tells_life lines opens r.tale r.tells (subst (Opens opens) (sym now) opened)));
+                    subst (λ n. TellsNode words new.number t (lines ++ (unstored ++ NodeLife n ∷ opens)) (after_reopening words r.tale)) (sym numbered ∙ refl)
+                    (subst (λ n. TellsNode words n t (lines ++ (unstored ++ NodeLife between.number ∷ opens)) (after_reopening words r.tale)) (sym same)
+                    (tells_life lines unstored opens r.tale r.tells entries (subst (Opens opens) (sym now) opened)));
               };
         }
 
-    reads_shorter : (lines : List Line) (l : Line) → TellsEntry l → ReadsNode lines old between post sent
-        → ReadsNode (lines ++ l ∷ NodeLife number ∷ opens) old new post more
-    reads_shorter lines l entry reads =
-        record {
-          number = same ∙ reads.number;
-          told = λ words opening t at tale.
-              let r = reads.told words opening t at tale in
-              let x = again words opening r.tale r.handlers_are r.is_tale in
-              let now : (after_reopening words r.tale).handlers ≡ new.handlers = ap (map (reopened words)) r.handlers_are ∙ sym x.1 in
-              record {
-                tale = after_reopening words r.tale;
-                handlers_are = now;
-                is_tale = subst (λ n. IsNodeTale words n opening (after_reopening words r.tale) more new.trail) (sym same) x.0;
-                tells =
-                    subst (λ n. TellsNode words new.number t (lines ++ l ∷ NodeLife n ∷ opens) (after_reopening words r.tale)) (sym numbered ∙ refl)
-                    (subst (λ n. TellsNode words n t (lines ++ l ∷ NodeLife between.number ∷ opens) (after_reopening words r.tale)) (sym same)
-                    (leaves_out lines opens l r.tale r.tells entry (subst (Opens opens) (sym now) opened)));
-              };
-        }
-
-  -- a life begins
+  -- a life begins after entries that are left out
   pub life_begun :
-      (number : ℕ) (bytes after rest : List ℕ) → BeginsLife number after rest between new sent more
-      → NodeUpTo bytes (ended (NodeLife number) ++ after) old between post sent → NodeUpTo bytes rest old new post more
-  life_begun number bytes after rest b up =
+      (number : ℕ) (bytes before after rest : List ℕ) → PassesOver before (ended (NodeLife number) ++ after) → BeginsLife number after rest between new sent more
+      → NodeUpTo bytes before old between post sent → NodeUpTo bytes rest old new post more
+  life_begun number bytes before after rest p b up =
       let o = b.opened in
-      let ls : List Line = up.lines ++ NodeLife number ∷ [] in
-      let first : bytes ≡ text_of_all ls ++ after = text_more bytes after up.lines (NodeLife number) up.bytes_are in
+      let passed : List Line = up.lines ++ p.lines in
+      let ls : List Line = passed ++ NodeLife number ∷ [] in
+      let over : bytes ≡ text_of_all passed ++ (ended (NodeLife number) ++ after) =
+      texts_more bytes (ended (NodeLife number) ++ after) up.lines p.lines (up.bytes_are ∙ ap (λ ts. text_of_all up.lines ++ ts) p.bytes_are) in
+      let first : bytes ≡ text_of_all ls ++ after = text_more bytes after passed (NodeLife number) over in
       let all : bytes ≡ text_of_all (ls ++ o.opens) ++ rest = texts_more bytes rest ls o.opens (first ∙ ap (λ ts. text_of_all ls ++ ts) o.bytes_are) in
       record {
-        lines = up.lines ++ NodeLife number ∷ o.opens;
-        bytes_are = all ∙ ap (λ xs. text_of_all xs ++ rest) (append_assoc up.lines (NodeLife number ∷ []) o.opens);
-        reads = reads_life number o.opens b.numbered b.same b.again o.are up.lines up.reads;
-      }
-
-  -- an entry is left out, and a life begins
-  pub life_shortened :
-      (l : Line) (number : ℕ) (bytes between_them after rest : List ℕ) → TellsEntry l → between_them ≡ ended (NodeLife number) ++ after
-      → BeginsLife number after rest between new sent more → NodeUpTo bytes (ended l ++ between_them) old between post sent
-      → NodeUpTo bytes rest old new post more
-  life_shortened l number bytes between_them after rest entry is b up =
-      let o = b.opened in
-      let ls : List Line = (up.lines ++ l ∷ []) ++ NodeLife number ∷ [] in
-      let first : bytes ≡ text_of_all (up.lines ++ l ∷ []) ++ (ended (NodeLife number) ++ after) =
-      text_more bytes between_them up.lines l up.bytes_are ∙ ap (λ ts. text_of_all (up.lines ++ l ∷ []) ++ ts) is in
-      let second : bytes ≡ text_of_all ls ++ after = text_more bytes after (up.lines ++ l ∷ []) (NodeLife number) first in
-      let all : bytes ≡ text_of_all (ls ++ o.opens) ++ rest = texts_more bytes rest ls o.opens (second ∙ ap (λ ts. text_of_all ls ++ ts) o.bytes_are) in
-      record {
-        lines = up.lines ++ l ∷ NodeLife number ∷ o.opens;
+        lines = up.lines ++ (p.lines ++ NodeLife number ∷ o.opens);
         bytes_are =
             all ∙ ap (λ xs. text_of_all xs ++ rest)
-            (append_assoc (up.lines ++ l ∷ []) (NodeLife number ∷ []) o.opens ∙ append_assoc up.lines (l ∷ []) (NodeLife number ∷ o.opens));
-        reads = reads_shorter number o.opens b.numbered b.same b.again o.are up.lines l entry up.reads;
+            (append_assoc passed (NodeLife number ∷ []) o.opens ∙ append_assoc up.lines p.lines (NodeLife number ∷ o.opens));
+        reads = reads_life number o.opens b.numbered b.same b.again o.are up.lines p.lines p.are up.reads;
       }
+
+-- ---- entries that are left out
+
+pub passes_none : (bytes : List ℕ) → PassesOver bytes bytes
+passes_none bytes = record { lines = []; bytes_are = refl; are = tt }
+
+-- this line, and then those
+pub passes_first : (bytes rest : List ℕ) (l : Line) → TellsEntry l → PassesOver bytes rest → PassesOver (ended l ++ bytes) rest
+passes_first bytes rest l entry p =
+    record {
+      lines = l ∷ p.lines;
+      bytes_are = ap (λ ts. ended l ++ ts) p.bytes_are ∙ sym (append_assoc (ended l) (text_of_all p.lines) rest);
+      are = (entry, p.are);
+    }
+
+all_more : (ls : List Line) (l : Line) → AllByRecursion TellsEntry ls → TellsEntry l → AllByRecursion TellsEntry (ls ++ l ∷ [])
+all_more [] l are entry = (entry, tt)
+all_more (x ∷ ls) l are entry = (are.0, all_more ls l are.1 entry)
+
+pub passes_more : (bytes rest : List ℕ) (l : Line) → TellsEntry l → PassesOver bytes (ended l ++ rest) → PassesOver bytes rest
+passes_more bytes rest l entry p =
+    record { lines = p.lines ++ l ∷ []; bytes_are = text_more bytes rest p.lines l p.bytes_are; are = all_more p.lines l p.are entry }
+
+pub passes_left : (bytes rest : List ℕ) → PassesOver bytes rest → length rest ≤ length bytes
+passes_left bytes rest p = texts_left bytes rest p.lines p.bytes_are
 
 pub node_read :
     (bytes rest : List ℕ) (old now : NodeValue) (post more : List Message) → NodeUpTo bytes rest old now post more → HasNoNewline rest

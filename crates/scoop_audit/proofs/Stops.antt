@@ -18,9 +18,9 @@ use Rattle.scoop_audit.specs.declared.error.Trouble.{Trouble}
 use Rattle.scoop_audit.specs.declared.error.Trouble.TheVariants.{OutOfMemory, Fault, Wrong as IsWrong}
 use Rattle.scoop_audit.specs.declared.error.Wrong.{Wrong}
 use Rattle.scoop_audit.specs.Client.{ClientUpTo}
-use Rattle.scoop_audit.specs.Node.{BeginsLife, NodeUpTo, TellsEntry, TellsNode}
+use Rattle.scoop_audit.specs.Node.{BeginsLife, NodeUpTo, PassesOver, TellsNode}
 use Rattle.scoop_audit.specs.Wrong.{ClientStops, IfWrong, IsWrongAt, IsWrongOf, LifeStops, NodeStops, OpeningStops, StopsClient, StopsNode}
-use Rattle.scoop_audit.proofs.Nodes.{life_begun, life_shortened}
+use Rattle.scoop_audit.proofs.Nodes.{life_begun}
 
 -- ---- troubles
 
@@ -46,60 +46,30 @@ life_stops number bytes old now post sent t numbered same again is =
     })
 
 module _ (first old : NodeValue) (sent post : List Message) (bytes : List ℕ) where
-  -- where a life begins
-  pub begun_told :
-      (new : NodeValue) (more : List Message) {T : Type 0} (res : Result T Trouble) (l : Line) (number : ℕ) (after rest : List ℕ) → l ≡ NodeLife number
-      → OnOk res (BeginsLife number after rest old new post more)
-      → OnOk res (NodeUpTo bytes (ended l ++ after) first old sent post → NodeUpTo bytes rest first new sent more)
-  begun_told new more (Ok u) l number after rest is begins =
-      λ up.
-      life_begun first old new sent post more number bytes after rest begins (subst (λ k. NodeUpTo bytes (ended k ++ after) first old sent post) is up)
-  begun_told new more (Err t) l number after rest is begins = tt
+  module _ (before : List ℕ) (number : ℕ) (after : List ℕ) (passes : PassesOver before (ended (NodeLife number) ++ after)) where
+    -- where a life begins, after entries that are left out
+    pub begun_told :
+        (new : NodeValue) (more : List Message) {T : Type 0} (res : Result T Trouble) (rest : List ℕ)
+        → OnOk res (BeginsLife number after rest old new post more)
+        → OnOk res (NodeUpTo bytes before first old sent post → NodeUpTo bytes rest first new sent more)
+    begun_told new more (Ok u) rest begins = λ up. life_begun first old new sent post more number bytes before after rest passes begins up
+    begun_told new more (Err t) rest begins = tt
 
-  pub begun_stops :
-      {T : Type 0} (res : Result T Trouble) (l : Line) (number : ℕ) (after : List ℕ) → l ≡ NodeLife number
-      → IfErr res (IfWrong (LifeStops number after old post))
-      → IfErr res (λ t. NodeUpTo bytes (ended l ++ after) first old sent post → IfWrong (NodeStops bytes first sent) t)
-  begun_stops (Ok u) l number after is stops = tt
-  begun_stops (Err t) l number after is stops =
-      λ up.
-      if_wrong t (LifeStops number after old post) (NodeStops bytes first sent) stops
-      (λ w s. record {
-        line = s.line;
-        rest = s.rest;
-        now = s.now;
-        sent = s.sent;
-        up_to =
-            life_begun first old s.now sent post s.sent number bytes after (ended s.line ++ s.rest) s.begins
-            (subst (λ k. NodeUpTo bytes (ended k ++ after) first old sent post) is up);
-        wrong = s.wrong;
-      })
-
-  -- where a life begins after an entry that is left out
-  pub shortened_told :
-      (new : NodeValue) (more : List Message) {T : Type 0} (res : Result T Trouble) (l : Line) (number : ℕ) (between_them after rest : List ℕ)
-      → TellsEntry l → between_them ≡ ended (NodeLife number) ++ after → OnOk res (BeginsLife number after rest old new post more)
-      → OnOk res (NodeUpTo bytes (ended l ++ between_them) first old sent post → NodeUpTo bytes rest first new sent more)
-  shortened_told new more (Ok u) l number between_them after rest entry at begins =
-      λ up. life_shortened first old new sent post more l number bytes between_them after rest entry at begins up
-  shortened_told new more (Err t) l number between_them after rest entry at begins = tt
-
-  pub shortened_stops :
-      {T : Type 0} (res : Result T Trouble) (l : Line) (number : ℕ) (between_them after : List ℕ) → TellsEntry l
-      → between_them ≡ ended (NodeLife number) ++ after → IfErr res (IfWrong (LifeStops number after old post))
-      → IfErr res (λ t. NodeUpTo bytes (ended l ++ between_them) first old sent post → IfWrong (NodeStops bytes first sent) t)
-  shortened_stops (Ok u) l number between_them after entry at stops = tt
-  shortened_stops (Err t) l number between_them after entry at stops =
-      λ up.
-      if_wrong t (LifeStops number after old post) (NodeStops bytes first sent) stops
-      (λ w s. record {
-        line = s.line;
-        rest = s.rest;
-        now = s.now;
-        sent = s.sent;
-        up_to = life_shortened first old s.now sent post s.sent l number bytes between_them after (ended s.line ++ s.rest) entry at s.begins up;
-        wrong = s.wrong;
-      })
+    pub begun_stops :
+        {T : Type 0} (res : Result T Trouble) → IfErr res (IfWrong (LifeStops number after old post))
+        → IfErr res (λ t. NodeUpTo bytes before first old sent post → IfWrong (NodeStops bytes first sent) t)
+    begun_stops (Ok u) stops = tt
+    begun_stops (Err t) stops =
+        λ up.
+        if_wrong t (LifeStops number after old post) (NodeStops bytes first sent) stops
+        (λ w s. record {
+          line = s.line;
+          rest = s.rest;
+          now = s.now;
+          sent = s.sent;
+          up_to = life_begun first old s.now sent post s.sent number bytes before after (ended s.line ++ s.rest) passes s.begins up;
+          wrong = s.wrong;
+        })
 
 pub node_stops :
     (words : HandlerId → List ℕ) (n : ℕ) (ps : List Placed) (journal : List ℕ) (post : List Message) (w : Wrong)

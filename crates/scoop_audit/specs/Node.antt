@@ -1,5 +1,6 @@
 -- The lives that the journal of a node tells, entry by entry.
 use Rattle.std.specs.Prelude.{◌≡◌, ⊤, ℕ, List, [], ◌∷◌, ◌++◌}
+use Rattle.std.specs.List.{AllByRecursion}
 use Rattle.scoop_message.specs.declared.name.HandlerId.{HandlerId}
 use Rattle.scoop_message.specs.declared.message.Message.{Message}
 use Rattle.scoop_handler.specs.Local.{LocalHandler, number_in}
@@ -51,16 +52,15 @@ Opens [] ls = ⊤
 Opens (x ∷ xs) [] = ⊥
 Opens (x ∷ xs) (l ∷ ls) = OpensAs x l × Opens xs ls
 
--- From this tale these lines lead to that one. The last entry of a life is left out if it was not stored: the next life opens
--- with the states before it.
+-- From this tale these lines lead to that one. The last entries of a life are left out if they were not stored: the next life
+-- opens with the states before them.
 pub data TellsNode (words : HandlerId → List ℕ) (number : ℕ) (start : NodeTale) : List Line → NodeTale → Type 0 where
   tells_nothing : TellsNode words number start [] start
   tells_entry : (lines : List Line) (t : NodeTale) (l : Line) (e : Entry) (hs : List LocalHandler) → TellsNode words number start lines t → IsEntryOf l e →
       TellsNode words number start (lines ++ l ∷ []) (after_entry e hs t)
-  tells_life : (lines opens : List Line) (t : NodeTale) → TellsNode words number start lines t → Opens opens (after_reopening words t).handlers →
-      TellsNode words number start (lines ++ NodeLife number ∷ opens) (after_reopening words t)
-  leaves_out : (lines opens : List Line) (l : Line) (t : NodeTale) → TellsNode words number start lines t → TellsEntry l →
-      Opens opens (after_reopening words t).handlers → TellsNode words number start (lines ++ l ∷ NodeLife number ∷ opens) (after_reopening words t)
+  tells_life : (lines unstored opens : List Line) (t : NodeTale) → TellsNode words number start lines t → AllByRecursion TellsEntry unstored →
+      Opens opens (after_reopening words t).handlers →
+      TellsNode words number start (lines ++ (unstored ++ NodeLife number ∷ opens)) (after_reopening words t)
 
 -- ---- what a replay does
 
@@ -75,6 +75,12 @@ EntersBy (Finish h) old new post more = GoesOn (RanSo h) old new post more
 EntersBy (Do x) old new post more = ⊥
 EntersBy (Turn a) old new post more = ⊥
 EntersBy (Broke place) old new post more = ⊥
+
+-- the lines before this rest tell entries, which are left out
+pub record PassesOver (bytes rest : List ℕ) : Type 0 where
+  pub lines : List Line
+  pub bytes_are : bytes ≡ text_of_all lines ++ rest
+  pub are : AllByRecursion TellsEntry lines
 
 -- the lines before this rest open the first of these handlers
 pub record OpensFrom (bytes rest : List ℕ) (ls : List LocalHandler) : Type 0 where

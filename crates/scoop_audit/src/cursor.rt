@@ -29,6 +29,11 @@ impl<'a> Cursor<'a> {
         }
     }
 
+    /// Whether the next line begins a life, if it is one.
+    pub(crate) fn begins_life(&self) -> bool {
+        self.rest.starts_with(b"scoop")
+    }
+
     /// The text of the next line, without its newline.
     pub(crate) fn next_text(&mut self) -> Option<&'a [u8]>
         ensures { MatchOption result (HasNoNewline self.old.rest.now) (λ text. self.old.rest.now ≡ text.now ++ 10 ∷ self.new.rest.now) }

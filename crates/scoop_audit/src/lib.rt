@@ -4,6 +4,7 @@
 //! which each message that is heard was sent before. If there is none, it names the first move that has no explanation.
 #![tactic(auto)]
 
+mod ahead;
 mod auditing;
 mod blocks;
 mod charting;

@@ -13,8 +13,8 @@ pub struct Life {
     pub(crate) line: u64,
     /// How many entries or steps it has.
     pub(crate) entries: u64,
-    /// Whether its last entry is left out, since it was not stored.
-    pub(crate) is_shortened: bool,
+    /// How many of its entries were stored, if the next life shows it. The further ones are left out.
+    pub(crate) stored: Option<u64>,
 }
 
 /// The lives of one party.
@@ -61,12 +61,13 @@ impl Tale {
         sum
     }
 
-    /// The life at this place, counted from 0, has a last entry that was not stored, and is left out: its number in the
-    /// life, counted from 1.
-    pub fn left_out(&self, place: usize) -> Option<u64> {
+    /// The last entries of the life at this place, counted from 0, that were not stored, and are left out. The result is
+    /// the numbers of the first and the last of them in the life, counted from 1.
+    pub fn left_out(&self, place: usize) -> Option<(u64, u64)> {
         let life = self.lives.get(place)?;
-        if life.is_shortened {
-            Some(life.entries)
+        let stored = life.stored?;
+        if stored < life.entries {
+            Some((stored + 1, life.entries))
         } else {
             None
         }
@@ -83,7 +84,7 @@ impl Tale {
             first,
             line,
             entries: 0,
-            is_shortened: false,
+            stored: None,
         })?;
         Ok(())
     }
@@ -96,12 +97,17 @@ impl Tale {
         }
     }
 
-    /// The last entry of the last life is left out.
-    pub(crate) fn shorten(&mut self) {
+    /// This many entries of the last life were stored, if the next life shows it.
+    pub(crate) fn keep(&mut self, stored: Option<u64>) {
         let last = self.lives.len().saturating_sub(1);
         if let Some(life) = self.lives.get_mut(last) {
-            life.is_shortened = true;
+            life.stored = stored;
         }
+    }
+
+    /// Whether the newest entry of the last life is left out.
+    pub(crate) fn has_left_out(&self) -> bool {
+        self.left_out(self.lives.len().saturating_sub(1)).is_some()
     }
 
     /// The life, counted from 0, that has the move at this place.

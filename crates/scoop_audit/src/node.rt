@@ -9,17 +9,19 @@ ghost use Rattle.scoop_message.specs.declared.message.Message.{Message as Told};
 ghost use Rattle.scoop_replay.specs.Node.{BeganSo, GoesOn, HeardSo, NodeValue, OpensAgain, RanSo};
 ghost use Rattle.scoop_replay.specs.Refusals.{IsNodeRefusal};
 ghost use Rattle.scoop_weaver.specs.Post.{Grows};
-ghost use Rattle.scoop_audit.specs.Node.{BeginsLife, EntersBy, NodeRead, NodeUpTo, OpensAs, OpensFrom, TellsEntry};
+ghost use Rattle.scoop_audit.specs.Node.{BeginsLife, EntersBy, NodeRead, NodeUpTo, OpensAs, OpensFrom, PassesOver, TellsEntry};
 ghost use Rattle.scoop_audit.specs.Wrong.{IfWrong, IsNotWrong, IsWrongAt, LifeStops, NodeStops, OpeningStops, line_of};
 
+use crate::ahead::stored_entries;
 use crate::cursor::{Cursor, read_line};
 use crate::error::{Fault, PartyName, Trouble, Wrong};
+use crate::lives::Tale;
 use crate::pages::Pages;
 use crate::remarks::Deed;
 use scoop_handler::{Note, Ran};
 use scoop_journal::Line;
 use scoop_message::{HandlerId, Message, OutOfMemory};
-use scoop_replay::{Last, NodeReplay, ReplayError};
+use scoop_replay::{NodeReplay, ReplayError};
 use scoop_weaver::Post;
 use std::alloc::Global;
 
@@ -159,58 +161,8 @@ fn enter(
     }
 }
 
-// The blobs of this handler among the first lines of a life, if they are there.
-fn opening_of<'a>(
-    mut cursor: Cursor<'a>,
-    count: usize,
-    handler: HandlerId,
-) -> Option<(&'a [u8], &'a [u8])> {
-    for _ in 0..count {
-        let Ok(Some(Line::Open(number, image, pending))) = cursor.next() else {
-            return None;
-        };
-        if number.0 == handler.0 {
-            return Some((image, pending));
-        }
-    }
-    None
-}
-
-// The handler of a life's last event, if it stores a state.
-fn last_event(line: &Line<'_>) -> Option<(HandlerId, Last)> {
-    match line {
-        Line::Hear(message, _) => Some((message.handler(), Last::Hear(*message))),
-        Line::Finish(handler) => Some((*handler, Last::Finish)),
-        _ => None,
-    }
-}
-
-// Whether the entry of this line is the last one of its life and was not stored. If so, the next life begins at the
-// cursor, and opens with the state before the entry.
-fn is_unstored(
-    alloc: Global,
-    node: &NodeReplay,
-    line: &Line<'_>,
-    cursor: &Cursor<'_>,
-) -> Result<bool, OutOfMemory> {
-    if !cursor.rest.starts_with(b"scoop") {
-        return Ok(false);
-    }
-    let Some((handler, last)) = last_event(line) else {
-        return Ok(false);
-    };
-    let mut openings = *cursor;
-    let Ok(Some(Line::NodeLife(_))) = openings.next() else {
-        return Ok(false);
-    };
-    let Some((image, pending)) = opening_of(openings, node.count(), handler) else {
-        return Ok(false);
-    };
-    node.is_unstored(alloc, handler, &last, image, pending)
-}
-
-// Whether the handler of this number is the one at this place.
-fn is_at(node: &NodeReplay, place: usize, handler: HandlerId) -> bool
+/// Whether the handler of this number is the one at this place.
+pub(crate) fn is_at(node: &NodeReplay, place: usize, handler: HandlerId) -> bool
     ensures number { IsTrue result → IfSome (slice_get node.now.handlers place) (λ l. handler ≡ number_in l) }
     ensures there { IsTrue result → slice_get node.now.handlers place ≢ None }
 {
@@ -316,12 +268,52 @@ fn begin_life(
     reopen(alloc, node, post, pages)?;
     pages.tale.begin(node.moves(), cursor.number)?;
     match open(alloc, node, cursor) {
-        Ok(()) => Ok(()),
-        Err(trouble) => Err(trouble),
+        Ok(()) => {}
+        Err(trouble) => return Err(trouble),
+    }
+    pages.tale.keep(stored_entries(alloc, node, cursor)?);
+    Ok(())
+}
+
+// Whether the line is that of an entry.
+fn is_entry(line: &Line<'_>) -> bool
+    ensures { IsTrue result → TellsEntry line.now }
+{
+    match line {
+        Line::Hear(..) | Line::Begin(_) | Line::Finish(_) => true,
+        Line::NodeLife(_)
+        | Line::ClientLife(..)
+        | Line::Open(..)
+        | Line::Do(_)
+        | Line::Turn(_)
+        | Line::Broke(_) => false,
     }
 }
 
-// The entry of this line was not stored, so it is left out, and the next life begins.
+// Passes over the entries up to the next life.
+fn pass_over(cursor: &mut Cursor<'_>, tale: &mut Tale) -> Result<(), Trouble>
+    ensures passes { OnOk result (PassesOver cursor.old.rest.now cursor.new.rest.now) }
+    ensures fault { IfErr result IsNotWrong }
+    ensures shorter { OnOk result (length cursor.new.rest.now ≤ length cursor.old.rest.now) }
+{
+    for _ in 0..cursor.rest.len() {
+        if cursor.begins_life() {
+            return Ok(());
+        }
+        let line = match cursor.next() {
+            Ok(Some(line)) => line,
+            Ok(None) => return Err(Trouble::Fault(cursor.number, Fault::Misplaced)),
+            Err(trouble) => return Err(trouble),
+        };
+        if !is_entry(&line) {
+            return Err(Trouble::Fault(cursor.number, Fault::Misplaced));
+        }
+        tale.count();
+    }
+    Ok(())
+}
+
+// The entry of this line and the further ones of its life were not stored. They are left out, and the next life begins.
 fn leave_out(
     alloc: Global,
     line: &Line<'_>,
@@ -339,7 +331,10 @@ fn leave_out(
         → IfErr result (λ t. NodeUpTo bytes (ended line.now ++ cursor.old.rest.now) first node.old sent post.old → IfWrong (NodeStops bytes first sent) t) }
     ensures shorter { OnOk result (length cursor.new.rest.now ≤ length cursor.old.rest.now) }
 {
-    pages.tale.shorten();
+    match pass_over(cursor, pages.tale) {
+        Ok(()) => {}
+        Err(trouble) => return Err(trouble),
+    }
     match cursor.next() {
         Ok(Some(Line::NodeLife(number))) => { begin_life(alloc, number, cursor, node, post, pages) }
         Ok(_) => Err(Trouble::Fault(cursor.number, Fault::Misplaced)),
@@ -367,10 +362,10 @@ fn take_entry(
 {
     let _parts: Option<(Message, Wrong)> = None;
     pages.tale.count();
-    match is_unstored(alloc, node, line, cursor) {
-        Ok(true) => leave_out(alloc, line, cursor, node, post, pages),
-        Ok(false) => enter(cursor.number, line, node, post, pages),
-        Err(_) => Err(Trouble::OutOfMemory),
+    if pages.tale.has_left_out() {
+        leave_out(alloc, line, cursor, node, post, pages)
+    } else {
+        enter(cursor.number, line, node, post, pages)
     }
 }
 

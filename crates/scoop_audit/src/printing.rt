@@ -39,12 +39,14 @@ fn print_tale<W: Write>(tale: &Tale, writer: &mut W) -> io::Result<()> {
 fn print_left_out<W: Write>(tale: &Tale, writer: &mut W) -> io::Result<()> {
     let party = tale.party();
     for place in 0..tale.lives() {
-        if let Some(entry) = tale.left_out(place) {
+        if let Some((first, last)) = tale.left_out(place) {
             let life = place as u64 + 1;
-            writeln!(
-                writer,
-                "supposed: {party}, life {life}: entry {entry} was not stored"
-            )?;
+            write!(writer, "supposed: {party}, life {life}: ")?;
+            if first == last {
+                writeln!(writer, "entry {first} was not stored")?;
+            } else {
+                writeln!(writer, "entries {first} to {last} were not stored")?;
+            }
         }
     }
     Ok(())

@@ -35,7 +35,7 @@ use Rattle.scoop_book.specs.declared.error.BookError.{BookError}
 use Rattle.scoop_book.specs.declared.error.BookError.TheVariants.{NodeFailed, HistoryFull, UnknownHandler, StoreRefused, OutOfMemory}
 use Rattle.scoop_book.specs.declared.error.FinishRefusal.{FinishRefusal}
 use Rattle.scoop_book.specs.declared.error.FinishRefusal.TheVariants as unfinished
-use Rattle.scoop_book.specs.Books.{BookValue, IsBook, IsSince, HasStored, KeepsNew, Gains, MayHappen, IsRefused, IsStranger, MayFinish, IsUnfinished, HasNoPlace}
+use Rattle.scoop_book.specs.Books.{BookValue, IsBook, IsSince, HasStored, KeepsNew, Gains, MayHappen, IsRefused, IsStranger, MayFinish, IsUncommitted, IsUnfinished, HasNoPlace}
 use Rattle.scoop_book.specs.Books.{fails_to_finish, no_place_to_finish, refusal_of}
 use Rattle.scoop_book.specs.Kept.{IsHeld, HandlersValue, handlers_kept, book_kept}
 use Rattle.scoop_book.proofs.Places.{own_found}
@@ -355,6 +355,10 @@ module _ {K : Type 0} (opening : List LocalHandler) (v : HandlersValue K) (es : 
 -- a refusal that comes only where the event may happen
 pub put_refusal : {K : Type 0} (b : BookValue K) (h : HandlerId) (e : BookError) → (e ≡ StoreRefused) ⊎ (e ≡ OutOfMemory) → MayHappen b h → IsRefused b h e
 put_refusal b h e which may = ⊎_elim (λ is. subst (IsRefused b h) (sym is) may) (λ is. subst (IsRefused b h) (sym is) may) which
+
+-- a refusal of a commit that comes only where the book hasn't failed
+pub uncommitted : {K : Type 0} (b : BookValue K) (e : BookError) → (e ≡ StoreRefused) ⊎ (e ≡ OutOfMemory) → b.failed ≡ false → IsUncommitted b e
+uncommitted b e which works = ⊎_elim (λ is. subst (IsUncommitted b) (sym is) works) (λ is. subst (IsUncommitted b) (sym is) works) which
 
 pub no_place_unfinished : {K : Type 0} (b : BookValue K) (t : Task) (e : BookError) → HasNoPlace e → IsRefused b t.handler e
     → IsUnfinished b t (no_place_to_finish e)

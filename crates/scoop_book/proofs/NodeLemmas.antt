@@ -1,17 +1,17 @@
 -- One more event of a pass, one more entry of a node's book, and a node's last clauses.
 use Rattle.std.proofs.Common.{◌≡◌, ◌<◌, ℕ, List, [], ◌∷◌, ◌++◌, Option, Some, None, Result, Ok, Err, true, false, map, ap, sym, ◌∙◌, subst, refl, arith}
-use Rattle.std.specs.Prelude.{◌↔◌, ◌==◌, Bool, IsTrue, IfOk, IfErr}
+use Rattle.std.specs.Prelude.{◌↔◌, ◌==◌, Bool, IsTrue, IfOk, IfErr, OnOk}
 use Rattle.std.specs.List.{All}
 use Rattle.std.proofs.lemmas.Bool.Decides.{nat_tests}
 use Rattle.std.proofs.lemmas.List.{map-append}
 use Rattle.scoop_handler.specs.Running.{Task}
-use Rattle.scoop_keeper.specs.Keeper.{Stored}
+use Rattle.scoop_keeper.specs.Keeper.{Stored, Stays}
 use Rattle.scoop_book.specs.declared.event.Event.{Event}
 use Rattle.scoop_book.specs.declared.event.Reply.{Reply}
 use Rattle.scoop_book.specs.declared.error.FinishRefusal.{FinishRefusal}
 use Rattle.scoop_book.specs.Moves.{LocalHandler, Entry, Replays, moved}
 use Rattle.scoop_book.specs.Books.{BookValue, IsBook, IsSince, Gains, IsUnfinished}
-use Rattle.scoop_book.specs.Closing.{Agrees, Differs, FollowsOpening, IsClosed, IsComplete, IsEntered, WasSo}
+use Rattle.scoop_book.specs.Closing.{Agrees, Differs, FollowsOpening, IsClosed, IsCommitted, IsComplete, IsEntered, WasSo}
 use Rattle.scoop_book.specs.Passes.{PassValue, fresh_pass, pass_value, with_event}
 
 pub if_entered : {T E K : Type 0} (has : K → ℕ → Stored → Type 0) (is_honest : K → Type 0) (pass : ℕ) (event : Event) (reply : T → Reply)
@@ -25,6 +25,11 @@ pub if_refused : {T E K : Type 0} (has : K → ℕ → Stored → Type 0) (is_ho
     → IfErr r (P old) → IsBook has is_honest old → IfErr r (WasSo has is_honest P)
 if_refused has is_honest P old (Ok x) so sound = tt
 if_refused has is_honest P old (Err e) so sound = record { book = old; sound = sound; so = so }
+
+pub if_committed : {T E K : Type 0} (has outlasting : K → ℕ → Stored → Type 0) (is_honest : K → Type 0) (b : BookValue K) (r : Result T E)
+    → (is_honest b.keeper → OnOk r (Stays (has b.keeper) (outlasting b.keeper))) → IsBook has is_honest b → OnOk r (IsCommitted has outlasting is_honest)
+if_committed has outlasting is_honest b (Ok x) outlasts sound = record { book = b; sound = sound; outlasts = outlasts }
+if_committed has outlasting is_honest b (Err e) outlasts sound = tt
 
 pub if_unfinished : {T E K : Type 0} (has : K → ℕ → Stored → Type 0) (is_honest : K → Type 0) (t : Task) (cause : E → FinishRefusal) (old : BookValue K)
     (r : Result T E) → IfErr r (λ e. IsUnfinished old t (cause e)) → IsBook has is_honest old

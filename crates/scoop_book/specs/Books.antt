@@ -91,6 +91,14 @@ IsRefused b h UnknownHandler = MayEnter b × (handler_in h b.handlers ≡ None)
 IsRefused b h StoreRefused = MayHappen b h
 IsRefused b h OutOfMemory = MayHappen b h
 
+-- why the keeper's states aren't committed; out of memory is the last reason
+abbrev pub IsUncommitted : {K : Type 0} → BookValue K → BookError → Type 0
+IsUncommitted b NodeFailed = b.failed ≡ true
+IsUncommitted b HistoryFull = ⊥
+IsUncommitted b UnknownHandler = ⊥
+IsUncommitted b StoreRefused = b.failed ≡ false
+IsUncommitted b OutOfMemory = b.failed ≡ false
+
 -- the handler of the job has another job out, or none
 pub record IsStranger {K : Type 0} (b : BookValue K) (t : Task) : Type 0 where
   pub enter : MayEnter b

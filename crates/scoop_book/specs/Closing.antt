@@ -1,7 +1,7 @@
 -- Nodes as they open and close.
 use Rattle.std.specs.Prelude.{◌≡◌, ◌⊎◌, ◌<◌, ◌≤◌, ℕ, Some, List, length, slice_get}
 use Rattle.std.specs.List.{All, AllByRecursion, Any}
-use Rattle.scoop_keeper.specs.Keeper.{Stored}
+use Rattle.scoop_keeper.specs.Keeper.{Stored, Stays}
 use Rattle.scoop_book.specs.declared.event.Event.{Event}
 use Rattle.scoop_book.specs.declared.event.Reply.{Reply}
 use Rattle.scoop_book.specs.Moves.{LocalHandler, Entry, Replays, made_by}
@@ -58,6 +58,12 @@ pub record IsEntered {K : Type 0} (has : K → ℕ → Stored → Type 0) (is_ho
   pub before : IsBook has is_honest old
   pub gains : Gains pass event reply old new
   pub after : IsBook has is_honest new
+
+-- all that the keeper of the node's book had of handlers outlasts it, as it was under its lock and while it is honest
+pub record IsCommitted {K : Type 0} (has outlasting : K → ℕ → Stored → Type 0) (is_honest : K → Type 0) : Type 0 where
+  pub book : BookValue K
+  pub sound : IsBook has is_honest book
+  pub outlasts : is_honest book.keeper → Stays (has book.keeper) (outlasting book.keeper)
 
 -- ---- opening
 

@@ -110,6 +110,21 @@ impl<B: Behaviour, K: Keeper<A>, A: Allocator + Copy> Handlers<B, K, A> {
         local.hear(&mut self.keeper, message)
     }
 
+    /// Makes the stored states outlast this process. A refusal changes nothing.
+    pub(crate) fn commit(&mut self) -> Result<(), KeeperError>
+        requires held { IsHeld K.handlers K.is_honest self.old }
+        ensures outlasts { K.is_honest self.new.keeper → OnOk result (Stays (K.handlers self.new.keeper) (K.outlasting self.new.keeper)) }
+        ensures refused { K.is_honest self.new.keeper → OnErr result (Stays (K.outlasting self.old.keeper) (K.outlasting self.new.keeper)) }
+        ensures handlers { self.new.handlers ≡ self.old.handlers }
+        ensures kept { K.is_honest self.new.keeper → Stays (K.handlers self.old.keeper) (K.handlers self.new.keeper) }
+        ensures incarnations { K.is_honest self.new.keeper → IsSame (K.incarnations self.old.keeper) (K.incarnations self.new.keeper) }
+        ensures named { IfErr result IsPutError }
+        ensures honest { K.is_honest self.new.keeper → K.is_honest self.old.keeper }
+        ensures held { IsHeld K.handlers K.is_honest self.new }
+    {
+        self.keeper.commit()
+    }
+
     /// The next entry of the handler at this place leaves to be run, if there is one.
     pub(crate) fn begin(&mut self, at: usize, handler: HandlerId) -> Option<Job<B>>
         requires first { IsFirst (is_handler handler) self.old.handlers at }

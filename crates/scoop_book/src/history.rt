@@ -8,11 +8,12 @@ mod writing;
 
 use crate::event::{Event, Reply};
 use reading::line_from;
-use scoop_message::{Entry, OutOfMemory, Request};
+use scoop_handler::Heard;
+use scoop_message::{Entry, Message, OutOfMemory, Request};
 use scoop_packed::Reader;
 use std::alloc::{Allocator, Global};
 use std::marker::Model;
-use writing::{MAX_LINE, put_line};
+use writing::{MAX_LINE, put_heard_line, put_line};
 
 /// Events, oldest first, each with the number of the pass that made it and its reply. They are packed as words of 32
 /// bits, so that an entry takes only the memory that its kind needs. Contracts see the entries, and the room for more.
@@ -107,6 +108,15 @@ impl<A: Allocator + Copy> History<A> {
         ensures { self.new.entries ≡ self.old.entries ++ (pass, event.now, reply.now) ∷ [] }
     {
         put_line(&mut self.words, pass, event, reply);
+        self.count += 1;
+    }
+
+    /// Enters a message that was heard, and what it did. There is room for it.
+    pub(crate) fn enter_heard(&mut self, pass: u32, message: &Message, heard: &Heard)
+        requires { MAX_LINE ≤ self.old.room }
+        ensures { self.new.entries ≡ self.old.entries ++ (pass, Event.Hear message.now, Reply.Heard heard.now) ∷ [] }
+    {
+        put_heard_line(&mut self.words, pass, message, heard);
         self.count += 1;
     }
 

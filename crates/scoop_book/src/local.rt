@@ -104,18 +104,17 @@ impl<B: Behaviour, A: Allocator + Copy> Local<B, A> {
         ensures named { IfErr result IsPutError }
         ensures honest { K.is_honest keeper.new → K.is_honest keeper.old }
     {
-        let heard = match hear_beside(
+        let heard = hear_beside(
             &mut self.handler,
             &mut self.beside,
             keeper,
             self.is_stored,
             message,
-        ) {
-            Ok(heard) => heard,
-            Err(error) => return Err(error),
-        };
-        self.is_stored = true;
-        Ok(heard)
+        );
+        if heard.is_ok() {
+            self.is_stored = true;
+        }
+        heard
     }
 
     /// The next entry leaves to be run, if there is one.

@@ -5,8 +5,8 @@ ghost use Rattle.scoop_message.specs.Message.{handler_of};
 ghost use Rattle.std.specs.Option.{option_map};
 ghost use Rattle.scoop_message.specs.declared.limits.TheConstants.{MAX_HANDLERS, MAX_HISTORY};
 ghost use Rattle.scoop_handler.specs.Running.{ran_of};
-ghost use Rattle.scoop_book.specs.Books.{HasReply, IsHear, IsRefused, IsUnfinished};
-ghost use Rattle.scoop_book.specs.Closing.{Differs, FollowsOpening, HasOpened, IsClosed, IsComplete, IsEntered, IsNodeUnopened, WasSo};
+ghost use Rattle.scoop_book.specs.Books.{HasReply, IsHear, IsRefused, IsUncommitted, IsUnfinished};
+ghost use Rattle.scoop_book.specs.Closing.{Differs, FollowsOpening, HasOpened, IsClosed, IsCommitted, IsComplete, IsEntered, IsNodeUnopened, WasSo};
 ghost use Rattle.scoop_book.specs.Moves.{handler_at, leaves};
 ghost use Rattle.scoop_book.specs.Passes.{with_event};
 
@@ -52,6 +52,16 @@ fn hear_in<B: Behaviour, K: Keeper<A>, A: Allocator + Copy>(
     ensures refused { IfErr result (WasSo K.handlers K.is_honest (λ b. IsRefused b (handler_of message.now))) }
 {
     book.hear(pass, message)
+}
+
+// Commits under the lock.
+fn commit_in<B: Behaviour, K: Keeper<A>, A: Allocator + Copy>(
+    book: &mut Book<B, K, A>,
+) -> Result<(), BookError>
+    ensures committed { OnOk result (IsCommitted K.handlers K.outlasting K.is_honest) }
+    ensures refused { IfErr result (WasSo K.handlers K.is_honest IsUncommitted) }
+{
+    book.commit()
 }
 
 // Begins an entry under the lock.
@@ -180,6 +190,18 @@ impl<B: Behaviour, K: Keeper<A>, A: Allocator + Copy> Node<B, K, A> {
             Ok(heard) => Ok(heard_reply(&heard)),
             Err(error) => Err(error),
         }
+    }
+
+    /// Makes what the handlers' events have stored outlast this process, as in [`Book::commit`]. No pass gains anything. May
+    /// wait for the lock.
+    ///
+    /// Refused as a book refuses it.
+    pub fn commit<R: Wait>(&self, rt: &R) -> Result<(), BookError>
+        ensures committed { OnOk result (IsCommitted K.handlers K.outlasting K.is_honest) }
+        ensures refused { IfErr result (WasSo K.handlers K.is_honest IsUncommitted) }
+    {
+        let mut book = self.book.lock(rt);
+        commit_in(&mut book)
     }
 
     /// The handler's next entry leaves to be run, as in [`Book::begin`]. The pass gains the event with the entry that

@@ -163,8 +163,9 @@ pub fn print_frame_of<W: Write>(
     ensures { OnOk result (Appends (W.contents writer.old) (W.contents writer.new) (encode_lower (frame version message.now) ++ 10 ∷ [])) }
 {
     let mut out = [0; BUFFER_LEN];
+    let mut room = [0; MAX_DATAGRAM_LEN];
     let len = encode(version, message, &mut out);
-    print_frame(&out[..len], writer)
+    print_frame(&out[..len], &mut room, writer)
 }
 
 /// Writes the line of a datagram: its message in words, or `refused` and why it is no frame.

@@ -150,6 +150,27 @@ pub(crate) fn kind_name(message: &Message) -> &'static str
     }
 }
 
+/// Writes the line of a message without a reply, in one write: `none` and the handler's note.
+pub(crate) fn print_silent<W: Write>(note: Note, writer: &mut W) -> io::Result<()>
+    ensures { OnOk result (Appends (W.contents writer.old) (W.contents writer.new) (codes "none " ++ handler_note_text note ++ 10 ∷ [])) }
+{
+    let mut line = ArrayVec::new();
+    match put_silent(&mut line, note) {
+        Ok(()) => writer.write_all(line.as_slice()),
+        // No line is this long.
+        Err(_) => Err(io::Error::from(ErrorKind::WriteZero)),
+    }
+}
+
+// Appends the line of a message without a reply.
+fn put_silent(line: &mut LineText, note: Note) -> Result<(), CapacityError>
+    ensures { OnOk result (line.new.items ≡ line.old.items ++ codes "none " ++ handler_note_text note ++ 10 ∷ []) }
+{
+    put(line, "none ")?;
+    put_handler_note(line, note)?;
+    put(line, "\n")
+}
+
 // Appends a handler's note on a message.
 fn put_handler_note(line: &mut LineText, note: Note) -> Result<(), CapacityError>
     ensures { OnOk result (line.new.items ≡ line.old.items ++ handler_note_text note) }

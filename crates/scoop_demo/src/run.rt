@@ -1,6 +1,6 @@
 //! A run over the lines of an input, one answer for each.
 
-ghost use Rattle.std.specs.Prelude.{◌≡◌, ◌≤◌, ◌∷◌, ◌++◌, [], length, None, IfErr, OnOk};
+ghost use Rattle.std.specs.Prelude.{◌≡◌, ◌≤◌, ◌+◌, ◌*◌, ◌∷◌, ◌++◌, [], length, None, IfErr, OnOk};
 ghost use Rattle.std.specs.Io.KnownBytes.{Appends};
 ghost use Rattle.scoop_message.specs.declared.limits.TheConstants.{BUFFER_LEN};
 ghost use Rattle.hex.specs.Hex.{encode_lower};
@@ -14,6 +14,7 @@ ghost use Rattle.scoop_demo.specs.Run.{AnswersAll, StopsEarly, WritesAnswer, Sto
 use crate::answer::{answer, run_dry};
 use crate::datagram::{MAX_DATAGRAM_LEN, read_datagram};
 use crate::fault::RunError;
+use crate::printing::print_silent;
 use arrayvec::ArrayVec;
 use scoop_book::Book;
 use scoop_keeper::Keeper;
@@ -118,8 +119,8 @@ fn answer_lines<B: Behaviour, K: Keeper<Global>, R: Read + Drop, W: Write>(
     }
 }
 
-// Answers the datagram of the line of this number, which is within the limits, and runs the handler. Leaves the
-// datagram and the reply's frame in the buffers.
+// Answers the datagram of the line of this number, which is within the limits, and runs the handler. Uses the room and
+// the buffer, which then hold a line and the reply's frame.
 fn answer_line<B: Behaviour, K: Keeper<Global>, W: Write>(
     book: &mut Book<B, K>,
     number: u32,
@@ -147,7 +148,7 @@ fn answer_line<B: Behaviour, K: Keeper<Global>, W: Write>(
         Ok(told) => told,
         Err(error) => return Err(error),
     };
-    match print_answer(answered, out, writer) {
+    match print_answer(answered, out, room, writer) {
         Ok(()) => {}
         Err(_) => return Err(RunError::Write),
     }
@@ -157,32 +158,45 @@ fn answer_line<B: Behaviour, K: Keeper<Global>, W: Write>(
     }
 }
 
-// Writes the line of an answer.
+// Writes the line of an answer. A reply's line stays in the room.
 fn print_answer<W: Write>(
     answered: Answered,
     out: &[u8; BUFFER_LEN],
+    room: &mut [u8; MAX_DATAGRAM_LEN],
     writer: &mut W,
 ) -> io::Result<()>
     requires { IsWithinBuffer answered }
     ensures { OnOk result (Appends (W.contents writer.old) (W.contents writer.new) (line_of answered out.now ++ 10 ∷ [])) }
 {
     match answered {
-        Answered::Reply(len, _) => print_frame(&out[..len], writer),
-        Answered::Silent(note) => writeln!(writer, "none {note}"),
+        Answered::Reply(len, _) => print_frame(&out[..len], room, writer),
+        Answered::Silent(note) => print_silent(note, writer),
         Answered::RefusedFrame(error) => writeln!(writer, "refused {error}"),
     }
 }
 
-// Writes the bytes of a frame as a line of hex digits.
-pub(crate) fn print_frame<W: Write>(frame: &[u8], writer: &mut W) -> io::Result<()>
+// Writes the bytes of a frame as a line of hex digits, in one write. The line stays in the room.
+pub(crate) fn print_frame<W: Write>(
+    frame: &[u8],
+    room: &mut [u8; MAX_DATAGRAM_LEN],
+    writer: &mut W,
+) -> io::Result<()>
     requires { length frame.now ≤ BUFFER_LEN }
     ensures { OnOk result (Appends (W.contents writer.old) (W.contents writer.new) (encode_lower frame.now ++ 10 ∷ [])) }
 {
-    let mut digits = [0; 2 * BUFFER_LEN];
-    let digits = &mut digits[..2 * frame.len()];
-    hex::encode_to_slice(frame, digits).unwrap();
-    writer.write_all(digits)?;
-    writer.write_all(b"\n")
+    let line = &mut room[..2 * frame.len() + 1];
+    put_digits(frame, line);
+    writer.write_all(line)
+}
+
+// Makes a line the hex digits of these bytes and a newline.
+fn put_digits(bytes: &[u8], line: &mut [u8])
+    requires { length line.old ≡ 2 * length bytes.now + 1 }
+    ensures { line.new ≡ encode_lower bytes.now ++ 10 ∷ [] }
+{
+    let (digits, end) = line.split_at_mut(2 * bytes.len());
+    hex::encode_to_slice(bytes, digits).unwrap();
+    end[0] = b'\n';
 }
 
 // Writes the line of an object's words, if there are any to show.

@@ -13,9 +13,13 @@ use std::io::ErrorKind;
 use std::marker::Model;
 use std::os::unix::fs::MetadataExt;
 use std::sync::atomic::{AtomicBool, Ordering};
+use std::time::{Duration, Instant};
 
 // How many puts go after a look without another one.
 const BETWEEN: u32 = 63;
+
+// How long the text isn't written again, in seconds: it costs a wait for the disk.
+const PAUSE: u64 = 1;
 
 /// The name of a store's file. The keeper over the store borrows it, and notes here if the store has lost it.
 #[derive(Drop)]
@@ -178,9 +182,10 @@ impl<'a> NameWatch<'a> {
 /// none, or if the file was cut, and so is every later one. The log is looked at too, if it stands beside the name: if the
 /// name is a link, it doesn't.
 ///
-/// At each look but the first, and at the end, the text beside the store gets lines for the marks that were stored since the
-/// last one. A missing text stays missing. The text gets a client's incarnation at once. It never says more than what is stored, and a
-/// text that can't be written stays as it is.
+/// The text beside the store gets lines for the marks that were stored, at the first commit after each look and at the end. It
+/// gets them at most once a second, and not at the end if a commit of theirs is missing. A missing text stays missing.
+/// It gets a client's incarnation at once. It never says more than what is committed, and one that can't be written stays as it
+/// is. A commit is `Refused` if the name is known to be lost.
 ///
 /// Contracts see the keeper under it.
 #[derive(Drop)]
@@ -193,6 +198,12 @@ pub struct NamedKeeper<'a, K> {
     left: u32,
     // The marks that were stored since the text was written.
     seen: Vec<Newest>,
+    // Whether a put has looked at the name since the text was written.
+    is_due: bool,
+    // When the text was last brought up to date, or that was tried, if the system says it.
+    written: Option<Instant>,
+    // Whether all that was put is committed.
+    is_settled: bool,
 }
 
 impl<'a, K> Model for NamedKeeper<'a, K> {
@@ -213,6 +224,9 @@ impl<'a, K: Drop> NamedKeeper<'a, K> {
             standing: Standing::of(rt, name),
             left: 0,
             seen: Vec::new(rt.alloc()),
+            is_due: false,
+            written: None,
+            is_settled: true,
         }
     }
 
@@ -224,7 +238,7 @@ impl<'a, K: Drop> NamedKeeper<'a, K> {
         let found = look(self.rt, self.name.path.as_str());
         if self.name.is_lost() || !self.standing.is_file(found) {
             self.name.lose();
-        } else {
+        } else if self.is_settled {
             self.write_seen();
         }
         self.keeper
@@ -245,7 +259,7 @@ impl<'a, K: Drop> NamedKeeper<'a, K> {
             self.name.lose();
             return false;
         }
-        self.write_seen();
+        self.is_due = true;
         self.left = BETWEEN;
         true
     }
@@ -254,7 +268,28 @@ impl<'a, K: Drop> NamedKeeper<'a, K> {
     fn note(&mut self, state: &HandlerState)
         ensures { self.new ≡ self.old }
     {
+        self.is_settled = false;
         let _noted = note_marks(&mut self.seen, state);
+    }
+
+    // All that was put is committed. The text is brought up to date if a put has looked at the name since the last time, and
+    // a second has gone by.
+    fn settle(&mut self)
+        ensures { self.new ≡ self.old }
+    {
+        self.is_settled = true;
+        if self.is_due && !self.is_fresh() {
+            self.is_due = false;
+            self.write_seen();
+        }
+    }
+
+    // Whether the text was written in the last second.
+    fn is_fresh(&self) -> bool {
+        match (self.written, Instant::now(self.rt)) {
+            (Some(written), Ok(now)) => now.duration_since(written) < Duration::from_secs(PAUSE),
+            _ => false,
+        }
     }
 
     // Brings the text up to date. Marks that aren't written are kept for the next look.
@@ -265,6 +300,7 @@ impl<'a, K: Drop> NamedKeeper<'a, K> {
         if !self.seen.is_empty() && update_marks(self.rt, text, self.seen.as_slice()) {
             self.seen.clear();
         }
+        self.written = Instant::now(self.rt).ok();
     }
 }
 
@@ -274,6 +310,8 @@ impl<'a, K: Keeper<Global>> Keeper<Global> for NamedKeeper<'a, K> {
     ghost handlers = { λ n. K.handlers n };
 
     ghost incarnations = { λ n. K.incarnations n };
+
+    ghost outlasting = { λ n. K.outlasting n };
 
     ghost is_honest = { λ n. K.is_honest n };
 
@@ -305,6 +343,18 @@ impl<'a, K: Keeper<Global>> Keeper<Global> for NamedKeeper<'a, K> {
             let _written = update_incarnation(self.rt, self.name.text.as_str(), inc);
         }
         next
+    }
+
+    fn commit(&mut self) -> Result<(), KeeperError> {
+        let done = if self.name.is_lost() {
+            Err(KeeperError::Refused)
+        } else {
+            self.keeper.commit()
+        };
+        if done.is_ok() {
+            self.settle();
+        }
+        done
     }
 
     fn note_heard(&mut self, message: &Message, heard: &Heard) -> Result<(), KeeperError> {

@@ -213,6 +213,8 @@ impl<A: Allocator + Copy, K: Keeper<A>, W: Write + Drop> Keeper<A> for Journaled
 
     ghost incarnations = { λ j. K.incarnations j.keeper };
 
+    ghost outlasting = { λ j. K.outlasting j.keeper };
+
     ghost is_honest = { λ j. K.is_honest j.keeper };
 
     // After the line of an event only the state after it may follow. So a refusal for memory, after which a node would go
@@ -267,6 +269,22 @@ impl<A: Allocator + Copy, K: Keeper<A>, W: Write + Drop> Keeper<A> for Journaled
         ensures journal { self.new.journal ≡ self.old.journal }
     {
         self.keeper.next_incarnation(client)
+    }
+
+    // The lines of events stand in the journal by now, so a refusal for memory is `Refused` too.
+    fn commit(&mut self) -> Result<(), KeeperError>
+        ensures outlasts { K.is_honest self.new.keeper → OnOk result (Stays (K.handlers self.new.keeper) (K.outlasting self.new.keeper)) }
+        ensures refused { K.is_honest self.new.keeper → OnErr result (Stays (K.outlasting self.old.keeper) (K.outlasting self.new.keeper)) }
+        ensures handlers { K.is_honest self.new.keeper → Stays (K.handlers self.old.keeper) (K.handlers self.new.keeper) }
+        ensures incarnations { K.is_honest self.new.keeper → IsSame (K.incarnations self.old.keeper) (K.incarnations self.new.keeper) }
+        ensures named { IfErr result (λ e. e ≡ KeeperError.Refused) }
+        ensures honest { K.is_honest self.new.keeper → K.is_honest self.old.keeper }
+        ensures journal { self.new.journal ≡ self.old.journal }
+    {
+        match self.keeper.commit() {
+            Ok(()) => Ok(()),
+            Err(_) => Err(KeeperError::Refused),
+        }
     }
 
     fn note_heard(&mut self, message: &Message, heard: &Heard) -> Result<(), KeeperError>

@@ -63,6 +63,8 @@ impl<A: Allocator, K: Keeper<A>> Keeper<A> for FailingKeeper<K> {
 
     ghost incarnations = { λ f. K.incarnations f.keeper };
 
+    ghost outlasting = { λ f. K.outlasting f.keeper };
+
     ghost is_honest = { λ f. K.is_honest f.keeper };
 
     fn put_handler(&mut self, state: &HandlerState<A>) -> Result<(), KeeperError>
@@ -113,5 +115,21 @@ impl<A: Allocator, K: Keeper<A>> Keeper<A> for FailingKeeper<K> {
             return Err(KeeperError::Refused);
         }
         self.keeper.next_incarnation(client)
+    }
+
+    fn commit(&mut self) -> Result<(), KeeperError>
+        ensures passes { self.old.left ≢ 0 → self.old.left ≡ self.new.left + 1 }
+        ensures refuses { self.old.left ≡ 0 → (result ≡ Err KeeperError.Refused) × (self.new ≡ self.old) }
+        ensures outlasts { K.is_honest self.new.keeper → OnOk result (Stays (K.handlers self.new.keeper) (K.outlasting self.new.keeper)) }
+        ensures refused { K.is_honest self.new.keeper → OnErr result (Stays (K.outlasting self.old.keeper) (K.outlasting self.new.keeper)) }
+        ensures handlers { K.is_honest self.new.keeper → Stays (K.handlers self.old.keeper) (K.handlers self.new.keeper) }
+        ensures incarnations { K.is_honest self.new.keeper → IsSame (K.incarnations self.old.keeper) (K.incarnations self.new.keeper) }
+        ensures named { IfErr result IsPutError }
+        ensures honest { K.is_honest self.new.keeper → K.is_honest self.old.keeper }
+    {
+        if !self.passes() {
+            return Err(KeeperError::Refused);
+        }
+        self.keeper.commit()
     }
 }

@@ -66,6 +66,9 @@ pub trait Keeper<A: Allocator>: Drop {
     // The stored incarnation of each client, by its number.
     ghost incarnations: { Self → ℕ → Option ℕ };
 
+    // Of these, what a restart finds: the stored states after the last commit, or later ones.
+    ghost outlasting: { Self → ℕ → Stored → Type 0 };
+
     // Nobody else has written the medium, and it reads back what was written.
     ghost is_honest: { Self → Type 0 };
 
@@ -113,6 +116,18 @@ pub trait Keeper<A: Allocator>: Drop {
         ensures handlers { is_honest self.new → Stays (handlers self.old) (handlers self.new) }
         ensures honest { is_honest self.new → is_honest self.old }
         ensures gives { next_gives self.old client result self.new };
+
+    /// Makes the stored states outlast this process: all that were stored since the last commit, or none of them. A keeper
+    /// whose every call does so has nothing to do here.
+    ///
+    /// Refused with nothing changed: `OutOfMemory`, `Refused`.
+    fn commit(&mut self) -> Result<(), KeeperError>
+        ensures outlasts { is_honest self.new → OnOk result (Stays (handlers self.new) (outlasting self.new)) }
+        ensures refused { is_honest self.new → OnErr result (Stays (outlasting self.old) (outlasting self.new)) }
+        ensures handlers { is_honest self.new → Stays (handlers self.old) (handlers self.new) }
+        ensures incarnations { is_honest self.new → IsSame (incarnations self.old) (incarnations self.new) }
+        ensures named { IfErr result IsPutError }
+        ensures honest { is_honest self.new → is_honest self.old };
 
     /// Told that a handler heard this message, with this effect, before its new state is stored. A keeper that also writes a
     /// journal writes the event here, so that it stands there before the state is stored and the reply is sent. Other

@@ -84,6 +84,8 @@ impl<A: Allocator + Copy> Keeper<A> for MemoryKeeper<A> {
 
     ghost incarnations = { incarnation_at };
 
+    ghost outlasting = { Has };
+
     ghost is_honest = { λ _. Unit {0} };
 
     // This keeper refuses only when it is out of memory, and an incarnation exactly when the last one is stored. Stated
@@ -135,5 +137,12 @@ impl<A: Allocator + Copy> Keeper<A> for MemoryKeeper<A> {
             Ok(_) => Ok(next),
             Err(_) => Err(KeeperError::OutOfMemory),
         }
+    }
+
+    fn commit(&mut self) -> Result<(), KeeperError>
+        ensures ok { OnOk result (self.new ≡ self.old) }
+        ensures never { OnErr result ⊥ }
+    {
+        Ok(())
     }
 }

@@ -8,3 +8,4 @@ pub mod ScriptEnd
 pub mod Udp
 pub mod Pace
 pub mod Paced
+pub mod Holding

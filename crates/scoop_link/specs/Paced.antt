@@ -1,6 +1,5 @@
 -- A rate-limited link.
-use Rattle.std.specs.Prelude.{ℕ}
-use Rattle.scoop_link.specs.Pace.{PaceValue, fresh_pace}
+use Rattle.scoop_link.specs.Pace.{PaceValue}
 
 -- the inner link, and the retransmission limit
 pub record PacedValue (L : Type 0) : Type 0 where

@@ -1,7 +1,8 @@
 //! Links: ways to send and receive datagrams, none of which is sure to arrive.
 //!
 //! [`Link`] is the contract of every link. [`UdpLink`] carries datagrams over UDP, and [`PacedLink`] holds
-//! repeated ones back while an earlier one may be on its way. The others are for tests. The two ends of a
+//! repeated ones back while an earlier one may be on its way. A [`HoldingLink`] sends nothing before it is flushed. The
+//! others are for tests. The two ends of a
 //! [`ScriptLink`] share lanes that drop and double by a script, and a [`TapeLink`] plays datagrams to its user and
 //! records those sent. No send and no receive takes memory.
 //!
@@ -25,6 +26,7 @@
 #![tactic(auto)]
 
 mod datagram;
+mod holding_link;
 mod lane;
 mod link;
 mod pace;
@@ -36,6 +38,7 @@ mod tape_link;
 mod udp_link;
 
 pub use datagram::Datagram;
+pub use holding_link::{HoldingLink, MAX_HELD};
 pub use lane::Lane;
 pub use link::{Link, LinkFault};
 pub use paced_link::{PacedLink, REPEATS};

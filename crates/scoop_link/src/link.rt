@@ -38,6 +38,22 @@ pub trait Link: Drop {
         ensures faults { CountsFault result (fault_count self.old) (fault_count self.new) }
         ensures told { Exchanges (told self.old) (told self.new) (taken_by result buffer.new) [] };
 
+    /// Says whether the receives from now on wait for a datagram. One that doesn't wait returns `None` if none is there.
+    /// A link that can't do so goes on as before.
+    fn set_waits(&mut self, _waits: bool)
+        ensures faults { fault_count self.new ≡ fault_count self.old }
+        ensures told { Exchanges (told self.old) (told self.new) [] [] }
+    {}
+
+    /// Sends what the link holds back. A link that holds nothing back does nothing. A node's link around another one passes the
+    /// call on; a client's holds nothing back. Returns `LinkFault` exactly if the count of faults rises.
+    fn flush(&mut self) -> Result<(), LinkFault>
+        ensures faults { CountsFault result (fault_count self.old) (fault_count self.new) }
+        ensures told { Exchanges (told self.old) (told self.new) [] [] }
+    {
+        Ok(())
+    }
+
     /// The number of sends and receives that failed. The count stops at 2^64-1: from then on a send that would
     /// fail returns `Ok` and its datagram is lost, and a receive that would fail returns `None`.
     fn faults(&self) -> u64

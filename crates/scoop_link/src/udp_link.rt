@@ -217,6 +217,12 @@ impl<A: Allocator> Link for UdpLink<A> {
         }
     }
 
+    fn set_waits(&mut self, waits: bool)
+        ensures same { self.new ≡ self.old }
+    {
+        let _waits_as_before = self.socket.set_nonblocking(!waits);
+    }
+
     fn faults(&self) -> u64 {
         self.faults
     }

@@ -1,12 +1,12 @@
 //! A link that tolerates faults.
 
-ghost use Rattle.std.specs.Prelude.{◌≡◌, ◌≤◌, ◌+◌, ◌++◌, ◌∷◌, [], None, IfOk, IfSome, OnErr, OnOk};
+ghost use Rattle.std.specs.Prelude.{◌≡◌, ◌≤◌, ◌<◌, ◌+◌, ◌++◌, ◌∷◌, [], None, IfOk, IfSome, OnErr, OnOk};
 ghost use Rattle.std.specs.Io.KnownBytes.{Appends};
 ghost use Rattle.scoop_link.specs.Link.{CountsFault, Exchanges, taken_by};
 ghost use Rattle.scoop_links.specs.Forwarding.{Forwards};
 ghost use Rattle.scoop_links.specs.Texts.{fault_text};
 
-use scoop_link::{Link, LinkFault, Party};
+use scoop_link::{Link, LinkFault, MAX_HELD, Party};
 use scoop_message::limits::BUFFER_LEN;
 use std::io;
 use std::io::Write;
@@ -141,6 +141,22 @@ impl<L: Link, E: Write + Drop> Link for PatientLink<L, E> {
                 Ok(None)
             }
         }
+    }
+
+    fn flush(&mut self) -> Result<(), LinkFault>
+        ensures faults { CountsFault result self.old.faults self.new.faults }
+
+        ensures flushed { Exchanges (L.told self.old.inner) (L.told self.new.inner) [] [] }
+        ensures failed { OnErr result (L.fault_count self.old.inner < L.fault_count self.new.inner) }
+    {
+        // a datagram that can't be sent holds no other one back
+        for _ in 0..MAX_HELD {
+            match self.inner.flush() {
+                Ok(()) => return Ok(()),
+                Err(_) => self.fail()?,
+            }
+        }
+        Ok(())
     }
 
     fn faults(&self) -> u64 {

@@ -43,6 +43,10 @@ serves_nothing c n p a = unchanged c n p [] a a nothing (exchanges_nothing a) (o
 pub serves_idle : (c : Bool) (p : PassValue) (a b : Option Told) → Exchanges a b [] [] → ServesPass c 1 p p a b
 serves_idle c p a b exchanges = unchanged c 1 p [] a b nothing exchanges (omega arith)
 
+-- a turn without a datagram, which settled what came before
+pub serves_settled : (c : Bool) (p : PassValue) (a b d : Option Told) → Exchanges a b [] [] → Exchanges b d [] [] → ServesPass c 1 p p a d
+serves_settled c p a b d idle settled = serves_idle c p a d (exchanges-append a b d [] [] [] [] idle settled)
+
 -- a turn whose datagram was passed over
 pub serves_passed : (c : Bool) (p : PassValue) (d : List ℕ) (a b : Option Told) → Exchanges a b (d ∷ []) [] → ServesPass c 1 p p a b
 serves_passed c p d a b exchanges = unchanged c 1 p (d ∷ []) a b (passes_over d [] [] [] nothing) exchanges (omega arith)

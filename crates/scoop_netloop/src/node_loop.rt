@@ -6,7 +6,7 @@ ghost use Rattle.scoop_netloop.specs.Serving.{ServesPass, ServesFirst};
 
 use crate::executor::{Gate, execute};
 use crate::receiver::receive_all;
-use crate::stop::{ExecutorEnd, ServeEnd, Stop};
+use crate::stop::{ExecutorEnd, ServeEnd, Stop, end_after_commit};
 use crossbeam_channel::{Receiver, Sender};
 use scoop_book::{Node, Pass};
 use scoop_keeper::Keeper;
@@ -122,6 +122,22 @@ fn lowest(first: ServeEnd, others: &[ExecutorEnd]) -> ServeEnd
     other.unwrap_or(ExecutorEnd::Stopped).serve_end()
 }
 
+// The end of a loop whose threads have ended, once what they left is committed. A refusal is reported if the loop was asked to
+// stop.
+fn end_settled<B, K, A, R>(rt: &R, node: &Node<B, K, A>, end: ServeEnd) -> ServeEnd
+where
+    B: Behaviour,
+    K: Keeper<A>,
+    A: Allocator + Copy,
+    R: Wait,
+    ensures { Reports end result }
+{
+    match (end, node.commit(rt)) {
+        (ServeEnd::Stopped, Err(error)) => end_after_commit(error),
+        _ => end,
+    }
+}
+
 // Receives in this thread, and runs handlers in a thread for each executor.
 fn serve_beside<B, K, A, L, G, R>(
     rt: &R,
@@ -166,6 +182,10 @@ where
 /// A datagram that is no frame, or whose handler isn't here, is passed over. After Greeted, Took or Known the
 /// handler's number goes to the executors, and one of them runs the handler until nothing can run. It locks the
 /// node to begin an entry and to finish it, and asks the gate and works in between.
+///
+/// A receive that gives nothing settles what came before: the node commits, and then the link flushes. So over a keeper that
+/// gathers states and a link that holds replies back, no reply is sent before all that it tells of is stored. The node commits
+/// once more when all threads have ended.
 ///
 /// Returns the reason why it ended, with all passes: the end of the lowest pass that ended otherwise than
 /// `Stopped`, else `Stopped`. An executor that fails asks the stop. Once the receiver ends, the executors run the
@@ -217,5 +237,6 @@ where
         turns,
     );
     let end = lowest(end, ends.as_slice());
+    let end = end_settled(rt, node, end);
     (end, passes)
 }

@@ -1,15 +1,17 @@
 //! The thread that hears messages over the link.
 
-ghost use Rattle.std.specs.Prelude.{[], IfSome};
+ghost use Rattle.std.specs.Prelude.{◌≡◌, ◌⊎◌, [], None, IfSome};
 ghost use Rattle.scoop_message.specs.Message.{Fits, client_of};
 ghost use Rattle.scoop_frame.specs.Version.{Carries};
 ghost use Rattle.scoop_frame.specs.Frame.{frame};
 ghost use Rattle.scoop_link.specs.Link.{CountsFault, Exchanges, sent_by};
+ghost use Rattle.scoop_book.specs.Closing.{IsCommitted};
+ghost use Rattle.scoop_netloop.specs.declared.stop.ServeEnd.{ServeEnd};
 ghost use Rattle.scoop_netloop.specs.Ends.{CountsEnd, CountsTurn, IsExecutorEnd, is_complete, is_over};
 ghost use Rattle.scoop_netloop.specs.Serving.{ServesPass};
 
 use crate::answer::runs_after;
-use crate::stop::{ServeEnd, Stop, end_after};
+use crate::stop::{ServeEnd, Stop, end_after, end_after_commit};
 use crossbeam_channel::{SendError, Sender};
 use scoop_book::{BookError, Node, Pass};
 use scoop_frame::{Version, decode, encode};
@@ -57,7 +59,28 @@ fn send_reply<L: Link>(link: &mut L, version: Version, reply: &Message) -> Resul
     link.send(Party::Client(reply.client()), &answer[..len])
 }
 
-// Receives once, and answers the datagram that came. Returns the loop's end, if it comes here.
+// Commits what was heard and what has run, and then sends the replies that the link held back.
+fn settle<B: Behaviour, K: Keeper<A>, A: Allocator + Copy, L: Link, R: Wait>(
+    rt: &R,
+    node: &Node<B, K, A>,
+    link: &mut L,
+) -> Option<ServeEnd>
+    ensures committed { result ≡ None → IsCommitted K.handlers K.outlasting K.is_honest }
+    // Nothing is sent if the commit is refused.
+    ensures unsent { IfSome result (λ e. (e ≡ ServeEnd.LinkFault) ⊎ (link.new ≡ link.old)) }
+    ensures told { Exchanges (L.told link.old) (L.told link.new) [] [] }
+    ensures faults { CountsTurn result (L.fault_count link.old) (L.fault_count link.new) }
+{
+    if let Err(error) = node.commit(rt) {
+        return Some(end_after_commit(error));
+    }
+    match link.flush() {
+        Ok(()) => None,
+        Err(_) => Some(ServeEnd::LinkFault),
+    }
+}
+
+// Receives once, and answers the datagram that came. If none came, it settles what came before. Returns the loop's end, if it comes here.
 fn turn<B: Behaviour, K: Keeper<A>, A: Allocator + Copy, L: Link, R: Wait>(
     rt: &R,
     node: &Node<B, K, A>,
@@ -71,7 +94,7 @@ fn turn<B: Behaviour, K: Keeper<A>, A: Allocator + Copy, L: Link, R: Wait>(
     let mut buffer = [0; BUFFER_LEN];
     let len = match link.receive(&mut buffer) {
         Ok(Some(len)) => len,
-        Ok(None) => return None,
+        Ok(None) => return settle(rt, node, link),
         Err(_) => return Some(ServeEnd::LinkFault),
     };
     let Ok((version, message)) = decode(&buffer[..len]) else {
@@ -95,7 +118,7 @@ fn turn<B: Behaviour, K: Keeper<A>, A: Allocator + Copy, L: Link, R: Wait>(
     }
 }
 
-// Hears messages, turn by turn.
+// Hears messages, turn by turn, and settles the last ones too.
 pub(crate) fn receive_all<B: Behaviour, K: Keeper<A>, A: Allocator + Copy, L: Link, R: Wait>(
     rt: &R,
     node: &Node<B, K, A>,
@@ -116,5 +139,5 @@ pub(crate) fn receive_all<B: Behaviour, K: Keeper<A>, A: Allocator + Copy, L: Li
             return end;
         }
     }
-    ServeEnd::TurnsOver
+    settle(rt, node, link).unwrap_or(ServeEnd::TurnsOver)
 }

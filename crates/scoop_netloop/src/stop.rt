@@ -18,7 +18,7 @@ pub enum ServeEnd {
     /// A send or a receive failed.
     #[error("LinkFault")]
     LinkFault,
-    /// The keeper refused a state, now or before.
+    /// The keeper refused a state or a commit, now or before.
     #[error("NodeFailed")]
     NodeFailed,
     /// The node's history has as many entries as it may have.
@@ -111,6 +111,19 @@ pub(crate) fn end_after(error: BookError) -> Option<NodeEnd> {
         BookError::HistoryFull => Some(NodeEnd::HistoryFull),
         BookError::UnknownHandler => None,
         BookError::OutOfMemory => Some(NodeEnd::OutOfMemory),
+    }
+}
+
+// The end after a commit that the node refused, which it refuses for its keeper or for memory.
+pub(crate) fn end_after_commit(error: BookError) -> ServeEnd
+    ensures { IsExecutorEnd result }
+{
+    match error {
+        BookError::OutOfMemory => ServeEnd::OutOfMemory,
+        BookError::NodeFailed
+        | BookError::HistoryFull
+        | BookError::UnknownHandler
+        | BookError::StoreRefused => ServeEnd::NodeFailed,
     }
 }
 

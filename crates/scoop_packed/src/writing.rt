@@ -18,9 +18,10 @@ pub fn put<A: Allocator + Copy>(out: &mut Vec<u32, A>, words: &[u32])
     ensures words { out.new.items ≡ out.old.items ++ words.now }
     ensures room { vec_capacity out.old + vec_len out.new ≤ vec_capacity out.new + vec_len out.old + length words.now }
 {
-    let Ok(()) = out.extend_from_slice(words) else {
-        unreachable!()
-    };
+    // One by one, which is faster for a few.
+    for word in words {
+        out.push_reserved(*word);
+    }
 }
 
 fn put_long<A: Allocator + Copy>(out: &mut Vec<u32, A>, number: u64)

@@ -1,5 +1,5 @@
 -- Private queues that differ in one alone, and the result of copying that one.
-use Rattle.std.proofs.Common.{◌≡◌, ◌<◌, ℕ, zero, suc, List, [], ◌∷◌, length, slice_get, Some, refl, ap, ◌∙◌, arith}
+use Rattle.std.proofs.Common.{◌≡◌, ◌<◌, ℕ, zero, suc, List, [], ◌∷◌, length, slice_get, take, Some, refl, ap, ◌∙◌, arith}
 use Rattle.std.proofs.lemmas.Option.{same_Some}
 use Rattle.std.specs.Map.{values_of}
 use Rattle.indexmap.specs.IndexMap.{set_value_at}
@@ -33,6 +33,21 @@ agree-but (suc i) (x ∷ xs) (y ∷ ys) as_many within block each =
       agree-but i xs ys (omega (arith, as_many)) (omega (arith, within)) block
           (λ j lt other. each (suc j) (omega (arith, lt)) (λ e. other (omega (arith, e)))),
     )
+
+-- lists that are the same before a place and after it are the same at each other place
+pub same-but : (i : ℕ) (xs ys : List PrivateQueue) → take i xs ≡ take i ys → ((j : ℕ) → i < j → j < length xs → slice_get xs j ≡ slice_get ys j)
+    → (j : ℕ) → j < length xs → (j ≡ i → ⊥) → slice_get xs j ≡ slice_get ys j
+same-but zero xs ys before after zero within other = absurd (other refl)
+same-but zero xs ys before after (suc j) within other = after (suc j) (omega arith) within
+same-but (suc i) [] ys before after j within other = absurd (omega (arith, within))
+same-but (suc i) (x ∷ xs) [] before after j within other = cc
+same-but (suc i) (x ∷ xs) (y ∷ ys) before after zero within other =
+    let first : x ≡ y = cc in
+    ap Some first
+same-but (suc i) (x ∷ xs) (y ∷ ys) before after (suc j) within other =
+    let rest : take i xs ≡ take i ys = cc in
+    same-but i xs ys rest (λ k behind inside. after (suc k) (omega (arith, behind)) (omega (arith, inside))) j (omega (arith, within))
+    (λ e. other (omega (arith, e)))
 
 module _ {A : Type 0} where
   -- the copy of what differs makes them the same

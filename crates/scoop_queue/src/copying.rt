@@ -1,6 +1,6 @@
 //! Private queues that replace others in the same room.
 
-ghost use Rattle.std.specs.Prelude.{◌≡◌, ◌<◌, ℕ, None, IsTrue, IfSome, OnOk, OnErr, length, slice_get};
+ghost use Rattle.std.specs.Prelude.{◌≡◌, ◌<◌, ℕ, None, IsTrue, IfSome, OnOk, OnErr, length, slice_get, take};
 ghost use Rattle.scoop_queue.specs.Kept.{queues_kept};
 ghost use Rattle.scoop_queue.specs.Copying.{AgreeBut};
 ghost use Rattle.scoop_queue.specs.Queue.{PrivateQueue};
@@ -30,13 +30,15 @@ pub(crate) fn copy_from<A: Allocator + Copy>(
     Ok(())
 }
 
-// The first place at which two tables keep different private queues, or one keeps none.
+// A place before which two tables keep the same private queues, `None` if they keep the same everywhere. If they keep as
+// many, it is the first place where they differ.
 fn first_change<A: Allocator>(left: &Table<A>, right: &Table<A>) -> Option<usize>
-    ensures { result ≡ None → queues_kept left.now.entries ≡ queues_kept right.now.entries }
+    ensures none { result ≡ None → queues_kept left.now.entries ≡ queues_kept right.now.entries }
+    ensures before { IfSome result (λ i. take i (queues_kept left.now.entries) ≡ take i (queues_kept right.now.entries)) }
 {
     let count = len(left);
     if count != len(right) {
-        return Some(count);
+        return Some(0);
     }
     for i in 0..count {
         if !same_at(left, right, i) {
@@ -46,8 +48,10 @@ fn first_change<A: Allocator>(left: &Table<A>, right: &Table<A>) -> Option<usize
     None
 }
 
-// Whether two tables keep as many private queues: of one block at this place, and the same at each other place.
+// Whether two tables keep as many private queues: of one block at this place, and the same at each other place. Before it
+// they keep the same.
 fn is_only_change<A: Allocator>(left: &Table<A>, right: &Table<A>, place: usize) -> bool
+    requires { take place (queues_kept left.now.entries) ≡ take place (queues_kept right.now.entries) }
     ensures { IsTrue result → AgreeBut place (queues_kept left.now.entries) (queues_kept right.now.entries) }
 {
     if len(left) != len(right) {
@@ -56,7 +60,7 @@ fn is_only_change<A: Allocator>(left: &Table<A>, right: &Table<A>, place: usize)
     if !same_block_at(left, right, place) {
         return false;
     }
-    same_elsewhere(left, right, place)
+    same_after(left, right, place)
 }
 
 // Whether two tables keep a private queue of one block at this place.
@@ -71,13 +75,15 @@ fn same_block_at<A: Allocator>(left: &Table<A>, right: &Table<A>, place: usize) 
     }
 }
 
-// Whether two tables keep the same at each place of the first one except this.
-fn same_elsewhere<A: Allocator>(left: &Table<A>, right: &Table<A>, place: usize) -> bool
-    ensures { (j : ℕ) → IsTrue result → j < length (queues_kept left.now.entries) → (j ≡ place → ⊥)
+// Whether two tables keep the same at each place of the first one after this.
+fn same_after<A: Allocator>(left: &Table<A>, right: &Table<A>, place: usize) -> bool
+    requires { place < length (queues_kept left.now.entries) }
+    ensures { (j : ℕ) → IsTrue result → place < j → j < length (queues_kept left.now.entries)
         → slice_get (queues_kept left.now.entries) j ≡ slice_get (queues_kept right.now.entries) j }
 {
-    for i in 0..len(left) {
-        if i != place && !same_at(left, right, i) {
+    let count = len(left);
+    for i in place + 1..count {
+        if !same_at(left, right, i) {
             return false;
         }
     }

@@ -6,6 +6,8 @@ pub mod Front
 pub mod Queues
 pub mod WithEntries
 pub mod Stored
+pub mod Gathered
+pub mod GatheringLemmas
 pub mod MapLemmas
 pub mod MigrateLemmas
 pub mod NumberLemmas

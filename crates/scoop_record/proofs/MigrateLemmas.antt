@@ -19,15 +19,15 @@ use Rattle.scoop_record.specs.Image.{image, pending_row}
 use Rattle.scoop_record.specs.Reading.{IsStored, IsStoredWithEntries}
 use Rattle.scoop_keeper.specs.Keeper.{Stored, Missing, Holds, Damaged, IsTheOne}
 use Rattle.scoop_record.specs.Tables.{first_schema, record_schema, value_at, Puts, Makes}
-use Rattle.scoop_record.specs.Store.{handlers_in, Saves}
-use Rattle.scoop_record.specs.Migrate.{FirstHas, first_handlers_in, SavesAll, IsFirstRow, IsRising, keyed_value, IsNumber, AreHandlers, IsCarried, Migrates}
+use Rattle.scoop_record.specs.Store.{handlers_in, Saves, SavesAll}
+use Rattle.scoop_record.specs.Migrate.{FirstHas, first_handlers_in, IsFirstRow, IsRising, keyed_value, IsNumber, AreHandlers, IsCarried, Migrates}
 use Rattle.scoop_record.proofs.RowLemmas.{find_own}
 use Rattle.scoop_record.proofs.TableLemmas.{int_key}
 use Rattle.scoop_record.proofs.MapLemmas.{saved, stays}
 use Rattle.scoop_record.proofs.StoredLemmas.{same_id, missing_there}
 
 -- a state has its own rows
-own_rows : (s : HandlerState) → IsState s → InRange s → IsStored s.number (image s) (pending_row s) s
+pub own_rows : (s : HandlerState) → IsState s → InRange s → IsStored s.number (image s) (pending_row s) s
 own_rows s state range = record { state = state; range = range; number = refl; image = refl; pending = refl }
 
 -- a handler that is not among the states keeps what it has

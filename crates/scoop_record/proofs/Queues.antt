@@ -2,25 +2,21 @@
 -- has its count of entries, and an entry shows where it ends. So, by induction, both are those of one list of queues alone
 -- (`queues_apart`). For the loop that reads them: if a queue can't be read or appended, none begins the bytes. One that was
 -- read carries the loop's invariant on (`grown-`). After the last one the bytes are all read.
-use Rattle.std.proofs.Common.{◌≡◌, ℕ, ◌+◌, ◌<◌, ◌≤◌, Bool, true, false, not, ◌&&◌, ◌||◌, nat_le, nat_lt, IsTrue, List, [], ◌∷◌, ◌++◌, length, take, drop}
-use Rattle.std.proofs.Common.{Option, None, Some, unwrap_or, refl, sym, ap, subst, ◌∙◌, append_assoc, arith}
+use Rattle.std.proofs.Common.{◌≡◌, ℕ, ◌+◌, ◌<◌, ◌≤◌, List, [], ◌∷◌, ◌++◌, length, take, drop}
+use Rattle.std.proofs.Common.{None, Some, refl, sym, ap, subst, ◌∙◌, append_assoc, arith}
 use Rattle.std.proofs.Math.Path.{subst₂}
 use Rattle.std.specs.List.{flat_map, AllByRecursion}
-use Rattle.std.proofs.lemmas.Bool.{leb-false, leb-true, ltb-false}
 use Rattle.std.proofs.lemmas.List.{append-nil, drop-drop, length-append}
 use Rattle.std.proofs.lemmas.List.Concat.{flat_map-append}
-use Rattle.scoop_message.specs.declared.limits.TheConstants.{MAX_QUEUES, MAX_PENDING}
+use Rattle.scoop_message.specs.declared.limits.TheConstants.{MAX_PENDING}
 use Rattle.scoop_message.specs.declared.request.Entry.{Entry}
-use Rattle.scoop_message.specs.Entries.{end_only_last, ends}
 use Rattle.scoop_message.specs.Range.{IsEntry}
 use Rattle.scoop_frame.specs.Body.{entry_bytes}
 use Rattle.scoop_frame.proofs.Entries.{entry_first}
 use Rattle.scoop_queue.specs.declared.error.AppendError.{AppendError}
-use Rattle.scoop_queue.specs.declared.error.AppendError.TheVariants as of_append
 use Rattle.scoop_queue.specs.declared.state.Head.{Head}
-use Rattle.scoop_queue.specs.Queue.{PrivateQueue, has_queue, head_of, is_cut, is_ended, next_number, queue_with}
+use Rattle.scoop_queue.specs.Queue.{PrivateQueue, head_of, queue_with}
 use Rattle.scoop_queue.specs.Refusal.{AppendRefused, MayAppend}
-use Rattle.scoop_queue.specs.Sound.{IsQueue, IsQueues, number_limit}
 use Rattle.scoop_queue.proofs.Keeping.{each-inside, may-append, memory-alone}
 use Rattle.scoop_record.specs.declared.images.error.ReadError.TheVariants.{BadImage}
 use Rattle.scoop_record.specs.Faults.{fault_of_append}

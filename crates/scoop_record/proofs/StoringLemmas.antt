@@ -1,11 +1,10 @@
 -- States that are stored one after the other, in one transaction.
-use Rattle.std.proofs.Common.{List, [], ◌∷◌, ◌++◌, refl, ◌∙◌, inl, arith}
-use Rattle.sqlite.specs.State.{State, HasCleanDisk, KeepsCommit, Survives}
+use Rattle.std.proofs.Common.{List, [], ◌∷◌, ◌++◌, refl, ◌∙◌, inl, arith, true, IsTrue}
+use Rattle.sqlite.specs.State.{State, HasCleanDisk, KeepsCommit, Shows, Survives}
 use Rattle.sqlite.proofs.StateLemmas.{survives_then}
 use Rattle.scoop_handler.specs.State.{HandlerState, IsState}
 use Rattle.scoop_record.specs.Range.{InRange}
-use Rattle.scoop_record.specs.Store.{IsSound, IsRecord, Saves}
-use Rattle.scoop_record.specs.Migrate.{SavesAll}
+use Rattle.scoop_record.specs.Store.{IsSound, IsRecord, IsInsideAfter, Saves, SavesAll}
 use Rattle.scoop_record.proofs.MigrateLemmas.{saves_push, schema_stays}
 use Rattle.scoop_record.proofs.StatementLemmas.{clean_before, keeps_then}
 
@@ -14,6 +13,7 @@ pub record HasStored (old new : State) (all : List HandlerState) : Type 0 where
   pub kept : HasCleanDisk new → KeepsCommit old new
   pub survives : Survives old new (λ _. ⊥)
   pub saved : IsSound new → SavesAll old.now new.now all
+  pub inside : HasCleanDisk new → IsInsideAfter all new
 
 pub none_stored : (s : State) → HasStored s s []
 none_stored s = record {
@@ -28,6 +28,7 @@ none_stored s = record {
         λ clean db may. inl may;
   };
   saved = λ sound. refl;
+  inside = λ clean. tt;
 }
 
 sound_before : (old new : State) → (HasCleanDisk new → KeepsCommit old new) → Survives old new (λ _. ⊥) → IsSound new → IsSound old
@@ -35,6 +36,10 @@ sound_before old new kept survives sound = (clean_before old new _ survives soun
 
 pub still_record : (old new : State) (all : List HandlerState) → HasStored old new all → (IsSound old → IsRecord old.now) → IsSound new → IsRecord new.now
 still_record old new all h was sound = schema_stays old.now new.now all (h.saved sound) ∙ was (sound_before old new h.kept h.survives sound)
+
+inside_after : (s : State) (all : List HandlerState) (it : HandlerState) → IsTrue s.is_open × IsTrue s.in_transaction → IsInsideAfter (all ++ it ∷ []) s
+inside_after s [] it h = h
+inside_after s (x ∷ all) it h = h
 
 -- a call after them that commits nothing
 module _ (old mid new : State) (all : List HandlerState) (h : HasStored old mid all) (kept : HasCleanDisk new → KeepsCommit mid new)
@@ -45,11 +50,14 @@ module _ (old mid new : State) (all : List HandlerState) (h : HasStored old mid 
   pub then_survives : Survives old new (λ _. ⊥)
   then_survives = survives_then old mid new _ _ _ (λ clean db none. absurd none) (λ clean db none. absurd none) h.survives survives
 
-  pub stored_more : (it : HandlerState) → (HasCleanDisk new → IsState it × InRange it × Saves mid.now new.now it) → HasStored old new (all ++ it ∷ [])
+  pub stored_more : (it : HandlerState)
+      → (HasCleanDisk new → IsState it × InRange it × Saves mid.now new.now it × Shows mid new new.now mid.committed true)
+      → HasStored old new (all ++ it ∷ [])
   stored_more it put = record {
     kept = then_kept;
     survives = then_survives;
     saved = λ sound.
         let own = put sound.0 in
         saves_push old.now mid.now new.now all it (h.saved (sound_before mid new kept survives sound)) own.0 own.1 own.2;
+    inside = λ clean. let shown = (put clean).3 in inside_after new all it (shown.is_open, shown.mode);
   }

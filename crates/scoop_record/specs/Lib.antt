@@ -7,3 +7,4 @@ pub mod Faults
 pub mod Tables
 pub mod Store
 pub mod Migrate
+pub mod Gathering

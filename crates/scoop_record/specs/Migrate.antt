@@ -7,12 +7,10 @@ use Rattle.sqlite_value.specs.Order.{Row, column}
 use Rattle.sqlite_trees.specs.Tree.{Trees, IsAscending, rowid}
 use Rattle.sqlite.specs.Effect.{Database, IsDatabase}
 use Rattle.scoop_handler.specs.State.{HandlerState}
-use Rattle.scoop_handler.specs.State.{IsState}
-use Rattle.scoop_record.specs.Range.{InRange}
 use Rattle.scoop_record.specs.Reading.{IsStoredWithEntries}
 use Rattle.scoop_keeper.specs.Keeper.{Stored, Missing, Holds, Damaged, stored_of, IsTheOne}
 use Rattle.scoop_record.specs.Tables.{first_schema, record_schema, value_at}
-use Rattle.scoop_record.specs.Store.{handlers_in, version_in, Saves}
+use Rattle.scoop_record.specs.Store.{handlers_in, version_in}
 
 -- in the handler's row stands the image of the state, with its entries
 pub record IsFirstRowOf (handler : ℕ) (value : Option Value) (s : HandlerState) : Type 0 where
@@ -34,11 +32,6 @@ FirstHas handler value Damaged = IsNoFirstRow handler value
 -- the contents of a record of version 1 for a handler
 abbrev pub first_handlers_in : Trees → ℕ → Stored → Type 0
 first_handlers_in trees handler = FirstHas handler (value_at (trees 1) handler)
-
--- the database with these states, one after the other
-abbrev pub SavesAll : Database → Database → List HandlerState → Type 0
-SavesAll old new [] = new ≡ old
-SavesAll old new (s ∷ more) = IsState s × InRange s × (mid : Database) × Saves old mid s × SavesAll mid new more
 
 -- a key and an image of version 1, which is that of the state and of no other
 pub record IsFirstRow (row : Row) (s : HandlerState) : Type 0 where

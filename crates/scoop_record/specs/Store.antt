@@ -1,5 +1,5 @@
 -- The contents of a record over a database.
-use Rattle.std.specs.Prelude.{◌≡◌, ◌≢◌, ◌⊎◌, ℕ, ℤ, min, pos, negsuc, false, List, [], ◌∷◌, Option, Some, None, option_map, Result, OnOk, IsTrue}
+use Rattle.std.specs.Prelude.{◌≡◌, ◌≢◌, ◌⊎◌, ℕ, ℤ, min, pos, negsuc, false, List, [], ◌∷◌, Option, Some, None, option_map, Result, OnOk, IsTrue, ⊤}
 use Rattle.sqlite_value.specs.declared.value.Value.{Value}
 use Rattle.sqlite_value.specs.declared.value.Value.TheVariants.{Null, Int, Real, Text, Blob}
 use Rattle.sqlite_trees.specs.Tree.{Trees}
@@ -7,7 +7,8 @@ use Rattle.sqlite.specs.Effect.{Database, IsDatabase}
 use Rattle.sqlite.specs.Store.{Ghosts}
 use Rattle.sqlite.specs.Held.{Held, state}
 use Rattle.sqlite.specs.State.{State, HasCleanDisk}
-use Rattle.scoop_handler.specs.State.{HandlerState}
+use Rattle.scoop_handler.specs.State.{HandlerState, IsState}
+use Rattle.scoop_record.specs.Range.{InRange}
 use Rattle.scoop_record.specs.Image.{image, pending_row}
 use Rattle.scoop_record.specs.Reading.{IsStored}
 use Rattle.scoop_keeper.specs.Keeper.{Stored, Missing, Holds, Damaged, last_incarnation, next_of}
@@ -82,6 +83,11 @@ IsSound s = HasCleanDisk s × IsTrue s.is_open
 abbrev pub IsOpenOnOk : {V E : Type 0} → Result V E → (moment after : State) → Type 0
 IsOpenOnOk result moment after = HasCleanDisk after → OnOk result (IsTrue moment.is_open)
 
+-- if there were any states to store, the connection is open, in a transaction
+abbrev pub IsInsideAfter : List HandlerState → State → Type 0
+IsInsideAfter [] s = ⊤
+IsInsideAfter (it ∷ more) s = IsTrue s.is_open × IsTrue s.in_transaction
+
 -- between calls all is committed
 abbrev pub IsReady : State → Type 0
 IsReady s = IsSound s → IsRecord s.now × (s.now ≡ s.committed)
@@ -97,6 +103,11 @@ PutsBoth old new handler bytes row = (mid : Database) × Puts old mid 1 handler 
 -- the database with the state
 abbrev pub Saves : Database → Database → HandlerState → Type 0
 Saves old new s = PutsBoth old new s.number.0 (image s) (pending_row s)
+
+-- the database with these states, one after the other
+abbrev pub SavesAll : Database → Database → List HandlerState → Type 0
+SavesAll old new [] = new ≡ old
+SavesAll old new (s ∷ more) = IsState s × InRange s × (mid : Database) × Saves old mid s × SavesAll mid new more
 
 -- what a record over a database holds between calls
 abbrev pub IsIdle : {S : Type 0} → Ghosts S → Held S → Type 0

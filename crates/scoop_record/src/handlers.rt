@@ -1,6 +1,6 @@
 //! The rows of the handlers.
 
-ghost use Rattle.std.specs.Prelude.{◌≡◌, ◌≤◌, length, [], ◌∷◌, map, IfSome, IfOk, IfErr, OnOk, OnErr, false, true, Option, option_map, ◌⊎◌};
+ghost use Rattle.std.specs.Prelude.{◌≡◌, ◌≢◌, ◌≤◌, length, [], ◌∷◌, map, IfSome, IfOk, IfErr, IsTrue, OnOk, OnErr, false, true, Option, Some, option_map, ◌⊎◌};
 ghost use Rattle.std.specs.Option.{option_to_list};
 ghost use Rattle.sqlite.specs.Effect.{Database};
 ghost use Rattle.sqlite.specs.Held.{state};
@@ -8,7 +8,9 @@ ghost use Rattle.sqlite.specs.State.{HasCleanDisk, IsUnchanged, KeepsCommit, Sho
 ghost use Rattle.sqlite.specs.declared.types.Value.{Value as SqlValue};
 ghost use Rattle.sqlite.specs.declared.types.Value.TheVariants.{Blob};
 ghost use Rattle.scoop_record.specs.Tables.{value_at, Puts};
-ghost use Rattle.scoop_record.specs.Store.{IsRecord, IsSound, IsReady, IsOpenOnOk, Has, handlers_in, PutsBoth};
+ghost use Rattle.scoop_record.specs.Store.{IsRecord, IsSound, IsReady, IsOpenOnOk, IsInsideAfter, Has, handlers_in, PutsBoth, Saves, SavesAll};
+ghost use Rattle.scoop_handler.specs.State.{IsState};
+ghost use Rattle.scoop_record.specs.Range.{InRange};
 ghost use Rattle.scoop_keeper.specs.Keeper.{IsPutError, IsTheOne, stored_of, Damaged};
 ghost use Rattle.scoop_record.specs.Reading.{IsStored};
 
@@ -18,6 +20,7 @@ use scoop_handler::HandlerState;
 use scoop_keeper::KeeperError;
 use scoop_message::{HandlerId, OutOfMemory};
 use sqlite::{Alter, Connection, Error, Row, Transaction, params};
+use sqlite_value::value::ValueRef;
 use std::alloc::Global;
 
 /// The rows with the handler's image: none or one.
@@ -88,6 +91,30 @@ fn put_entries<S: Alter>(
     )
 }
 
+/// Whether the handler's row of pending entries has these bytes. Most messages leave the entries as they are.
+fn has_entries<S: Alter>(
+    tx: &mut Transaction<'_, S>,
+    handler: u32,
+    entries: &[u8],
+) -> Result<bool, Error>
+    requires { IsSound (state S.Store tx.old.conn.now) → IsRecord (state S.Store tx.old.conn.now).now }
+    ensures same_reference { tx.new.conn.ghost_name ≡ tx.old.conn.ghost_name }
+    ensures same { HasCleanDisk (state S.Store tx.new.conn.now) → OnOk result (IsUnchanged (state S.Store tx.old.conn.now) (state S.Store tx.new.conn.now)) }
+    ensures has { HasCleanDisk (state S.Store tx.new.conn.now)
+        → IfOk result (λ has. IsTrue has → value_at ((state S.Store tx.old.conn.now).now.trees 3) handler ≡ Some (Blob entries.now)) }
+    ensures kept { HasCleanDisk (state S.Store tx.new.conn.now) → KeepsCommit (state S.Store tx.old.conn.now) (state S.Store tx.new.conn.now) }
+    ensures survives { Survives (state S.Store tx.old.conn.now) (state S.Store tx.new.conn.now) (λ _. ⊥) }
+{
+    let rows = rows_of_pending(tx, handler)?;
+    let [row] = rows.as_slice() else {
+        return Ok(false);
+    };
+    match row.get_ref(0) {
+        Ok(ValueRef::Blob(bytes)) => Ok(bytes == entries),
+        _ => Ok(false),
+    }
+}
+
 /// The bytes in the row, if there is one.
 fn bytes_of(rows: &[Row]) -> Result<Option<Vec<u8>>, KeeperError>
     ensures bytes { (stored : Option SqlValue) → (length rows.now ≤ 1 → rows.now ≡ map (λ v. v ∷ []) (option_to_list stored))
@@ -132,8 +159,9 @@ fn state_of(
     }
 }
 
-/// Stores the image and the entries, in the transaction.
-pub(crate) fn put_both<S: Alter>(
+/// Stores the image and the entries, in the transaction. Entries that stand there already aren't written again: a row that is
+/// written costs a page of the log.
+fn put_both<S: Alter>(
     tx: &mut Transaction<'_, S>,
     handler: u32,
     image: &[u8],
@@ -151,6 +179,11 @@ pub(crate) fn put_both<S: Alter>(
 {
     if let Err(error) = put_image(tx, handler, image) {
         return Err(refusal(error));
+    }
+    match has_entries(tx, handler, entries) {
+        Ok(true) => return Ok(()),
+        Ok(false) => {}
+        Err(error) => return Err(refusal(error)),
     }
     match put_entries(tx, handler, entries) {
         Ok(_) => Ok(()),
@@ -180,6 +213,34 @@ pub(crate) fn write_state<S: Alter>(
 {
     let mut tx = conn.transaction();
     put_both(&mut tx, handler, image, entries)?;
+    match tx.commit() {
+        Ok(()) => Ok(()),
+        Err(error) => Err(refusal(error)),
+    }
+}
+
+/// Stores and commits the states in one transaction, all or none.
+pub(crate) fn write_states<S: Alter>(
+    alloc: Global,
+    conn: &mut Connection<S>,
+    all: &[HandlerState],
+) -> Result<(), KeeperError>
+    requires some { all.now ≢ [] }
+    requires mode { conn.old.in_transaction ≡ false }
+    requires ready { IsReady (state S.Store conn.old) }
+    ensures mode { conn.new.in_transaction ≡ false }
+    ensures ready { IsReady (state S.Store conn.new) }
+    ensures sound { IsSound (state S.Store conn.new) → IsSound (state S.Store conn.old) }
+    ensures is_open { IsOpenOnOk result (state S.Store conn.new) (state S.Store conn.new) }
+    ensures written { IsSound (state S.Store conn.new)
+        → OnOk result (SavesAll (state S.Store conn.old).now (state S.Store conn.new).now all.now) }
+    ensures refused { IsSound (state S.Store conn.new) → OnErr result ((state S.Store conn.new).now ≡ (state S.Store conn.old).now) }
+    ensures named { IfErr result IsPutError }
+    ensures survives { Survives (state S.Store conn.old) (state S.Store conn.new) (λ trees. (db : Database)
+        × SavesAll (state S.Store conn.old).now db all.now × (trees ≡ db.trees)) }
+{
+    let mut tx = conn.transaction();
+    put_states(alloc, &mut tx, all)?;
     match tx.commit() {
         Ok(()) => Ok(()),
         Err(error) => Err(refusal(error)),
@@ -251,4 +312,48 @@ pub(crate) fn images_of(alloc: Global, it: &HandlerState) -> Result<(Vec<u8>, Ve
     let bytes = image(alloc, it)?;
     let row = pending_row(alloc, it)?;
     Ok((bytes, row))
+}
+
+/// Stores the state, in the transaction.
+fn put_state<S: Alter>(
+    alloc: Global,
+    tx: &mut Transaction<'_, S>,
+    it: &HandlerState,
+) -> Result<(), KeeperError>
+    requires { IsSound (state S.Store tx.old.conn.now) → IsRecord (state S.Store tx.old.conn.now).now }
+    ensures same_reference { tx.new.conn.ghost_name ≡ tx.old.conn.ghost_name }
+    ensures put { HasCleanDisk (state S.Store tx.new.conn.now)
+        → OnOk result (IsState it.now × InRange it.now × Saves (state S.Store tx.old.conn.now).now (state S.Store tx.new.conn.now).now it.now
+        × Shows (state S.Store tx.old.conn.now) (state S.Store tx.new.conn.now) (state S.Store tx.new.conn.now).now
+        (state S.Store tx.old.conn.now).committed true) }
+    ensures kept { HasCleanDisk (state S.Store tx.new.conn.now) → KeepsCommit (state S.Store tx.old.conn.now) (state S.Store tx.new.conn.now) }
+    ensures named { IfErr result IsPutError }
+    ensures survives { Survives (state S.Store tx.old.conn.now) (state S.Store tx.new.conn.now) (λ _. ⊥) }
+{
+    let Ok((bytes, row)) = images_of(alloc, it) else {
+        return Err(KeeperError::OutOfMemory);
+    };
+    put_both(tx, it.handler().0, bytes.as_slice(), row.as_slice())
+}
+
+/// Stores the states in turn, in the transaction.
+pub(crate) fn put_states<S: Alter>(
+    alloc: Global,
+    tx: &mut Transaction<'_, S>,
+    all: &[HandlerState],
+) -> Result<(), KeeperError>
+    requires { IsSound (state S.Store tx.old.conn.now) → IsRecord (state S.Store tx.old.conn.now).now }
+    ensures same_reference { tx.new.conn.ghost_name ≡ tx.old.conn.ghost_name }
+    ensures put { IsSound (state S.Store tx.new.conn.now)
+        → OnOk result (SavesAll (state S.Store tx.old.conn.now).now (state S.Store tx.new.conn.now).now all.now) }
+    ensures layout { IsSound (state S.Store tx.new.conn.now) → OnOk result (IsRecord (state S.Store tx.new.conn.now).now) }
+    ensures inside { HasCleanDisk (state S.Store tx.new.conn.now) → OnOk result (IsInsideAfter all.now (state S.Store tx.new.conn.now)) }
+    ensures kept { HasCleanDisk (state S.Store tx.new.conn.now) → KeepsCommit (state S.Store tx.old.conn.now) (state S.Store tx.new.conn.now) }
+    ensures named { IfErr result IsPutError }
+    ensures survives { Survives (state S.Store tx.old.conn.now) (state S.Store tx.new.conn.now) (λ _. ⊥) }
+{
+    for it in all {
+        put_state(alloc, tx, it)?;
+    }
+    Ok(())
 }

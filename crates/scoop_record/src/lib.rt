@@ -20,6 +20,7 @@
 mod adopt;
 mod clients;
 mod create;
+mod gathering;
 mod handlers;
 mod images;
 mod migrate;
@@ -31,6 +32,7 @@ mod version;
 
 pub use adopt::adopt_tables;
 pub use create::create_tables;
+pub use gathering::GatheringStore;
 pub use images::{ReadError, image, pending_row, read_image, read_image_with_entries};
 pub use scoop_keeper::{
     FailingKeeper, JobRefusal, Keeper, KeeperError, MemoryKeeper, Unfinished, finish_and_store,

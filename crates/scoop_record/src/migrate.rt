@@ -7,16 +7,14 @@ ghost use Rattle.sqlite.specs.Held.{state};
 ghost use Rattle.sqlite.specs.State.{HasCleanDisk, IsUnchanged, KeepsCommit, Shows, Survives};
 ghost use Rattle.sqlite.specs.declared.types.Value.TheVariants.{Int};
 ghost use Rattle.sqlite_value.specs.Order.{column};
-ghost use Rattle.scoop_handler.specs.State.{IsState};
-ghost use Rattle.scoop_record.specs.Range.{InRange};
-ghost use Rattle.scoop_record.specs.Store.{IsSound, IsOpenOnOk, IsRecord, IsOfVersionOne, Saves};
+ghost use Rattle.scoop_record.specs.Store.{IsSound, IsOpenOnOk, IsRecord, IsOfVersionOne};
 ghost use Rattle.scoop_record.specs.Tables.{value_at, Puts};
 ghost use Rattle.scoop_keeper.specs.Keeper.{IsPutError, IsAdoptError};
-ghost use Rattle.scoop_record.specs.Migrate.{keyed_value, SavesAll, Migrates, IsFirstRow, IsRising, IsNumber, AreNumbers, AreNumbered, IsBadRow, IsFirstBad};
+ghost use Rattle.scoop_record.specs.Migrate.{keyed_value, Migrates, IsFirstRow, IsRising, IsNumber, AreNumbers, AreNumbered, IsBadRow, IsFirstBad};
 ghost use Rattle.scoop_record.specs.Migrate.{IsLowestBad, HasOtherNumber};
 
 use crate::create::create_pending;
-use crate::handlers::{images_of, put_both};
+use crate::handlers::put_states;
 use crate::images::{ReadError, read_image_with_entries};
 use crate::refusal::refusal;
 use scoop_handler::HandlerState;
@@ -55,48 +53,6 @@ fn raise_version<S: Alter>(tx: &mut Transaction<'_, S>, version: u32) -> Result<
         "UPDATE meta SET version = ?1 WHERE id = 1",
         params![version],
     )
-}
-
-/// Stores the state in both tables.
-fn put_state<S: Alter>(
-    alloc: Global,
-    tx: &mut Transaction<'_, S>,
-    it: &HandlerState,
-) -> Result<(), KeeperError>
-    requires { IsSound (state S.Store tx.old.conn.now) → IsRecord (state S.Store tx.old.conn.now).now }
-    ensures same_reference { tx.new.conn.ghost_name ≡ tx.old.conn.ghost_name }
-    ensures put { HasCleanDisk (state S.Store tx.new.conn.now)
-        → OnOk result (IsState it.now × InRange it.now × Saves (state S.Store tx.old.conn.now).now (state S.Store tx.new.conn.now).now it.now
-        × Shows (state S.Store tx.old.conn.now) (state S.Store tx.new.conn.now) (state S.Store tx.new.conn.now).now
-        (state S.Store tx.old.conn.now).committed true) }
-    ensures kept { HasCleanDisk (state S.Store tx.new.conn.now) → KeepsCommit (state S.Store tx.old.conn.now) (state S.Store tx.new.conn.now) }
-    ensures named { IfErr result IsPutError }
-    ensures survives { Survives (state S.Store tx.old.conn.now) (state S.Store tx.new.conn.now) (λ _. ⊥) }
-{
-    let Ok((bytes, row)) = images_of(alloc, it) else {
-        return Err(KeeperError::OutOfMemory);
-    };
-    put_both(tx, it.handler().0, bytes.as_slice(), row.as_slice())
-}
-
-/// Stores the states in turn.
-fn put_states<S: Alter>(
-    alloc: Global,
-    tx: &mut Transaction<'_, S>,
-    all: &[HandlerState],
-) -> Result<(), KeeperError>
-    requires { IsSound (state S.Store tx.old.conn.now) → IsRecord (state S.Store tx.old.conn.now).now }
-    ensures same_reference { tx.new.conn.ghost_name ≡ tx.old.conn.ghost_name }
-    ensures put { IsSound (state S.Store tx.new.conn.now)
-        → OnOk result (SavesAll (state S.Store tx.old.conn.now).now (state S.Store tx.new.conn.now).now all.now) }
-    ensures kept { HasCleanDisk (state S.Store tx.new.conn.now) → KeepsCommit (state S.Store tx.old.conn.now) (state S.Store tx.new.conn.now) }
-    ensures named { IfErr result IsPutError }
-    ensures survives { Survives (state S.Store tx.old.conn.now) (state S.Store tx.new.conn.now) (λ _. ⊥) }
-{
-    for it in all {
-        put_state(alloc, tx, it)?;
-    }
-    Ok(())
 }
 
 /// The tables of version 1 become those of version 2, in the transaction.

@@ -1,6 +1,6 @@
 //! A keeper over the tables of a database.
 
-ghost use Rattle.std.specs.Prelude.{◌≡◌, ◌≢◌, ◌⊎◌, IsTrue, IfOk, IfErr, IfSome, OnOk, OnErr, Some};
+ghost use Rattle.std.specs.Prelude.{◌≡◌, ◌≢◌, ◌⊎◌, [], IsTrue, IfOk, IfErr, IfSome, OnOk, OnErr, Some};
 ghost use Rattle.scoop_record.specs.Tables.{no_schema};
 
 use crate::adopt::adopt_tables;
@@ -38,9 +38,10 @@ impl<S: Alter + Drop> Store<S> {
     ghost use Rattle.sqlite.specs.Effect.{Database};
     ghost use Rattle.sqlite.specs.Held.{Held, state};
     ghost use Rattle.sqlite.specs.State.{HasCleanDisk, Survives};
-    ghost use Rattle.scoop_keeper.specs.Keeper.{IsPutError, IsAdoptError};
+    ghost use Rattle.scoop_keeper.specs.Keeper.{IsPutError, IsAdoptError, IsSame, Stays};
+    ghost use Rattle.scoop_record.specs.Gathering.{Over};
     ghost use Rattle.scoop_record.specs.Migrate.{Migrates, Adopts, IsLowestBad, IsWrongSchema};
-    ghost use Rattle.scoop_record.specs.Store.{IsSound, IsOpenOnOk, IsOfVersionOne, IsLaidOut, IsNewRecord};
+    ghost use Rattle.scoop_record.specs.Store.{IsSound, IsOpenOnOk, IsOfVersionOne, IsLaidOut, IsNewRecord, SavesAll, handlers_in, incs_in};
 
     /// Makes the tables in a database that has none, in one transaction.
     ///
@@ -95,6 +96,28 @@ impl<S: Alter + Drop> Store<S> {
         Ok(Store { conn, alloc })
     }
 
+    /// Stores the states in turn, in one transaction: all of them, or none. Without states there is no transaction.
+    ///
+    /// Refused with nothing changed: `OutOfMemory`, `Refused`.
+    pub fn put_all(&mut self, states: &[HandlerState]) -> Result<(), KeeperError>
+        ensures is_open { states.now ≢ [] → IsOpenOnOk result (state S.Store self.new) (state S.Store self.new) }
+        ensures stored { IsSound (state S.Store self.new) → OnOk result
+            (Stays (Over states.now (handlers_in (state S.Store self.old).now.trees)) (handlers_in (state S.Store self.new).now.trees)) }
+        ensures incarnations { IsSound (state S.Store self.new)
+            → IsSame (incs_in (state S.Store self.old).now.trees) (incs_in (state S.Store self.new).now.trees) }
+        ensures refused { IsSound (state S.Store self.new) → OnErr result ((state S.Store self.new).now ≡ (state S.Store self.old).now) }
+        ensures named { IfErr result IsPutError }
+        ensures honest { IsSound (state S.Store self.new) → IsSound (state S.Store self.old) }
+        // A crash leaves what it could leave before the call, or all of the states.
+        ensures survives { Survives (state S.Store self.old) (state S.Store self.new) (λ trees. (db : Database)
+            × SavesAll (state S.Store self.old).now db states.now × (trees ≡ db.trees)) }
+    {
+        if states.is_empty() {
+            return Ok(());
+        }
+        handlers::write_states(self.alloc, &mut self.conn, states)
+    }
+
     /// The connection under the store.
     pub fn into_connection(self) -> Connection<S>
         ensures { result ≡ self }
@@ -113,6 +136,9 @@ impl<S: Alter + Drop> Keeper<Global> for Store<S> {
     ghost handlers = { λ s. handlers_in (seen S.Store s).now.trees };
 
     ghost incarnations = { λ s. incs_in (seen S.Store s).now.trees };
+
+    // Each call is a transaction of its own, so all that is stored is committed.
+    ghost outlasting = { λ s. handlers_in (seen S.Store s).now.trees };
 
     ghost is_honest = { λ s. IsSound (seen S.Store s) };
 
@@ -187,5 +213,12 @@ impl<S: Alter + Drop> Keeper<Global> for Store<S> {
             × Advances (seen S.Store self.old).now db client.0 × (trees ≡ db.trees)) }
     {
         clients::advance(&mut self.conn, client.0)
+    }
+
+    fn commit(&mut self) -> Result<(), KeeperError>
+        ensures ok { OnOk result (self.new ≡ self.old) }
+        ensures never { OnErr result ⊥ }
+    {
+        Ok(())
     }
 }

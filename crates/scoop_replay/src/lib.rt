@@ -12,5 +12,4 @@ mod node;
 
 pub use client::ClientReplay;
 pub use error::ReplayError;
-pub use local::Last;
 pub use node::{NodeReplay, Placed};

@@ -158,38 +158,6 @@ impl Local {
         let state = self.handler.copy()?;
         is_stored_as(alloc, &state, image, pending)
     }
-
-    /// Whether the store has the state before this last event, and not the one after it: a killed node may have written
-    /// the event and not stored it.
-    pub(crate) fn is_unstored(
-        &self,
-        alloc: Global,
-        last: &Last,
-        image: &[u8],
-        pending: &[u8],
-    ) -> Result<bool, OutOfMemory> {
-        if !self.is_stored_as(alloc, image, pending)? {
-            return Ok(false);
-        }
-        let mut later = self.restarted(alloc)?;
-        match last {
-            Last::Hear(message) => {
-                later.hear(message)?;
-            }
-            Last::Finish => {
-                later.begin();
-                later.finish();
-            }
-        }
-        Ok(!later.is_stored_as(alloc, image, pending)?)
-    }
-}
-
-/// The last event of a life, which stores a state.
-#[derive(Clone, Copy)]
-pub enum Last {
-    Hear(Message),
-    Finish,
 }
 
 /// The handler of this number, if the node has it.

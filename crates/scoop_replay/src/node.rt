@@ -19,7 +19,7 @@ ghost use Rattle.scoop_replay.specs.Refusals.{HasNothingOut, IsNodeRefusal, Repl
 
 use crate::error::ReplayError;
 use crate::handlers::{begin, finish, hear_so};
-use crate::local::{Last, Local, place_of};
+use crate::local::{Local, place_of};
 use scoop_handler::{Note, Ran};
 use scoop_message::{HandlerId, Message, OutOfMemory, Words};
 use scoop_object::Class;
@@ -162,6 +162,18 @@ impl NodeReplay {
         Ok(())
     }
 
+    /// Another replay, with the handlers as the node opens again, and with no moves. `OutOfMemory` is the one refusal.
+    pub fn opened_again(&self, alloc: Global) -> Result<NodeReplay, OutOfMemory>
+        ensures { (words : Name → List ℕ) → IfOk result (λ n. n ≡ node_value self.now.number (map (reopened words) self.now.handlers) []) }
+    {
+        let locals = reopen_all(alloc, &self.locals)?;
+        Ok(NodeReplay {
+            number: self.number,
+            locals,
+            trail: Trail::new(alloc),
+        })
+    }
+
     /// The node's number.
     pub fn number(&self) -> u32
         ensures { result ≡ self.now.number }
@@ -211,21 +223,6 @@ impl NodeReplay {
             self.locals[place].is_stored_as(alloc, image, pending)
         } else {
             Ok(false)
-        }
-    }
-
-    /// Whether a store that has these two blobs of the handler has its state before this event, and not the one after it.
-    pub fn is_unstored(
-        &self,
-        alloc: Global,
-        handler: HandlerId,
-        last: &Last,
-        image: &[u8],
-        pending: &[u8],
-    ) -> Result<bool, OutOfMemory> {
-        match place_of(&self.locals, handler) {
-            Some(place) => self.locals[place].is_unstored(alloc, last, image, pending),
-            None => Ok(false),
         }
     }
 

@@ -65,6 +65,10 @@ impl<L: Link> Link for EndingLink<'_, L> {
         self.inner.receive(buffer)
     }
 
+    fn flush(&mut self) -> Result<(), LinkFault> {
+        self.inner.flush()
+    }
+
     fn faults(&self) -> u64 {
         self.inner.faults()
     }

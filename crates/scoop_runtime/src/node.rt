@@ -20,8 +20,16 @@ use std::sync::Wait;
 use std::thread::Threads;
 use std::time::Clock;
 
-// Serves the node until its history is full, its turns are over, it is asked to end or it fails, and closes it. Returns why it ended, and
-// the keeper.
+// The end of a loop whose last changes can't be committed: no node goes on over a keeper that lacks them.
+fn uncommitted(end: ServeEnd) -> ServeEnd {
+    match end {
+        ServeEnd::HistoryFull | ServeEnd::TurnsOver | ServeEnd::Stopped => ServeEnd::NodeFailed,
+        end => end,
+    }
+}
+
+// Serves the node until its history is full, its turns are over, it is asked to end or it fails, commits what is left, and closes it.
+// Returns why it ended, and the keeper.
 fn serve_once<O, K, L, R>(
     rt: &R,
     alloc: Global,
@@ -43,6 +51,11 @@ where
     let stop = Stop::new();
     let mut link = EndingLink::new(link, ending, &stop);
     let (end, passes) = serve(rt, alloc, &node, &mut link, passes, &OpenGate, &stop, turns);
+    let end = if node.commit(rt).is_ok() {
+        end
+    } else {
+        uncommitted(end)
+    };
     match node.close_standing(rt, passes) {
         Ok((keeper, stood)) => Ok((end, Resting { keeper, stood })),
         Err(error) => Err(RuntimeError::from(PartyError::from(error.cause))),

@@ -56,6 +56,17 @@ pub(crate) fn require_handlers<O: Objects, K: Keeper<Global>>(
     }
 }
 
+// Makes the stored states outlast this process, so that a node that is killed before its first message finds them again.
+fn commit<K: Keeper<Global>>(keeper: &mut K) -> Result<(), RuntimeError>
+    ensures handlers { K.is_honest keeper.new → Stays (K.handlers keeper.old) (K.handlers keeper.new) }
+    ensures honest { K.is_honest keeper.new → K.is_honest keeper.old }
+{
+    match keeper.commit() {
+        Ok(()) => Ok(()),
+        Err(refusal) => Err(RuntimeError::from(refusal)),
+    }
+}
+
 // Stores the state of a new handler.
 fn put_opening<B: Behaviour, K: Keeper<Global>>(
     alloc: Global,
@@ -71,7 +82,7 @@ fn put_opening<B: Behaviour, K: Keeper<Global>>(
         Err(_) => return Err(RuntimeError::from(PartyError::WrongClass(number))),
     };
     match keeper.put_handler(&state) {
-        Ok(()) => Ok(()),
+        Ok(()) => commit(keeper),
         Err(refusal) => Err(RuntimeError::from(refusal)),
     }
 }

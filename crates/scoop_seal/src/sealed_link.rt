@@ -154,6 +154,18 @@ impl<L: Link> Link for SealedLink<L> {
         Ok(None)
     }
 
+    fn flush(&mut self) -> Result<(), LinkFault>
+        ensures faults { CountsFault result (fault_sum self.old.faults (L.fault_count self.old.inner))
+            (fault_sum self.new.faults (L.fault_count self.new.inner)) }
+
+        ensures flushed { Exchanges (L.told self.old.inner) (L.told self.new.inner) [] [] }
+        ensures others { self.new ≡ record self.old { inner = self.new.inner } }
+    {
+        let full = self.count() == u64::MAX;
+        let flushed = self.inner.flush();
+        if full { Ok(()) } else { flushed }
+    }
+
     fn faults(&self) -> u64 {
         self.count()
     }

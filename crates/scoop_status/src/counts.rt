@@ -23,14 +23,14 @@ pub const COUNTS: [&str; 12] = [
 pub(crate) const MEANINGS: [&str; 12] = [
     "Datagrams that came and that the seal didn't refuse.",
     "Datagrams that were sent.",
-    "Datagrams that are no frame or go to a handler that isn't here.",
+    "Datagrams that no handler heard: no frames, of handlers that aren't here, over a budget, or repeats with a remembered reply.",
     "Sends and receives that failed.",
     "Datagrams that weren't sealed with the key.",
     "Messages of clients that the system's file doesn't name.",
     "Private queues that a newer incarnation of their client cut.",
     "Entries that have run.",
     "States that were stored.",
-    "States that the store refused.",
+    "States and commits that the store refused.",
     "Reopenings of the node at a full history.",
     "States that aren't shown, since memory was refused.",
 ];

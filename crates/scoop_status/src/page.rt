@@ -91,7 +91,7 @@ fn print_alerts<W: Write>(view: &NodeView<'_>, writer: &mut W) -> io::Result<()>
     print_stranger(view, writer)?;
     print_alert(
         tally.refused_puts,
-        "Store: the node has failed. Mend the disk and start it again. Refused states:",
+        "Store: the node has failed. Mend the disk and start it again. Refused states and commits:",
         writer,
     )?;
     print_alert(

@@ -123,7 +123,7 @@ fn health_status(view: &NodeView<'_>) -> StatusCode {
 // Whether the node serves, as a line.
 fn health_text(view: &NodeView<'_>) -> &'static str {
     if view.counts.tally.refused_puts > 0 {
-        "the store refused a state\n"
+        "the store refused a state or a commit\n"
     } else if view.open {
         "ok\n"
     } else {

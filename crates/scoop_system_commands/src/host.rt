@@ -1,14 +1,15 @@
 //! A node that runs in a thread of this process.
 
 use crate::ending::{Party, node_end, report_end};
+use crate::hearing::run_hearing;
 use crate::watching::clients_of;
-use scoop_admission::{AdmittingLink, NoReport};
+use scoop_admission::NoReport;
 use scoop_files::{NamedKeeper, StoreName};
 use scoop_keeper::Keeper;
 use scoop_link::UdpLink;
-use scoop_message::OutOfMemory;
+use scoop_message::{ClientId, OutOfMemory};
 use scoop_report::Status;
-use scoop_runtime::{Ending, NodePlan, RuntimeError, Serving, node_run_until, open_node_link};
+use scoop_runtime::{Ending, NodePlan, RuntimeError, Serving, open_node_link};
 use scoop_system::{NodePlace, System};
 use std::alloc::Global;
 use std::io::{BufWriter, Write};
@@ -34,7 +35,8 @@ pub(crate) fn report_node<'a>(
     report_end(rt, &party, node_end(name, error))
 }
 
-type HostLink = AdmittingLink<UdpLink, NoReport>;
+// The link of a node, and the clients that it hears.
+type HostLink = (UdpLink, Vec<ClientId>);
 
 /// A node with its link and its keeper. Its thread has both while the node runs. It hears only the clients of the system's
 /// file.
@@ -68,7 +70,7 @@ impl<K: Keeper<Global> + Send> Host<K> {
             plan,
             address: place.address,
             serving,
-            link: Some(AdmittingLink::new(link, clients, NoReport)),
+            link: Some((link, clients)),
             keeper: Some(keeper),
             name,
             error: None,
@@ -127,13 +129,16 @@ impl<K: Keeper<Global> + Send> Host<K> {
         let notes = rt.stderr();
         let mut output = BufWriter::new(rt.alloc(), notes).map_err(|_| OutOfMemory)?;
         let (plan, serving) = (&self.plan, &self.serving);
-        node_run_until(
+        let (link, clients) = link;
+        run_hearing(
             threads,
             rt.alloc(),
             plan,
             serving,
             keeper,
             link,
+            clients,
+            NoReport,
             notes,
             &mut output,
             ending,

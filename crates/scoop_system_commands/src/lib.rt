@@ -11,6 +11,7 @@ mod checking;
 mod ending;
 mod folder;
 mod going_on;
+mod hearing;
 mod host;
 mod joining;
 mod journaling;

@@ -14,9 +14,9 @@ use scoop_files::{FiledStore, NamedKeeper, StoreName, close_named};
 use scoop_journal::Owner;
 use scoop_journal_keeper::{JournaledKeeper, Storage};
 use scoop_keeper::{Keeper, MemoryKeeper};
-use scoop_link::Link;
+use scoop_link::{HoldingLink, Link};
 use scoop_message::OutOfMemory;
-use scoop_record::Store;
+use scoop_record::{GatheringStore, Store};
 use scoop_report::{Hints, Status, hint, report};
 use scoop_runtime::{
     FileFault, NodePlan, Objects, OutOfRange, RuntimeError, Serving, Tables, open_node_link,
@@ -204,7 +204,8 @@ fn serve_journaled<'a, T: Threads + Wait + Clock + Net + Sync, O: Objects + Sync
     with_journal(journal, ended)
 }
 
-// Serves the node at its place. Its ports come first, and then its store.
+// Serves the node at its place. Its ports come first, and then its store. Over a store it replies to many messages at once, after
+// one commit.
 fn serve_at<T: Threads + Wait + Clock + Net + Sync, O: Objects + Sync>(
     rt: &HostRuntime,
     threads: &T,
@@ -215,6 +216,8 @@ fn serve_at<T: Threads + Wait + Clock + Net + Sync, O: Objects + Sync>(
     let shown = served.shown;
     let link = open_node_link(threads, rt.alloc(), shown.about.system, &shown.about.place)?;
     let mut server = open_server(rt, shown.status)?;
+    let is_stored = !matches!(store, StoreChoice::None);
+    let link = HoldingLink::new(rt.alloc(), link, is_stored);
     match key {
         Some(key) => {
             let link = SealedLink::new(link, key);
@@ -295,9 +298,9 @@ where
 {
     let about = &served.shown.about;
     go_on(rt, choice, about.system, about.place.number, &mut store)?;
-    let keeper = NamedKeeper::new(rt, store, name);
+    let keeper = NamedKeeper::new(rt, GatheringStore::new(rt.alloc(), store), name);
     match serve_with(rt, threads, served, server, keeper, Storage::File, link) {
-        Ok(keeper) => Ok(keeper.into_inner()),
+        Ok(keeper) => Ok(keeper.into_inner().into_inner()),
         Err(error) => Err(node_end(Some(name), error)),
     }
 }

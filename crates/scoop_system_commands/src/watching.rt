@@ -1,8 +1,8 @@
 //! A node that runs beside the thread that shows it.
 
 use crate::ending::End;
+use crate::hearing::run_hearing;
 use mio::net::TcpListener;
-use scoop_admission::{AdmittingLink, Strangers};
 use scoop_command_line::{LogChoice, NodeOptions};
 use scoop_errors::PartyError;
 use scoop_journal::JournalFile;
@@ -11,7 +11,7 @@ use scoop_link::Link;
 use scoop_message::{ClientId, OutOfMemory};
 use scoop_pacing::{SlowNotes, SystemTimes};
 use scoop_report::report;
-use scoop_runtime::{NodePlan, Objects, RuntimeError, Serving, node_run};
+use scoop_runtime::{Ending, NodePlan, Objects, RuntimeError, Serving};
 use scoop_status::{About, Log};
 use scoop_status_server::{Server, show};
 use scoop_system::System;
@@ -160,7 +160,8 @@ where
         let mut output = WatchedOutput::new(output, threads, watch);
         let notes = SlowNotes::new(notes, SystemTimes::new(threads));
         let strangers = WatchedStrangers::new(threads, watch);
-        match run_admitting(
+        let ending = Ending::new();
+        match run_hearing(
             threads,
             alloc,
             plan,
@@ -171,37 +172,12 @@ where
             strangers,
             notes,
             &mut output,
+            &ending,
         ) {
             Ok(keeper) => Ok(keeper.into_inner()),
             Err(error) => Err(error),
         }
     }
-}
-
-// Runs a node that hears these clients alone.
-fn run_admitting<K, L, S, E, W, T, O>(
-    threads: &T,
-    alloc: Global,
-    plan: &NodePlan<O>,
-    serving: &Serving,
-    keeper: K,
-    link: L,
-    clients: Vec<ClientId>,
-    strangers: S,
-    notes: E,
-    output: &mut W,
-) -> Result<K, RuntimeError>
-where
-    K: Keeper<Global> + Send,
-    L: Link,
-    S: Strangers,
-    E: Write + Drop,
-    W: Write,
-    T: Threads + Wait + Clock + Sync,
-    O: Objects + Sync,
-{
-    let link = AdmittingLink::new(link, clients, strangers);
-    node_run(threads, alloc, plan, serving, keeper, link, notes, output)
 }
 
 /// What one thread does while nodes run in others. Its type stays a parameter where a thread starts: the prover looks into at most

@@ -136,6 +136,12 @@ impl Board {
             }
         }
     }
+
+    /// Counts a commit that the store refused.
+    pub(crate) fn refuse_commit(&mut self, error: KeeperError, log: LogLevel) {
+        count(&mut self.tally.refused_puts);
+        self.tell(Event::CommitRefused(error), log);
+    }
 }
 
 // The client's block whose private queue takes more entries.

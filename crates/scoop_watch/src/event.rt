@@ -61,6 +61,8 @@ pub enum Event {
     Cut(Block, HandlerId),
     /// The store refused the handler's state.
     StoreRefused(HandlerId, KeeperError),
+    /// The store refused to commit the states that were stored since its last commit.
+    CommitRefused(KeeperError),
     /// The block has got a private queue at the handler.
     BlockOpened(Block, HandlerId),
     /// The handler dropped a client's message.
@@ -75,8 +77,10 @@ impl Event {
     /// How important the event is.
     pub fn level(&self) -> Level {
         match self {
-            Event::StoreRefused(_, _) | Event::SealRefused(_) | Event::UnknownClient(_, _, _) =>
-                Level::Warn,
+            Event::StoreRefused(_, _)
+            | Event::CommitRefused(_)
+            | Event::SealRefused(_)
+            | Event::UnknownClient(_, _, _) => Level::Warn,
             Event::Opened
             | Event::Reopened
             | Event::Closed
@@ -103,6 +107,7 @@ impl fmt::Display for Event {
             Event::StoreRefused(handler, error) => {
                 write!(f, "store-refused handler={handler} error={error}")
             }
+            Event::CommitRefused(error) => write!(f, "commit-refused error={error}"),
             Event::BlockOpened(block, handler) => {
                 write!(f, "block-opened block={block} handler={handler}")
             }

@@ -1,6 +1,6 @@
 //! How many datagrams pass through a node's link.
 
-use scoop_link::{Link, UdpLink};
+use scoop_link::{HoldingLink, Link};
 use scoop_seal::SealedLink;
 use std::sync::atomic::{AtomicU64, Ordering};
 
@@ -16,7 +16,7 @@ impl<L: Link> RefusesForged for SealedLink<L> {
     }
 }
 
-impl RefusesForged for UdpLink {
+impl<L: Link> RefusesForged for HoldingLink<L> {
     // It has no key.
     fn refused(&self) -> u64 {
         0

@@ -43,7 +43,7 @@ pub struct Tally {
     pub ran: u64,
     /// States that were stored.
     pub puts: u64,
-    /// States that the store refused.
+    /// States and commits that the store refused.
     pub refused_puts: u64,
     /// States that could not be copied onto the board, since memory was refused.
     pub missed: u64,

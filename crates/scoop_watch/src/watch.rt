@@ -149,6 +149,12 @@ impl Watch {
         }
     }
 
+    /// Notes a commit that the store refused.
+    pub(crate) fn refuse_commit<R: Wait>(&self, rt: &R, error: KeeperError) {
+        let mut board = self.board.lock(rt);
+        board.refuse_commit(error, self.settings.log);
+    }
+
     /// Notes a state that was loaded.
     pub(crate) fn load<R: Wait>(&self, rt: &R, state: &HandlerState) {
         if self.shows_states() {

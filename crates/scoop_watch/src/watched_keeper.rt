@@ -48,6 +48,8 @@ impl<'a, K: Keeper<Global>, R: Wait> Keeper<Global> for WatchedKeeper<'a, K, R> 
 
     ghost incarnations = { λ w. K.incarnations w };
 
+    ghost outlasting = { λ w. K.outlasting w };
+
     ghost is_honest = { λ w. K.is_honest w };
 
     ghost put_gives = { λ old state result new. K.put_gives old state result new };
@@ -72,6 +74,14 @@ impl<'a, K: Keeper<Global>, R: Wait> Keeper<Global> for WatchedKeeper<'a, K, R> 
 
     fn next_incarnation(&mut self, client: ClientId) -> Result<u32, KeeperError> {
         self.keeper.next_incarnation(client)
+    }
+
+    fn commit(&mut self) -> Result<(), KeeperError> {
+        let committed = self.keeper.commit();
+        if let Err(error) = committed {
+            self.watch.refuse_commit(self.rt, error);
+        }
+        committed
     }
 
     fn note_heard(&mut self, message: &Message, heard: &Heard) -> Result<(), KeeperError> {

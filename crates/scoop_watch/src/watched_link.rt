@@ -59,6 +59,14 @@ impl<'a, L: Link + RefusesForged> Link for WatchedLink<'a, L> {
         got
     }
 
+    fn flush(&mut self) -> Result<(), LinkFault> {
+        let flushed = self.inner.flush();
+        if flushed.is_err() {
+            add_one(&self.watch.link_counts().faults);
+        }
+        flushed
+    }
+
     fn faults(&self) -> u64 {
         self.inner.faults()
     }

@@ -1,13 +1,13 @@
 //! Events at a book's handlers, and their entries.
 
-ghost use Rattle.std.specs.Prelude.{◌≡◌, ◌≢◌, ◌⊎◌, ◌||◌, ℕ, IfOk, IfErr, OnOk, OnErr, IfSome};
+ghost use Rattle.std.specs.Prelude.{◌≡◌, ◌≢◌, ◌⊎◌, ◌||◌, ℕ, false, IfOk, IfErr, OnOk, OnErr, IfSome};
 ghost use Rattle.std.specs.Option.{option_map};
 ghost use Rattle.scoop_message.specs.Message.{handler_of};
 ghost use Rattle.scoop_handler.specs.Running.{job_out, ran_of, ready};
 ghost use Rattle.scoop_keeper.specs.Keeper.{IsPutError, IsSame, Stays as KeeperStays};
 ghost use Rattle.scoop_book.specs.Moves.{handler_at, handler_in, is_handler, leaves};
 ghost use Rattle.scoop_keeper.specs.Keyed.{IsFirst};
-ghost use Rattle.scoop_book.specs.Books.{Gains, IsBook, IsRefused, IsUnfinished, KeepsNew, MayHappen, Stays, IsHear, HasNoPlace, HasReply, fails};
+ghost use Rattle.scoop_book.specs.Books.{Gains, IsBook, IsRefused, IsUncommitted, IsUnfinished, KeepsNew, MayHappen, Stays, IsHear, HasNoPlace, HasReply, fails};
 ghost use Rattle.scoop_book.specs.Books.{fails_to_finish, no_place_to_finish, refusal_of};
 
 use crate::book::Book;
@@ -163,9 +163,35 @@ impl<B: Behaviour, K: Keeper<A>, A: Allocator + Copy> Book<B, K, A> {
             Ok(heard) => heard,
             Err(error) => return Err(put_refused(&mut self.failed, error)),
         };
-        let reply = heard_reply(&heard);
-        self.history.enter(pass, &Event::Hear(*message), &reply);
+        self.history.enter_heard(pass, message, &heard);
         Ok(heard)
+    }
+
+    /// Makes what the handlers' events have stored since the last commit outlast this process: all of it, or none. A node
+    /// over a keeper that gathers states calls this before it sends its replies.
+    ///
+    /// A refusal leaves handlers, history and record as they were. In this order: `NodeFailed`, `StoreRefused`, after which
+    /// the book enters nothing any more, `OutOfMemory`.
+    pub fn commit(&mut self) -> Result<(), BookError>
+        ensures outlasts { K.is_honest self.new.keeper → OnOk result (KeeperStays (K.handlers self.new.keeper) (K.outlasting self.new.keeper)) }
+        ensures refused { IfErr result (IsUncommitted self.old) }
+        ensures stays { Stays self.old self.new }
+        ensures ok { OnOk result ((self.old.failed ≡ false) × (self.new.failed ≡ false)) }
+        ensures failed { IfErr result (λ e. self.new.failed ≡ (self.old.failed || fails e)) }
+        ensures before { K.is_honest self.new.keeper → OnErr result (KeeperStays (K.outlasting self.old.keeper) (K.outlasting self.new.keeper)) }
+        ensures kept { K.is_honest self.new.keeper → KeeperStays (K.handlers self.old.keeper) (K.handlers self.new.keeper) }
+        ensures incarnations { K.is_honest self.new.keeper → IsSame (K.incarnations self.old.keeper) (K.incarnations self.new.keeper) }
+        ensures honest { K.is_honest self.new.keeper → K.is_honest self.old.keeper }
+        ensures was { IsBook K.handlers K.is_honest self.old }
+        ensures sound { IsBook K.handlers K.is_honest self.new }
+    {
+        if self.failed {
+            return Err(BookError::NodeFailed);
+        }
+        match self.handlers.commit() {
+            Ok(()) => Ok(()),
+            Err(error) => Err(put_refused(&mut self.failed, error)),
+        }
     }
 
     /// The handler's next entry leaves to be run, for the pass of this number. `None` exactly if the handler has

@@ -6,6 +6,7 @@ ghost use Rattle.scoop_book.specs.Lines.{IsSizedEvent, IsSizedLine, IsSizedReply
 
 use crate::event::{Event, Reply};
 use scoop_handler::Heard;
+use scoop_message::Message;
 use scoop_packed::{put, put_message, put_note, put_ran};
 use std::alloc::Allocator;
 
@@ -70,4 +71,21 @@ pub(crate) fn put_line<A: Allocator + Copy>(
     put(out, &[pass]);
     put_event(out, event);
     put_reply(out, reply);
+}
+
+/// Adds a message that was heard, and what it did. There is room for them.
+pub(crate) fn put_heard_line<A: Allocator + Copy>(
+    out: &mut Vec<u32, A>,
+    pass: u32,
+    message: &Message,
+    heard: &Heard,
+)
+    requires { vec_len out.old + MAX_LINE ≤ vec_capacity out.old }
+    ensures words { out.new.items ≡ out.old.items ++ line_words (pass, Event.Hear message.now, Reply.Heard heard.now) }
+    ensures sized { IsSizedLine (pass, Event.Hear message.now, Reply.Heard heard.now) }
+    ensures grows { vec_len out.old < vec_len out.new }
+{
+    put(out, &[pass]);
+    put_message(out, message);
+    put_heard(out, heard);
 }

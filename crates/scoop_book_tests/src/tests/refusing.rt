@@ -66,3 +66,16 @@ fn a_refused_load_opens_nothing(rt: HostRuntime) -> Result<(), Fail> {
     assert!(rt; error == Some(refused));
     Ok(())
 }
+
+/// The keeper takes a load, a put and a commit, and refuses the next commit: the book has failed, and keeps its history.
+#[test]
+fn a_refused_commit_fails_the_book(rt: HostRuntime) -> Result<(), Fail> {
+    let mut book = failing(rt.alloc(), 3).ok_or("cells")??;
+    assert!(rt; refusal(&mut book, hello(1, 7)).is_none());
+    assert!(rt; book.commit().is_ok());
+    assert!(rt; book.commit() == Err(BookError::StoreRefused));
+    assert!(rt; book.commit() == Err(BookError::NodeFailed));
+    assert!(rt; refusal(&mut book, hello(1, 7)) == Some(BookError::NodeFailed));
+    assert!(rt; book.history().len() == 1);
+    Ok(())
+}

@@ -22,10 +22,13 @@ impl<B: Behaviour, A: Allocator> Handler<B, A> {
         ensures handed_out { state.new ≡ self.old.state }
     {
         let words = self.words();
-        if let Presence::Here(object) = &mut self.presence {
-            set_words(object, state.words);
+        // Only a job changes them.
+        if words != state.words {
+            if let Presence::Here(object) = &mut self.presence {
+                set_words(object, state.words);
+            }
+            state.words = words;
         }
-        state.words = words;
         mem::swap(&mut self.holder, &mut state.holder);
         mem::swap(&mut self.marks, &mut state.marks);
         mem::swap(&mut self.queues, &mut state.queues);

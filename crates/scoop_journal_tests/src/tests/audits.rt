@@ -167,9 +167,29 @@ fn a_changed_answer_is_found(rt: HostRuntime) -> Result<(), Fail> {
 #[test]
 fn a_changed_opening_is_found(rt: HostRuntime) -> Result<(), Fail> {
     let mut node = NODE;
-    node[17] = "open 1 0200000001010000000000000064000000 -";
+    node[17] = "open 1 0200000001010000000000000063000000 -";
     let wanted = "node 1, life 2: handler 1 opens with another state than life 1 left";
     node_ends(&rt, rt.alloc(), &node, wanted)
+}
+
+// The node's second life opens with the state before the block's End. The last three entries of the first one were not stored.
+#[test]
+fn the_last_entries_of_a_life_may_be_left_out(rt: HostRuntime) -> Result<(), Fail> {
+    let alloc = rt.alloc();
+    let mut node = NODE;
+    node[17] =
+        "open 1 02000000010100000000000000690001000000070000000100000001020000000200010000000201000000000000006901000000070000000100000001010000000300 -";
+    let wanted = "client 7, life 1, step 12: heard Logged 1 7.1.1 3, which nobody sent";
+    node_ends(&rt, alloc, &node, wanted)?;
+    let node = joined(alloc, &node)?;
+    let mut client = joined(alloc, &CLIENT[..12])?;
+    let rest = joined(alloc, &CLIENT[13..])?;
+    client.push_str(&rest)?;
+    let wanted = "node 1: 2 lives, 15 entries\nclient 7: 2 lives, 12 steps\n\
+        supposed: node 1, life 1: entries 12 to 14 were not stored\n\
+        supposed: 2 last turns of clients\nexplained: 37 moves in one order\n\
+        block 7.1.1 handlers 1: ran 2 of 2 at 1, cut\n";
+    ends(&rt, alloc, &node, &client, wanted)
 }
 
 #[test]

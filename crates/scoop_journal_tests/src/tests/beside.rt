@@ -8,12 +8,16 @@ use scoop_message::{Block, ClientId, HandlerId};
 use scoop_owner::Newest;
 use scoop_record::read_image;
 use std::alloc::Global;
-use std::fs;
 use std::test::Fail;
+use std::time::{Duration, Instant};
+use std::{fs, thread};
 
 const CLIENT: ClientId = ClientId(7);
 
 const OWNER: &str = "node = 1\nnewest.3.8 = \"8.1.1\"\n";
+
+const FIRST: &str =
+    "node = 1\nnewest.3.8 = \"8.1.1\"\nnewest.1.7 = \"7.9.1\"\nnewest.2.7 = \"7.9.1\"\n";
 
 // A handler whose one word is 5, and on whose lock client 7's block 9.0 never waited.
 const IMAGE: [u8; 36] =
@@ -72,42 +76,49 @@ impl<'a> Files<'a> {
 }
 
 #[test]
-fn the_text_has_each_handlers_marks_after_64_puts(rt: HostRuntime) -> Result<(), Fail> {
+fn the_text_has_each_handlers_marks_after_commits(rt: HostRuntime) -> Result<(), Fail> {
     let alloc = rt.alloc();
     let files = Files::new(&rt, "marks")?;
     fs::write(&rt, files.path.as_str(), "a store")?;
     fs::write(&rt, files.text.as_str(), OWNER)?;
     let name = StoreName::new(alloc, files.path.as_str())?;
     let mut keeper = NamedKeeper::new(&rt, MemoryKeeper::new(alloc), &name);
-    alternates(alloc, &mut keeper, 1, 32)?;
+    alternates(alloc, &mut keeper, 1, 1)?;
     assert!(rt; files.has(OWNER));
-    alternates(alloc, &mut keeper, 33, 1)?;
-    assert!(rt;
-        files.has(
-            "node = 1\nnewest.3.8 = \"8.1.1\"\nnewest.1.7 = \"7.9.32\"\nnewest.2.7 = \"7.9.32\"\n"
-        )
-    );
-    let _memory = keeper.into_inner();
+    let start = Instant::now(&rt)?;
+    keeper.commit()?;
+    assert!(rt; files.has(FIRST));
+    // the 65th put looks at the name again
+    alternates(alloc, &mut keeper, 2, 32)?;
+    keeper.commit()?;
+    let kept = files.has(FIRST);
+    assert!(rt; kept || Instant::now(&rt)?.duration_since(start) >= Duration::from_secs(1));
+    thread::sleep(&rt, Duration::from_millis(1_100));
+    keeper.commit()?;
     assert!(rt;
         files.has(
             "node = 1\nnewest.3.8 = \"8.1.1\"\nnewest.1.7 = \"7.9.33\"\nnewest.2.7 = \"7.9.33\"\n"
         )
     );
+    let _memory = keeper.into_inner();
     files.remove();
     Ok(())
 }
 
+/// The second put is refused, and the third one isn't committed.
 #[test]
-fn a_refused_put_is_not_in_the_text(rt: HostRuntime) -> Result<(), Fail> {
+fn only_committed_marks_are_in_the_text(rt: HostRuntime) -> Result<(), Fail> {
     let alloc = rt.alloc();
     let files = Files::new(&rt, "refused")?;
     fs::write(&rt, files.path.as_str(), "a store")?;
     fs::write(&rt, files.text.as_str(), OWNER)?;
     let name = StoreName::new(alloc, files.path.as_str())?;
-    let failing = FailingKeeper::new(MemoryKeeper::new(alloc), 1);
+    let failing = FailingKeeper::new(MemoryKeeper::new(alloc), 3);
     let mut keeper = NamedKeeper::new(&rt, failing, &name);
     keeper.put_handler(&state(alloc, 1, 1)?)?;
-    let refused = keeper.put_handler(&state(alloc, 1, 2)?);
+    keeper.commit()?;
+    keeper.put_handler(&state(alloc, 1, 2)?)?;
+    let refused = keeper.put_handler(&state(alloc, 1, 3)?);
     assert_eq!(rt; refused, Err(KeeperError::Refused));
     let _failed = keeper.into_inner();
     assert!(rt; files.has("node = 1\nnewest.3.8 = \"8.1.1\"\nnewest.1.7 = \"7.9.1\"\n"));

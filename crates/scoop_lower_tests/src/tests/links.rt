@@ -2,6 +2,7 @@
 
 ghost use Rattle.std.specs.Prelude.{◌≡◌, ◌-◌, ◌^◌, Ok};
 
+mod holding;
 mod lanes;
 mod paced;
 mod scripts;

@@ -6,7 +6,7 @@ use super::{ONE, SEVEN};
 use scoop_book::Node;
 use scoop_frame::{Version, decode};
 use scoop_keeper::{FailingKeeper, MemoryKeeper};
-use scoop_link::{Link, Party, Script, ScriptLink, TapeLink};
+use scoop_link::{HoldingLink, Link, Party, Script, ScriptLink, TapeLink};
 use scoop_message::Message;
 use scoop_netloop::{OpenGate, ServeEnd, Stop};
 use scoop_object::Table;
@@ -158,4 +158,51 @@ fn a_node_whose_keeper_refuses_keeps_what_was_stored(rt: HostRuntime) {
     let keeper = stored(&rt, alloc);
     let (node, passes) = opened(&rt, alloc, keeper, 2);
     let _passes = knows_lock(&rt, alloc, &node, passes, &Stop::new());
+}
+
+// The link of a node that hears three messages in this many turns, and whose keeper takes this many calls. It holds replies back.
+fn held<R>(rt: &R, alloc: Global, calls: u64, count: u64, wanted: ServeEnd) -> HoldingLink<TapeLink>
+where
+    R: Threads + Wait + Clock + Abort + Sync,
+{
+    let mut link = HoldingLink::new(alloc, tape(rt, alloc, &EARLY), true);
+    let keeper = FailingKeeper::new(MemoryKeeper::new(alloc), calls);
+    let (node, passes) = opened(rt, alloc, keeper, 2);
+    let passes = turns(
+        rt,
+        alloc,
+        &node,
+        &mut link,
+        passes,
+        &OpenGate,
+        &Stop::new(),
+        count,
+        wanted,
+    );
+    let _keeper = closes(rt, node, passes);
+    link
+}
+
+fn has_sent_both(rt: &impl Abort, link: &HoldingLink<TapeLink>) {
+    has_sent(rt, link.inner(), 0, Message::Welcome(ONE, SEVEN, 1));
+    has_sent(rt, link.inner(), 1, Message::Locked(ONE, FIRST));
+    assert!(rt; link.inner().sent(2).is_none());
+}
+
+/// Two states are loaded, and three put. The next call is the commit.
+#[test]
+fn replies_that_are_held_go_after_a_commit_alone(rt: HostRuntime) {
+    let link = held(&rt, rt.alloc(), 5, 10, ServeEnd::NodeFailed);
+    assert!(rt; link.inner().sent(0).is_none());
+    let link = held(&rt, rt.alloc(), 100, 10, ServeEnd::TurnsOver);
+    has_sent_both(&rt, &link);
+}
+
+/// No turn is left for an empty receive.
+#[test]
+fn what_came_in_the_last_turns_is_committed_and_answered(rt: HostRuntime) {
+    let link = held(&rt, rt.alloc(), 100, 3, ServeEnd::TurnsOver);
+    has_sent_both(&rt, &link);
+    let link = held(&rt, rt.alloc(), 5, 3, ServeEnd::NodeFailed);
+    assert!(rt; link.inner().sent(0).is_none());
 }

@@ -1,19 +1,9 @@
 //! Links that drop the frames of unknown clients.
 
-use super::{feeds, gets, tape};
+use super::{feeds, gets, hello, tape};
 use scoop_admission::{AdmittingLink, NoReport};
 use scoop_message::ClientId;
 use std::test::Fail;
-
-// The greeting of a client: its frame in version 1.
-fn hello(client: u8) -> [u8; 26] {
-    let mut frame = [0; 26];
-    frame[..4].copy_from_slice(&[0x53, 0x51, 1, 1]);
-    frame[7] = 1;
-    frame[11] = client;
-    frame[15] = 1;
-    frame
-}
 
 #[test]
 fn only_known_clients_pass(rt: HostRuntime) -> Result<(), Fail> {

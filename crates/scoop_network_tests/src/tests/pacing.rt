@@ -1,28 +1,11 @@
 //! Links that measure round trips.
 
-ghost use Rattle.std.specs.Prelude.{◌≡◌};
-
-use super::{HANDLER, feeds, tape};
+use super::{HANDLER, Steps, feeds, tape};
 use scoop_link::{Link, TapeLink};
 use scoop_message::limits::BUFFER_LEN;
-use scoop_pacing::{Estimate, MeasuredLink, Times};
+use scoop_pacing::{Estimate, MeasuredLink};
 use std::process::Abort;
 use std::test::Fail;
-
-// A clock that tells 50 ms more each time.
-#[derive(Drop)]
-struct Steps {
-    last: u64,
-}
-
-impl Times for Steps {
-    ghost time = { λ s. s.last };
-
-    fn now(&mut self) -> u64 {
-        self.last = self.last.saturating_add(50_000);
-        self.last
-    }
-}
 
 // Sends a datagram, after which the inner link has sent this many.
 fn sends(
@@ -52,7 +35,7 @@ fn repeats_wait_for_their_time(rt: HostRuntime) -> Result<(), Fail> {
     let mut reply = [0; 26];
     reply[7] = 1;
     feeds(&rt, &mut tape, &reply);
-    let mut link = MeasuredLink::new(rt.alloc(), tape, Steps { last: 0 }, 1, 0)?;
+    let mut link = MeasuredLink::new(rt.alloc(), tape, Steps::of(50_000), 1, 0)?;
     sends(&rt, &mut link, b"lock", 1);
     for _ in 0..3 {
         sends(&rt, &mut link, b"lock", 1);

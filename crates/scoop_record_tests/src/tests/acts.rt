@@ -18,6 +18,8 @@ pub enum Act {
     Put(u8),
     /// Puts the one with this word and two entries pending.
     PutWaiting(u8),
+    /// Commits what was put.
+    Commit,
     /// Loads a state with this word, or none.
     Load(Result<Option<u64>, KeeperError>),
 }
@@ -41,6 +43,8 @@ pub enum Step {
     Create(&'static [Act]),
     /// A store that takes the tables does this.
     Adopt(&'static [Act]),
+    /// A keeper that gathers does this, over a store that takes the tables.
+    Gather(&'static [Act]),
 }
 
 /// Finds the version of the tables.
@@ -68,7 +72,16 @@ pub fn word<K: Keeper<Global>>(
     rt: &impl Abort,
     keeper: &mut K,
 ) -> Result<Option<u64>, KeeperError> {
-    let state = match keeper.load_handler(HandlerId(1)) {
+    word_of(rt, keeper, HandlerId(1))
+}
+
+/// The word of this handler's state, as it is loaded.
+pub fn word_of<K: Keeper<Global>>(
+    rt: &impl Abort,
+    keeper: &mut K,
+    handler: HandlerId,
+) -> Result<Option<u64>, KeeperError> {
+    let state = match keeper.load_handler(handler) {
         Ok(Some(state)) => state,
         Ok(None) => return Ok(None),
         Err(error) => return Err(error),
@@ -79,7 +92,7 @@ pub fn word<K: Keeper<Global>>(
     }
 }
 
-fn puts<K: Keeper<Global>>(keeper: &mut K, state: &HandlerState) -> bool {
+pub fn puts<K: Keeper<Global>>(keeper: &mut K, state: &HandlerState) -> bool {
     keeper.put_handler(state).is_ok()
 }
 
@@ -89,6 +102,7 @@ pub fn acts<K: Keeper<Global>>(rt: &impl Abort, alloc: Global, keeper: &mut K, a
         Act::Next(client, next) => keeper.next_incarnation(ClientId(client)) == next,
         Act::Put(word) => puts(keeper, &bare(rt, alloc, word)),
         Act::PutWaiting(word) => puts(keeper, &waiting(rt, alloc, word)),
+        Act::Commit => keeper.commit().is_ok(),
         Act::Load(found) => word(rt, keeper) == found,
     }
 }
@@ -155,7 +169,7 @@ pub fn answers<S: Alter>(alloc: Global, conn: &mut Connection<S>, step: Step) ->
         Step::Number(text, found) => number(conn, text) == found,
         Step::Bytes(text, bytes) => finds(conn, text, bytes),
         Step::Texts(texts, same) => has_texts(conn, texts) == same,
-        Step::Create(_) | Step::Adopt(_) => false,
+        Step::Create(_) | Step::Adopt(_) | Step::Gather(_) => false,
     }
 }
 
@@ -190,6 +204,21 @@ fn behind<S: Alter + Drop>(
     store.into_connection()
 }
 
+/// The same under a keeper that gathers. What it didn't commit is dropped.
+fn gathered<S: Alter + Drop>(
+    rt: &impl Abort,
+    alloc: Global,
+    store: Option<Store<S>>,
+    rows: &[Act],
+) -> Connection<S> {
+    let mut keeper = match store {
+        Some(store) => GatheringStore::new(alloc, store),
+        None => panic!(rt; "no store"),
+    };
+    plays(rt, alloc, &mut keeper, rows);
+    keeper.into_inner().into_connection()
+}
+
 fn answered<S: Alter + Drop>(
     rt: &impl Abort,
     alloc: Global,
@@ -213,6 +242,7 @@ fn stepped<S: Alter + Drop>(
     match step {
         Step::Create(rows) => behind(rt, alloc, created(alloc, conn), rows),
         Step::Adopt(rows) => behind(rt, alloc, adopted(alloc, conn), rows),
+        Step::Gather(rows) => gathered(rt, alloc, adopted(alloc, conn), rows),
         _ => answered(rt, alloc, conn, step, at),
     }
 }

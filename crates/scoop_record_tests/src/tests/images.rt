@@ -31,6 +31,17 @@ pub fn bare(rt: &impl Abort, alloc: Global, word: u8) -> HandlerState {
     state(rt, alloc, &image, &[])
 }
 
+/// The state of handler 2 with this one word, which no client has greeted.
+pub fn beside(rt: &impl Abort, alloc: Global, word: u8) -> HandlerState {
+    let mut image = BARE;
+    image[4] = 2;
+    image[13] = word;
+    match read_image(alloc, HandlerId(2), &image, &[]) {
+        Ok(state) => state,
+        Err(_) => panic!(rt; "no image"),
+    }
+}
+
 /// The state of a handler with this one word and two pending entries.
 pub fn waiting(rt: &impl Abort, alloc: Global, word: u8) -> HandlerState {
     let mut image = IMAGE;

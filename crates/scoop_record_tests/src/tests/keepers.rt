@@ -108,6 +108,33 @@ fn a_put_replaces_the_pending_entries(rt: HostRuntime) {
     steps_in_memory(&rt, rt.alloc(), &REPLACED);
 }
 
+// Of the states that weren't committed the next store has none, and of the others the last. An incarnation stays either way.
+const GATHERED: [Step; 6] = [
+    Step::Create(&[Act::Put(5), Act::Commit, Act::Load(Ok(Some(5)))]),
+    Step::Gather(&[
+        Act::PutWaiting(6),
+        Act::Put(7),
+        Act::Load(Ok(Some(7))),
+        Act::Next(7, Ok(1)),
+    ]),
+    Step::Adopt(&[Act::Load(Ok(Some(5))), Act::Next(7, Ok(2))]),
+    Step::Gather(&[
+        Act::Load(Ok(Some(5))),
+        Act::Commit,
+        Act::Put(7),
+        Act::PutWaiting(6),
+        Act::Commit,
+        Act::Load(Ok(Some(6))),
+    ]),
+    Step::Adopt(&[Act::Load(Ok(Some(6)))]),
+    Step::Bytes(ENTRIES, &PENDING),
+];
+
+#[test]
+fn gathered_states_are_stored_at_the_commit(rt: HostRuntime) {
+    steps_in_memory(&rt, rt.alloc(), &GATHERED);
+}
+
 const CUT: Step = Step::Run(
     "INSERT INTO handlers (h, image) VALUES (1, x'0100000001010000000000000000000100000007000000010000000102000000020000\
     010000000700000001000000010100000001020100010100000000000000050100010100000000000000')",

@@ -3,10 +3,10 @@
 
 use super::acts::{
     Act, ENTRIES, FIRST, IMAGES, NO_PENDING, OLD, Step, VERSION, acts, adopted, answers, number,
-    steps, word,
+    puts, steps, word, word_of,
 };
-use super::images::{IMAGE, PENDING};
-use scoop_message::ClientId;
+use super::images::{IMAGE, PENDING, beside, waiting};
+use scoop_message::{ClientId, HandlerId};
 use scoop_record::*;
 use sqlite::{Alter, Connection, FileStore, Files, Options};
 use sqlite_disk::{Crash, Disk, Fuse, Memory};
@@ -22,6 +22,7 @@ type Stoppable = FileStore<Stopped>;
 enum Call {
     Create,
     Put,
+    Commit,
     Next,
     Adopt,
 }
@@ -129,7 +130,7 @@ fn prepared<S: Alter + Drop>(
     match (call, part) {
         (Call::Create, Part::Log) => conn,
         (Call::Create, _) => steps(rt, alloc, conn, &CAME_AND_WENT),
-        (Call::Put | Call::Next, _) => steps(rt, alloc, conn, &STORED),
+        (Call::Put | Call::Commit | Call::Next, _) => steps(rt, alloc, conn, &STORED),
         (Call::Adopt, _) => steps(rt, alloc, conn, &STORED_OLD),
     }
 }
@@ -177,6 +178,24 @@ fn called_at<S: Alter + Drop>(
     Some(store.into_connection().into_store())
 }
 
+fn commits<K: Keeper<Global>>(rt: &impl Abort, alloc: Global, keeper: &mut K) -> bool {
+    assert!(rt; puts(keeper, &waiting(rt, alloc, 6)));
+    assert!(rt; puts(keeper, &beside(rt, alloc, 6)));
+    keeper.commit().is_ok()
+}
+
+/// The same of a commit of the states of two handlers.
+fn committed_at<S: Alter + Drop>(
+    rt: &impl Abort,
+    alloc: Global,
+    store: Option<Store<S>>,
+    done: &mut bool,
+) -> Option<S> {
+    let mut keeper = GatheringStore::new(alloc, store?);
+    *done = commits(rt, alloc, &mut keeper);
+    Some(keeper.into_inner().into_connection().into_store())
+}
+
 /// The same of any call, `None` where the store or the database isn't open by then.
 fn called<S: Alter + Drop>(
     rt: &impl Abort,
@@ -190,6 +209,7 @@ fn called<S: Alter + Drop>(
         Call::Create => Some(called_there(alloc, conn, Step::Make(None), done)),
         Call::Adopt => Some(called_there(alloc, conn, Step::Take(None), done)),
         Call::Put => called_at(rt, alloc, adopted(alloc, conn), Act::PutWaiting(6), done),
+        Call::Commit => committed_at(rt, alloc, adopted(alloc, conn), done),
         Call::Next => called_at(rt, alloc, adopted(alloc, conn), Act::Next(7, Ok(2)), done),
     }
 }
@@ -225,6 +245,14 @@ fn has_word<K: Keeper<Global>>(rt: &impl Abort, keeper: &mut K) -> bool {
     }
 }
 
+/// Both states that the commit stores, or none of them.
+fn has_both<K: Keeper<Global>>(rt: &impl Abort, keeper: &mut K) -> bool {
+    let has = has_word(rt, keeper);
+    let other = word_of(rt, keeper, HandlerId(2));
+    assert!(rt; other == Ok(if has { Some(6) } else { None }));
+    has
+}
+
 /// The number after the incarnation that the call stores, or after the one before it.
 fn has_number<K: Keeper<Global>>(rt: &impl Abort, keeper: &mut K) -> bool {
     match keeper.next_incarnation(ClientId(7)) {
@@ -241,6 +269,7 @@ fn has_call<K: Keeper<Global>>(rt: &impl Abort, keeper: Option<K>, call: Call) -
     };
     match call {
         Call::Put => has_word(rt, &mut keeper),
+        Call::Commit => has_both(rt, &mut keeper),
         _ => has_number(rt, &mut keeper),
     }
 }
@@ -259,7 +288,7 @@ fn is_found<S: Alter + Drop>(
     match call {
         Call::Create => has_tables(rt, alloc, conn),
         Call::Adopt => has_version(rt, alloc, conn),
-        Call::Put | Call::Next => has_call(rt, adopted(alloc, conn), call),
+        Call::Put | Call::Commit | Call::Next => has_call(rt, adopted(alloc, conn), call),
     }
 }
 
@@ -356,6 +385,11 @@ fn a_stopped_creation_makes_all_tables_or_none(rt: HostRuntime) {
 #[test]
 fn a_stopped_put_leaves_a_whole_state(rt: HostRuntime) {
     stops_everywhere(&rt, rt.alloc(), Call::Put);
+}
+
+#[test]
+fn a_stopped_commit_leaves_all_of_its_states_or_none(rt: HostRuntime) {
+    stops_everywhere(&rt, rt.alloc(), Call::Commit);
 }
 
 #[test]

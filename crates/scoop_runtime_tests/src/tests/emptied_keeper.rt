@@ -29,6 +29,8 @@ impl Keeper<Global> for EmptiedKeeper {
 
     ghost incarnations = { λ _ _. None };
 
+    ghost outlasting = { λ _ _ _. ⊤ };
+
     ghost is_honest = { λ _. ⊥ };
 
     fn put_handler(&mut self, state: &HandlerState<Global>) -> Result<(), KeeperError> {
@@ -50,5 +52,9 @@ impl Keeper<Global> for EmptiedKeeper {
 
     fn next_incarnation(&mut self, client: ClientId) -> Result<u32, KeeperError> {
         self.keeper.next_incarnation(client)
+    }
+
+    fn commit(&mut self) -> Result<(), KeeperError> {
+        self.keeper.commit()
     }
 }

@@ -1,6 +1,4 @@
 use Rattle.std.proofs.Common.{arith}
-use Rattle.std.proofs.lemmas.List.Edits.{map_over_more}
-use Rattle.scoop_link.specs.Pace.{silenced}
 use Rattle.scoop_link.proofs.Silences.{silenced_in_place}
 use Rattle.scoop_link.proofs.pace.silence_all.Goals as goal
 

@@ -1,4 +1,4 @@
-use Rattle.std.proofs.Common.{◌≡◌, ◌≤◌, length, map, take, vec_len, vec_capacity}
+use Rattle.std.proofs.Common.{◌≡◌, length, map, take, vec_len, vec_capacity}
 use Rattle.scoop_link.specs.Udp.{reached_at, reached_here}
 use Rattle.scoop_link.proofs.udp_link.local_addresses.Given as goal
 

@@ -86,6 +86,19 @@ fn a_receive_waits(rt: HostRuntime) -> Result<(), Fail> {
     Ok(())
 }
 
+/// A machine with much else to do may pause a receive that doesn't wait.
+#[test]
+fn a_receive_waits_unless_it_is_told_not_to(rt: HostRuntime) -> Result<(), Fail> {
+    let [own] = free_ports::<_, 1>(&rt)?;
+    let mut link = udp(&rt, rt.alloc(), Peers { own, table: &[] });
+    link.set_waits(false);
+    let mut tries = 0..100;
+    assert!(rt; tries.any(|_| took_a_while(&rt, &mut link) == Some(false)));
+    link.set_waits(true);
+    assert_eq!(rt; took_a_while(&rt, &mut link), Some(true));
+    Ok(())
+}
+
 #[test]
 fn a_port_is_taken_once(rt: HostRuntime) -> Result<(), Fail> {
     let [own] = free_ports::<_, 1>(&rt)?;

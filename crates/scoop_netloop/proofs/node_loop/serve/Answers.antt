@@ -13,7 +13,9 @@ pub returns-clause-first : goal.returns-clause-first
 returns-clause-first g c =
     let some : 0 < length c.args.passes.items = omega arith in
     serves_first_served _ _ c.args.passes.items c.split_at_mut-front.result.0.now _ _ _ c.index-front-0.result _ _ _
-    (search rules) some (omega arith) (reports_serves _ _ _ _ _ _ _ c.lowest-end.ensures c.serve_beside-end.ensures.serves)
+    (search rules) some (omega arith) (reports_serves _ _ _ _ _ _ _ c.end_settled-end.ensures
+    (reports_serves _ _ _ _ _ _ _ c.lowest-end.ensures c.serve_beside-end.ensures.serves))
 
 pub returns-clause-faults : goal.returns-clause-faults
-returns-clause-faults g c = reports_counts _ _ _ _ c.lowest-end.ensures c.serve_beside-end.ensures.faults
+returns-clause-faults g c = reports_counts _ _ _ _ c.end_settled-end.ensures
+    (reports_counts _ _ _ _ c.lowest-end.ensures c.serve_beside-end.ensures.faults)

@@ -1,11 +1,12 @@
 use Rattle.std.proofs.Common.{rules, sym}
 use Rattle.scoop_netloop.proofs.Replying.{reply_fits, reply_carried}
-use Rattle.scoop_netloop.proofs.Turns.{serves_idle, serves_passed, serves_silent, serves_unanswered, serves_answered, serves_unsent}
+use Rattle.scoop_netloop.proofs.Turns.{serves_idle, serves_settled, serves_passed, serves_silent, serves_unanswered, serves_answered, serves_unsent}
 use Rattle.scoop_netloop.proofs.Ended.{counts_same, counts_turn, not_over}
 use Rattle.scoop_netloop.proofs.receiver.turn.Goals as goal
 
 pub returns-in-Ok-None-clause-serves : goal.returns-in-Ok-None-clause-serves
-returns-in-Ok-None-clause-serves g c = serves_idle _ _ _ _ (rw c.in-Ok-None.field-0-is at c.in-Ok-None.ensures.told)
+returns-in-Ok-None-clause-serves g c =
+    serves_settled _ _ _ _ _ (rw c.in-Ok-None.field-0-is at c.in-Ok-None.ensures.told) c.settle.ensures.told
 
 pub returns-in-Err-clause-serves : goal.returns-in-Err-clause-serves
 returns-in-Err-clause-serves g c = serves_idle _ _ _ _ c.in-Err.ensures.told

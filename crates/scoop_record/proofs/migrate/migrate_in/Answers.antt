@@ -2,7 +2,7 @@ use Rattle.std.proofs.Common.{pos, subst, sym, ap, Err}
 use Rattle.sqlite.specs.declared.types.Value.TheVariants.{Int}
 use Rattle.sqlite.specs.Effect.{Database}
 use Rattle.sqlite.specs.Held.{state}
-use Rattle.scoop_record.specs.Migrate.{SavesAll}
+use Rattle.scoop_record.specs.Store.{SavesAll}
 use Rattle.scoop_record.proofs.StatementLemmas.{clean_before}
 use Rattle.scoop_record.proofs.MigrateLemmas.{version_before, migrated}
 use Rattle.scoop_record.proofs.NumberLemmas.{lowest_bad, other_number}

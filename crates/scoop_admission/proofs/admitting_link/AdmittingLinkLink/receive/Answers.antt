@@ -1,12 +1,13 @@
 use Rattle.std.proofs.Common.{◌∙◌}
+use Rattle.scoop_admission.specs.Admission.{IsStranger}
 use Rattle.scoop_admission.proofs.Taking.{so_far-more}
 use Rattle.scoop_admission.proofs.admitting_link.AdmittingLinkLink.receive.Goals as goal
 
 pub loop-preserved : goal.loop-preserved
 loop-preserved g c =
-    let taken = rw c.in-Ok-Strange.field-0-is at c.in-Ok-Strange.ensures.taken in
+    let taken = rw c.in-Ok-Dropped.field-0-is at c.in-Ok-Dropped.ensures.taken in
     record {
-      so_far = so_far-more _ _ _ _ _ _ _ _ _ c.loop.invariant.clients c.loop.invariant.so_far taken;
-      clients = c.in-Ok-Strange.ensures.clients ∙ c.loop.invariant.clients;
-      inner = c.in-Ok-Strange.ensures.faults ∙ c.loop.invariant.inner;
+      so_far = so_far-more IsStranger _ _ _ _ _ _ _ _ _ c.loop.invariant.clients c.loop.invariant.so_far taken;
+      clients = c.in-Ok-Dropped.ensures.clients ∙ c.loop.invariant.clients;
+      inner = c.in-Ok-Dropped.ensures.faults ∙ c.loop.invariant.inner;
     }

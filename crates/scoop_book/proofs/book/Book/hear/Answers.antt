@@ -1,4 +1,4 @@
-use Rattle.std.proofs.Common.{subst}
+use Rattle.std.proofs.Common.{refl, subst}
 use Rattle.scoop_message.specs.Message.{handler_of}
 use Rattle.scoop_keeper.specs.Keeper.{IsSame, Stays}
 use Rattle.scoop_keeper.proofs.KeeperLemmas.{stays_same}
@@ -55,9 +55,9 @@ returns-clause-incarnations g c honest =
 pub invariant_of-self-2 : goal.invariant_of-self-2
 invariant_of-self-2 g c =
     book_more c.self.inside.opening.items c.self.inside.handlers c.self.inside.history.entries c.self.inside.limit c.self.inside.failed c.args.self.now
-    c.self.view_is c.hear.new.self c.enter.new.self.entries c.args.pass (Hear c.args.message.now) (Heard c.in-Ok-hear.heard)
-    c.in-Ok-hear.ensures.moves (entered c.self.inside.history.entries c.make_room.new.self.entries c.enter.new.self.entries c.args.pass
-    (Hear c.args.message.now) (Heard c.in-Ok-hear.heard) c.heard_reply-reply.result c.enter.ensures c.make_room.ensures.entries c.heard_reply-reply.ensures)
+    c.self.view_is c.hear.new.self c.enter_heard.new.self.entries c.args.pass (Hear c.args.message.now) (Heard c.in-Ok-hear.heard)
+    c.in-Ok-hear.ensures.moves (entered c.self.inside.history.entries c.make_room.new.self.entries c.enter_heard.new.self.entries c.args.pass
+    (Hear c.args.message.now) (Heard c.in-Ok-hear.heard) (Heard c.in-Ok-hear.heard) c.enter_heard.ensures c.make_room.ensures.entries refl)
     g.K.Keeper.handlers g.K.Keeper.is_honest c.self.invariant
     (room_left c.self.inside.opening.items c.self.inside.handlers c.self.inside.history.entries c.self.inside.limit c.self.inside.failed c.args.self.now
     c.self.view_is c.handler.result c.in_ok-at.ensures.may) c.hear.ensures.held c.hear.ensures.honest
@@ -65,16 +65,16 @@ invariant_of-self-2 g c =
 pub returns-clause-gains : goal.returns-clause-gains
 returns-clause-gains g c =
     gains c.self.inside.opening.items c.self.inside.handlers c.self.inside.history.entries c.self.inside.limit c.self.inside.failed c.args.self.now c.self.view_is
-    c.hear.new.self c.enter.new.self.entries c.args.pass (Hear c.args.message.now) (Heard c.in-Ok-hear.heard)
-    c.in-Ok-hear.ensures.moves (entered c.self.inside.history.entries c.make_room.new.self.entries c.enter.new.self.entries c.args.pass
-    (Hear c.args.message.now) (Heard c.in-Ok-hear.heard) c.heard_reply-reply.result c.enter.ensures c.make_room.ensures.entries c.heard_reply-reply.ensures)
+    c.hear.new.self c.enter_heard.new.self.entries c.args.pass (Hear c.args.message.now) (Heard c.in-Ok-hear.heard)
+    c.in-Ok-hear.ensures.moves (entered c.self.inside.history.entries c.make_room.new.self.entries c.enter_heard.new.self.entries c.args.pass
+    (Hear c.args.message.now) (Heard c.in-Ok-hear.heard) (Heard c.in-Ok-hear.heard) c.enter_heard.ensures c.make_room.ensures.entries refl)
 
 pub returns-clause-sound : goal.returns-clause-sound
 returns-clause-sound g c =
     book_more c.self.inside.opening.items c.self.inside.handlers c.self.inside.history.entries c.self.inside.limit c.self.inside.failed c.args.self.now
-    c.self.view_is c.hear.new.self c.enter.new.self.entries c.args.pass (Hear c.args.message.now) (Heard c.in-Ok-hear.heard)
-    c.in-Ok-hear.ensures.moves (entered c.self.inside.history.entries c.make_room.new.self.entries c.enter.new.self.entries c.args.pass
-    (Hear c.args.message.now) (Heard c.in-Ok-hear.heard) c.heard_reply-reply.result c.enter.ensures c.make_room.ensures.entries c.heard_reply-reply.ensures)
+    c.self.view_is c.hear.new.self c.enter_heard.new.self.entries c.args.pass (Hear c.args.message.now) (Heard c.in-Ok-hear.heard)
+    c.in-Ok-hear.ensures.moves (entered c.self.inside.history.entries c.make_room.new.self.entries c.enter_heard.new.self.entries c.args.pass
+    (Hear c.args.message.now) (Heard c.in-Ok-hear.heard) (Heard c.in-Ok-hear.heard) c.enter_heard.ensures c.make_room.ensures.entries refl)
     g.K.Keeper.handlers g.K.Keeper.is_honest c.self.invariant
     (room_left c.self.inside.opening.items c.self.inside.handlers c.self.inside.history.entries c.self.inside.limit c.self.inside.failed c.args.self.now
     c.self.view_is c.handler.result c.in_ok-at.ensures.may) c.hear.ensures.held c.hear.ensures.honest

@@ -1,5 +1,3 @@
-use Rattle.std.proofs.Common.{sym, subst, ◌≡◌, true}
-use Rattle.scoop_link.specs.Pace.{PaceValue, passes}
 use Rattle.scoop_link.proofs.Silences.{silence-passes}
 use Rattle.scoop_link.proofs.paced_link.PacedLinkLink.receive.Goals as goal
 

@@ -3,7 +3,7 @@ use Rattle.std.proofs.lemmas.List.{take_more}
 use Rattle.std.proofs.lemmas.Grind.{common_steps}
 use Rattle.sqlite.specs.Held.{state}
 use Rattle.scoop_record.proofs.StoringLemmas.{none_stored, still_record, stored_more, then_kept, then_survives}
-use Rattle.scoop_record.proofs.migrate.put_states.Goals as goal
+use Rattle.scoop_record.proofs.handlers.put_states.Goals as goal
 
 pub loop-it-init : goal.loop-it-init
 loop-it-init g c = (refl, none_stored (state g.S.Store c.args.tx.now.conn.now))
@@ -29,7 +29,7 @@ loop-it-preserved g c =
     rw cut (
       c.put_state.ensures.same_reference ∙ c.loop-it.invariant.0,
       stored_more _ _ _ _ c.loop-it.invariant.1 c.put_state.ensures.kept c.put_state.ensures.survives it
-          (λ clean. let own = c.in_ok-put_state.ensures.put clean in (own.0, own.1, own.2)),
+          (λ clean. let own = c.in_ok-put_state.ensures.put clean in (own.0, own.1, own.2, own.3)),
     )
 
 pub returns-clause-same_reference : goal.returns-clause-same_reference
@@ -39,6 +39,14 @@ pub returns-clause-put : goal.returns-clause-put
 returns-clause-put g c =
     let whole : take c.loop-it.it-index c.args.all.now ≡ c.args.all.now = grind (arith, common_steps) in
     (rw whole at c.loop-it.invariant.1).saved
+
+pub returns-clause-layout : goal.returns-clause-layout
+returns-clause-layout g c = still_record _ _ _ c.loop-it.invariant.1 c.requires
+
+pub returns-clause-inside : goal.returns-clause-inside
+returns-clause-inside g c =
+    let whole : take c.loop-it.it-index c.args.all.now ≡ c.args.all.now = grind (arith, common_steps) in
+    (rw whole at c.loop-it.invariant.1).inside
 
 pub returns-clause-kept : goal.returns-clause-kept
 returns-clause-kept g c = c.loop-it.invariant.1.kept

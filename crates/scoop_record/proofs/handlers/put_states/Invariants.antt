@@ -1,7 +1,7 @@
 use Rattle.std.proofs.Common.{◌≡◌, take}
 use Rattle.sqlite.specs.Held.{state}
 use Rattle.scoop_record.proofs.StoringLemmas.{HasStored}
-use Rattle.scoop_record.proofs.migrate.put_states.Given as goal
+use Rattle.scoop_record.proofs.handlers.put_states.Given as goal
 
 abbrev pub invariant-loop-it : goal.invariant-loop-it
 invariant-loop-it g l =

@@ -1,0 +1,2 @@
+pub mod Recall
+pub use Rattle.scoop_link.specs.Link
