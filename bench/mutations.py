@@ -1,10 +1,9 @@
 #!/usr/bin/env python3
 """Tries the mutations that the gate leaves out: python3 bench/mutations.py [CRATE ..]
 
-They are in bench/mutations/CRATE. A gate checks a crate with mutations twice, so it leaves out those of histories, and of
-the crates above the protocol whose check takes more than 100 seconds: records, worlds, systems, texts, sessions, the
-runtime, journals, audits, the status, the demos and the shop. The script puts them into crates/CRATE/must-fail, calls `rt must-fail CRATE`, and takes them out
-again. Without names it tries those of all these crates, one after another. It ends with 1 if a mutation isn't refused.
+They are in bench/mutations/CRATE. A gate checks a crate with mutations twice, so it tries those of seven cheap crates
+alone. The script puts the others into crates/CRATE/must-fail, calls `rt must-fail CRATE`, and takes them out again. Without
+names it tries those of all these crates, one after another. It ends with 1 if a mutation isn't refused.
 """
 import argparse
 import pathlib
