@@ -10,6 +10,9 @@ use std::net::SocketAddr;
 
 /// A link whose parties can move to other addresses, and that knows where its last datagram came from.
 pub trait SetsAddress: Link {
+    ghost use Rattle.std.specs.declared.net.socket_addr.SocketAddr.{SocketAddr};
+    ghost use Rattle.scoop_link.specs.declared.party.Party.{Party};
+
     /// The addresses of the parties.
     ghost addresses: { Self → List (Party × Address) };
 
