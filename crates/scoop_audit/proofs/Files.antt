@@ -37,9 +37,10 @@ use Rattle.scoop_system.specs.Known.{handlers_on, known_in, numbers_on}
 use Rattle.scoop_system.specs.System.{NamedClass, Plan, class_named, class_table}
 use Rattle.scoop_system.specs.Used.{used_at}
 use Rattle.scoop_system.specs.Place.{Told, at, place_at}
+use Rattle.scoop_system.specs.Addresses.{addresses_at}
 use Rattle.scoop_system.specs.Value.{address_at, few as at_most, handler_name_at, in_range, key_fault, list_at, list_of, listed_words, number_at, some_word, status_at, text_at, whole_of}
 use Rattle.scoop_system.specs.Value.{words_at, words_in}
-use Rattle.scoop_system.specs.Meaning.{address_fault, batch_at, batch_in, class_or_own, client_keys, client_of, clients_from, clients_of, handler_class, handler_keys}
+use Rattle.scoop_system.specs.Meaning.{address_fault, addresses_fault, batch_at, batch_in, class_or_own, client_keys, client_of, clients_from, clients_of, handler_class, handler_keys}
 use Rattle.scoop_system.specs.Meaning.{handler_of, handlers_from, handlers_of, name_fault, new_client, new_handler, new_node, node_keys, node_of, nodes_from, nodes_of}
 use Rattle.scoop_system.specs.Meaning.{classes_of, file_keys, identity_of, number_of, own_class, parts_of, plan_of, status_fault, system_of, wrong_if}
 use Rattle.scoop_audit.specs.Parties.{MayRun, has_handlers, joins_in, nodes_in, placed_as, placed_in, placed_on, placements_in_file}
@@ -73,18 +74,18 @@ list_few k limit d ds is = let t = read_then _ (at_most k limit) ds is in few_ok
 
 node_new : (nodes : List NodePlace) (d : _) (n : NodePlace) → node_of nodes d ≡ Ok n → list_any (λ m. m.number == n.number) nodes ≡ false
 node_new nodes d n is =
-    let last : ℕ → SocketAddr → Option SocketAddr → Read Wrong NodePlace =
-    λ number address status. unless (address_fault nodes [] address) (unless (status_fault nodes status) (Ok (new_node number address status))) in
+    let last : ℕ → List SocketAddr → Option SocketAddr → Read Wrong NodePlace =
+    λ number addresses status. unless (addresses_fault nodes addresses) (unless (status_fault nodes status) (Ok (new_node number addresses status))) in
     let fresh : ℕ → Option Wrong = λ number. wrong_if (list_any (λ (m : NodePlace). m.number == number) nodes) Twice in
-    let end : ℕ → SocketAddr → Option SocketAddr → Read Wrong NodePlace = λ number address status. unless (fresh number) (last number address status) in
-    let a = unless_ok (key_fault node_keys d) (number_of d >>= λ number. address_at d >>= λ address. status_at d >>= λ status. end number address status) n is in
-    let b = read_then (number_of d) (λ number. address_at d >>= λ address. status_at d >>= λ status. end number address status) n a in
-    let e = read_then (address_at d) (λ address. status_at d >>= λ status. end b.value address status) n b.rest in
+    let end : ℕ → List SocketAddr → Option SocketAddr → Read Wrong NodePlace = λ number addresses status. unless (fresh number) (last number addresses status) in
+    let a = unless_ok (key_fault node_keys d) (number_of d >>= λ number. addresses_at d >>= λ addresses. status_at d >>= λ status. end number addresses status) n is in
+    let b = read_then (number_of d) (λ number. addresses_at d >>= λ addresses. status_at d >>= λ status. end number addresses status) n a in
+    let e = read_then (addresses_at d) (λ addresses. status_at d >>= λ status. end b.value addresses status) n b.rest in
     let f = read_then (status_at d) (λ status. end b.value e.value status) n e.rest in
     let none = wrong_none (list_any (λ (m : NodePlace). m.number == b.value) nodes) Twice
     (unless_none (fresh b.value) (last b.value e.value f.value) n f.rest) in
     let g = unless_ok (fresh b.value) (last b.value e.value f.value) n f.rest in
-    let h = unless_ok (address_fault nodes [] e.value) (unless (status_fault nodes f.value) (Ok (new_node b.value e.value f.value))) n g in
+    let h = unless_ok (addresses_fault nodes e.value) (unless (status_fault nodes f.value) (Ok (new_node b.value e.value f.value))) n g in
     let i = unless_ok (status_fault nodes f.value) (Ok (new_node b.value e.value f.value)) n h in
     let made = ok_same (Ok (new_node b.value e.value f.value)) (new_node b.value e.value f.value) n refl i in
     subst (λ (k : ℕ). list_any (λ (m : NodePlace). m.number == k) nodes ≡ false) (ap (λ (m : NodePlace). m.number) made) none

@@ -1,5 +1,5 @@
 -- A link over UDP, and the address of a party.
-use Rattle.std.specs.Prelude.{ℕ, List, [], ◌∷◌, find, Option}
+use Rattle.std.specs.Prelude.{◌≡◌, ℕ, List, [], ◌∷◌, find, map, if◌then◌else◌, Option, Some, None, Result, Ok, Err, IsSome}
 use Rattle.std.specs.Option.{option_map}
 use Rattle.std.specs.declared.net.ip_addr.IpAddr.{IpAddr}
 use Rattle.std.specs.declared.net.ip_addr.IpAddr.TheVariants.{V4, V6}
@@ -7,6 +7,7 @@ use Rattle.std.specs.declared.net.socket_addr.SocketAddr.{SocketAddr}
 use Rattle.std.specs.Net.Addr.{ipv4_octets, ipv6_octets}
 use Rattle.std.specs.Net.Socket.{socket_ip, socket_port, socket_flowinfo, socket_scope_id}
 use Rattle.scoop_link.specs.declared.party.Party.{Party}
+use Rattle.scoop_link.specs.declared.link.LinkFault.{LinkFault}
 use Rattle.scoop_link.specs.Party.{same_party}
 
 -- the octets of an IP address, four or sixteen, a port, and for sixteen octets a flow label and a scope
@@ -36,13 +37,14 @@ reached_at p = (p.0, address_of p.1)
 abbrev pub reached_here : Party × ℕ → Party × Address
 reached_here p = (p.0, local_address p.1)
 
--- the addresses of parties, and the count of faults
+-- the addresses of parties, where the last datagram came from, and the count of faults
 pub record UdpValue : Type 0 where
   pub addresses : List (Party × Address)
+  pub origin : Option SocketAddr
   pub faults : ℕ
 
 abbrev pub open_udp : List (Party × Address) → UdpValue
-open_udp addresses = record { addresses = addresses; faults = 0 }
+open_udp addresses = record { addresses = addresses; origin = None; faults = 0 }
 
 -- the first address listed for the party
 
@@ -51,3 +53,17 @@ socket_addr_to addresses to = option_map (λ p. p.1) (find (λ p. same_party p.0
 
 abbrev pub address_to : List (Party × Address) → Party → Option Address
 address_to addresses to = option_map (λ p. p.1) (find (λ p. same_party p.0 to) addresses)
+
+-- the party at another address; the others stay, and a party that isn't listed gets none
+
+abbrev pub moved : {A : Type 0} → Party → A → Party × A → Party × A
+moved party to p = if same_party p.0 party then (p.0, to) else p
+
+abbrev pub moved_all : Party → Address → List (Party × Address) → List (Party × Address)
+moved_all party to addresses = map (moved party to) addresses
+
+-- a receive: a datagram has an origin, and without one the last origin stays
+abbrev pub ComesFrom : Result (Option ℕ) LinkFault → (old new : Option SocketAddr) → Type 0
+ComesFrom (Ok (Some n)) old new = IsSome new
+ComesFrom (Ok None) old new = new ≡ old
+ComesFrom (Err fault) old new = new ≡ old

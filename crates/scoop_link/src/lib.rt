@@ -1,7 +1,7 @@
 //! Links: ways to send and receive datagrams, none of which is sure to arrive.
 //!
-//! [`Link`] is the contract of every link. [`UdpLink`] carries datagrams over UDP, and [`PacedLink`] holds
-//! repeated ones back while an earlier one may be on its way. A [`HoldingLink`] sends nothing before it is flushed. The
+//! [`Link`] is the contract of every link. [`UdpLink`] carries datagrams over UDP, to addresses that can change
+//! ([`SetsAddress`]), and [`PacedLink`] holds repeated ones back while an earlier one may be on its way. A [`HoldingLink`] sends nothing before it is flushed. The
 //! others are for tests. The two ends of a
 //! [`ScriptLink`] share lanes that drop and double by a script, and a [`TapeLink`] plays datagrams to its user and
 //! records those sent. No send and no receive takes memory.
@@ -34,6 +34,7 @@ mod paced_link;
 mod party;
 mod script;
 mod script_link;
+mod sets_address;
 mod tape_link;
 mod udp_link;
 
@@ -45,5 +46,6 @@ pub use paced_link::{PacedLink, REPEATS};
 pub use party::Party;
 pub use script::Script;
 pub use script_link::ScriptLink;
+pub use sets_address::SetsAddress;
 pub use tape_link::TapeLink;
 pub use udp_link::{Addresses, OpenLinkError, Peers, UdpLink};

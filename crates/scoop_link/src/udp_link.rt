@@ -1,14 +1,15 @@
 //! A link over UDP.
 
-ghost use Rattle.std.specs.Prelude.{◌≡◌, ◌==◌, ◌≤◌, map, None, Err, IfOk, IfSome, IfNone, IsOk};
+ghost use Rattle.std.specs.Prelude.{◌≡◌, ◌==◌, ◌≤◌, [], map, None, Err, IfOk, IfSome, IfNone, IsOk};
 ghost use Rattle.std.specs.Bool.{OnTrue};
 ghost use Rattle.std.specs.List.{list_any};
 ghost use Rattle.std.specs.Net.Socket.{socket_port};
-ghost use Rattle.scoop_link.specs.Link.{CountsFault};
-ghost use Rattle.scoop_link.specs.Udp.{address_of, local_address, reached_at, reached_here, socket_addr_to, address_to, open_udp};
+ghost use Rattle.scoop_link.specs.Link.{CountsFault, Exchanges};
+ghost use Rattle.scoop_link.specs.Udp.{ComesFrom, address_of, local_address, moved, moved_all, reached_at, reached_here, socket_addr_to, address_to, open_udp};
 
 use crate::link::{Link, LinkFault};
 use crate::party::Party;
+use crate::sets_address::SetsAddress;
 use scoop_message::limits::BUFFER_LEN;
 use std::alloc::{AllocError, Allocator, Global};
 use std::io;
@@ -55,13 +56,15 @@ pub enum OpenLinkError {
     OutOfMemory,
 }
 
-/// A socket, with the addresses of the parties that it reaches. Contracts see these and the count of faults.
+/// A socket, with the addresses of the parties that it reaches. Contracts see these, where the last datagram came from, and
+/// the count of faults.
 ///
 /// A datagram to a party without an address is lost. A receive waits about ten milliseconds, over addresses four to eight.
 #[derive(Drop)]
 pub struct UdpLink<A: Allocator = Global> {
     socket: UdpSocket,
     addresses: Vec<(Party, SocketAddr), A>,
+    origin: Option<SocketAddr>,
     faults: u64,
 }
 
@@ -71,7 +74,7 @@ impl<A: Allocator> Model for UdpLink<A> {
 
     ghost Value = { UdpValue };
 
-    ghost view = { λ l. record { addresses = map reached_at l.addresses.items; faults = l.faults } };
+    ghost view = { λ l. record { addresses = map reached_at l.addresses.items; origin = l.origin; faults = l.faults } };
 }
 
 // A port of this machine.
@@ -125,6 +128,24 @@ fn socket_addr_to(addresses: &[(Party, SocketAddr)], to: Party) -> Option<Socket
         .map(|(_, address)| *address)
 }
 
+// Moves a listed party to another address, if it is this one.
+fn move_to(listed: &mut (Party, SocketAddr), party: Party, to: SocketAddr)
+    ensures { listed.new ≡ moved party to listed.old }
+{
+    if listed.0 == party {
+        listed.1 = to;
+    }
+}
+
+// The same for each.
+fn move_all<A: Allocator>(addresses: &mut Vec<(Party, SocketAddr), A>, party: Party, to: SocketAddr)
+    ensures { addresses.new.items ≡ map (moved party to) addresses.old.items }
+{
+    for listed in addresses.iter_mut() {
+        move_to(listed, party, to);
+    }
+}
+
 impl<A: Allocator> UdpLink<A> {
     /// Binds one's own port. `Fault` means that a party's port is 0 or the system refuses one's own; then
     /// `OutOfMemory`, that there is no memory for the parties' ports.
@@ -144,6 +165,7 @@ impl<A: Allocator> UdpLink<A> {
         Ok(UdpLink {
             socket,
             addresses,
+            origin: None,
             faults: 0,
         })
     }
@@ -170,6 +192,7 @@ impl<A: Allocator> UdpLink<A> {
         Ok(UdpLink {
             socket,
             addresses,
+            origin: None,
             faults: 0,
         })
     }
@@ -200,10 +223,14 @@ impl<A: Allocator> Link for UdpLink<A> {
         ensures in_bounds { IfOk result (λ got. IfSome got (λ n. n ≤ BUFFER_LEN)) }
         ensures faults { CountsFault result self.old.faults self.new.faults }
 
-        ensures others { self.new ≡ record self.old { faults = self.new.faults } }
+        ensures origin { ComesFrom result self.old.origin self.new.origin }
+        ensures others { self.new ≡ record self.old { origin = self.new.origin; faults = self.new.faults } }
     {
         match self.socket.recv_from(buffer) {
-            Ok((len, _)) => Ok(Some(len)),
+            Ok((len, from)) => {
+                self.origin = Some(from);
+                Ok(Some(len))
+            }
             Err(e) if matches!(e.kind(), ErrorKind::WouldBlock | ErrorKind::Interrupted) => Ok(
                 None,
             ),
@@ -225,5 +252,22 @@ impl<A: Allocator> Link for UdpLink<A> {
 
     fn faults(&self) -> u64 {
         self.faults
+    }
+}
+
+impl<A: Allocator> SetsAddress for UdpLink<A> {
+    ghost addresses = { λ l. l.addresses };
+
+    ghost came_from = { λ l. l.origin };
+
+    #[tactic(auto, using(crate::proofs::Udp::moved_reached))]
+    fn set_address(&mut self, party: Party, address: SocketAddr)
+        ensures moved { self.new ≡ record self.old { addresses = moved_all party (address_of address) self.old.addresses } }
+    {
+        move_all(&mut self.addresses, party, address);
+    }
+
+    fn origin(&self) -> Option<SocketAddr> {
+        self.origin
     }
 }

@@ -1,4 +1,5 @@
 pub mod Forwarding
 pub mod News
 pub mod Texts
+pub mod Turning
 pub mod Waiting

@@ -1,7 +1,7 @@
 //! Links of a running node or client, each around another link.
 //!
 //! A [`PatientLink`] tolerates failed calls. A [`NewsLink`] drops stale replies. A [`WaitingLink`] reports the handlers
-//! that its client waits for. The call [`client_link`] puts them around a client's link. A [`LentLink`] is a link that
+//! that its client waits for. A [`TurningLink`] turns to the next address of a node that doesn't reply. The call [`client_link`] puts them around a client's link. A [`LentLink`] is a link that
 //! one life of a client borrows. The call [`print_numbers`] writes the numbers of handlers, as the reports do.
 //!
 //! ```
@@ -17,6 +17,7 @@ mod lent_link;
 mod news_link;
 mod numbers;
 mod patient_link;
+mod turning_link;
 mod waiting_link;
 
 pub use client_links::client_link;
@@ -24,4 +25,5 @@ pub use lent_link::LentLink;
 pub use news_link::{NewsLink, Talk};
 pub use numbers::print_numbers;
 pub use patient_link::PatientLink;
+pub use turning_link::{Road, TurningLink};
 pub use waiting_link::{Awaited, WaitingLink};

@@ -9,6 +9,7 @@ mod newest;
 mod owners;
 mod pacing;
 mod recall;
+mod turning;
 
 use scoop_link::{Link, Party, TapeLink};
 use scoop_message::HandlerId;

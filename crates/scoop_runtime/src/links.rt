@@ -1,43 +1,54 @@
 //! The links of nodes and clients.
 
 use scoop_errors::PartyError;
-use scoop_link::{Addresses, Party, UdpLink};
+use scoop_link::{Addresses, OpenLinkError, Party, SetsAddress, UdpLink};
+use scoop_links::{Road, TurningLink};
 use scoop_message::OutOfMemory;
 use scoop_system::{ClientPlace, NodePlace, System};
 use scoop_texts::RuntimeError;
 use std::alloc::Global;
 use std::net::{Net, SocketAddr};
 
-// Binds the party's own address. The table has the addresses of the others.
+// Binds the first of the party's own addresses that is free on this machine. The table has the addresses of the others.
 fn open_link<R: Net>(
     rt: &R,
     alloc: Global,
-    own: SocketAddr,
+    own: &[SocketAddr],
     table: &[(Party, SocketAddr)],
-) -> Result<UdpLink, RuntimeError> {
-    match UdpLink::open_at(rt, alloc, Addresses { own, table }) {
-        Ok(link) => Ok(link),
-        Err(error) => Err(RuntimeError::from(PartyError::from(error))),
+) -> Result<(UdpLink, SocketAddr), RuntimeError> {
+    for address in own {
+        let addresses = Addresses {
+            own: *address,
+            table,
+        };
+        match UdpLink::open_at(rt, alloc, addresses) {
+            Ok(link) => return Ok((link, *address)),
+            Err(OpenLinkError::Fault) => {}
+            Err(error) => return Err(RuntimeError::from(PartyError::from(error))),
+        }
     }
+    Err(RuntimeError::from(PartyError::from(OpenLinkError::Fault)))
 }
 
-/// The link of a node, which reaches each client of the system. `link: Fault` if the node's address can't be bound.
+/// The link of a node, which reaches each client of the system, and the place where the node stands: at the first of its addresses
+/// that can be bound. `link: Fault` if none can.
 pub fn open_node_link<R: Net>(
     rt: &R,
     alloc: Global,
     system: &System,
     node: &NodePlace,
-) -> Result<UdpLink, RuntimeError> {
+) -> Result<(UdpLink, NodePlace), RuntimeError> {
     let mut table = Vec::new(alloc);
     for place in system.clients() {
         let entry = (Party::Client(place.client), place.address);
         table.push(entry).map_err(OutOfMemory::from)?;
     }
-    open_link(rt, alloc, node.address, &table)
+    let (link, address) = open_link(rt, alloc, node.addresses.as_slice(), &table)?;
+    Ok((link, node.at(address)))
 }
 
-/// The link of a client, which reaches each handler of the system at its node. `link: Fault` if the client's address
-/// can't be bound.
+/// The link of a client, which reaches each handler of the system at the first address of its node. `link: Fault` if the client's
+/// address can't be bound.
 pub fn open_client_link<R: Net>(
     rt: &R,
     alloc: Global,
@@ -51,5 +62,26 @@ pub fn open_client_link<R: Net>(
             table.push(entry).map_err(OutOfMemory::from)?;
         }
     }
-    open_link(rt, alloc, client.address, &table)
+    let (link, _) = open_link(rt, alloc, &[client.address], &table)?;
+    Ok(link)
+}
+
+/// The link of a client to these addresses, which turns to the next one of a node that doesn't reply ([`TurningLink`]).
+/// `OutOfMemory` is the one error.
+pub fn turning_link<L: SetsAddress>(
+    alloc: Global,
+    system: &System,
+    link: L,
+) -> Result<TurningLink<L>, OutOfMemory> {
+    let mut roads = Vec::new(alloc);
+    for place in system.handlers() {
+        match system.node(place.node) {
+            Some(node) if node.addresses.as_slice().len() > 1 => {
+                let road = Road::new(place.handler, node.addresses);
+                roads.push(road).map_err(OutOfMemory::from)?;
+            }
+            _ => {}
+        }
+    }
+    Ok(TurningLink::new(link, roads))
 }

@@ -70,7 +70,8 @@ fn node_link<R: Net>(
     number: u32,
 ) -> Option<Result<UdpLink, RuntimeError>> {
     let place = system.node(number)?;
-    Some(open_node_link(rt, alloc, system, place))
+    let opened = open_node_link(rt, alloc, system, place);
+    Some(opened.map(|(link, _)| link))
 }
 
 /// Serves a node over this link, for `turns` or until it is asked to end. Returns its keeper or its error, and its output.

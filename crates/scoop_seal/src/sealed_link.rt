@@ -7,9 +7,10 @@ ghost use Rattle.scoop_seal.specs.Sealed.{seals, fault_sum, own_after, gone, Ope
 
 use crate::key::Key;
 use crate::tag::{MAX_BYTES, opened, seal};
-use scoop_link::{Link, LinkFault, Party};
+use scoop_link::{Link, LinkFault, Party, SetsAddress};
 use scoop_message::limits::BUFFER_LEN;
 use std::marker::Model;
+use std::net::SocketAddr;
 
 // The most datagrams that one receive takes.
 const MAX_TAKEN: usize = 64;
@@ -168,5 +169,19 @@ impl<L: Link> Link for SealedLink<L> {
 
     fn faults(&self) -> u64 {
         self.count()
+    }
+}
+
+impl<L: SetsAddress> SetsAddress for SealedLink<L> {
+    ghost addresses = { λ s. L.addresses s.inner };
+
+    ghost came_from = { λ s. L.came_from s.inner };
+
+    fn set_address(&mut self, party: Party, address: SocketAddr) {
+        self.inner.set_address(party, address);
+    }
+
+    fn origin(&self) -> Option<SocketAddr> {
+        self.inner.origin()
     }
 }

@@ -17,6 +17,7 @@ use Rattle.scoop_system.specs.Value.{list_of, list_at, names_of, words_at, some_
 use Rattle.scoop_system.specs.Name.{told}
 use Rattle.scoop_system.specs.declared.place.HandlerPlace.{HandlerPlace}
 use Rattle.scoop_system.specs.Used.{listed_used, some_used}
+use Rattle.scoop_system.specs.Addresses.{addresses_in, some_addresses}
 
 -- the values of a list
 pub list_of_view : (vs : List Value) → list_of (items_view vs) ≡ map view vs
@@ -62,6 +63,10 @@ words_listed d list vs found array = rw (found, array, list_of_view vs) refl
 pub used_listed : (handlers : List HandlerPlace) (list : Data) (vs : List Value) → as_array list ≡ Some (items_view vs)
     → some_used handlers (map view vs) ≡ listed_used handlers (as_array list)
 used_listed handlers list vs array = rw (array, list_of_view vs) refl
+
+-- the addresses of a node
+pub addresses_listed : (d : Data) (vs : List Value) → as_array d ≡ Some (items_view vs) → some_addresses (map view vs) ≡ addresses_in d (as_array d)
+addresses_listed d vs array = rw (array, list_of_view vs) refl
 
 -- the first key that isn't known, and none
 pub key_unknown : (known : List Key) (d : Data) (m : BTreeMap (String Global) Value) (name : String Global) → as_table d ≡ Some (table_view m)

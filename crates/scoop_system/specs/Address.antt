@@ -1,5 +1,6 @@
 -- The socket address that a text writes.
-use Rattle.std.specs.Prelude.{ℕ, Bool, List, Option, Some, None}
+use Rattle.std.specs.Prelude.{ℕ, Bool, List, [], ◌∷◌, Option, Some, None}
+use Rattle.std.specs.List.{list_any}
 use Rattle.std.specs.Option.{option_map}
 use Rattle.std.specs.declared.net.socket_addr.SocketAddr.{SocketAddr}
 use Rattle.std.specs.declared.net.socket_addr.SocketAddr.TheVariants.{V4, V6}
@@ -23,3 +24,16 @@ address_of text = or_else (option_map v4_of (whole_value (read_socket_v4 text)))
 -- the same IP address with the same port
 abbrev pub same_address : SocketAddr → SocketAddr → Bool
 same_address = on_address.eq-value.it
+
+-- the address is among these
+abbrev pub has_address : List SocketAddr → SocketAddr → Bool
+has_address addresses a = list_any (λ own. same_address own a) addresses
+
+-- the value of an unused cell of a node's addresses
+abbrev pub nowhere : SocketAddr
+nowhere = v4_of (0 ∷ 0 ∷ 0 ∷ 0 ∷ [], 0)
+
+-- the first of a node's addresses
+abbrev pub first_of : List SocketAddr → SocketAddr
+first_of [] = nowhere
+first_of (a ∷ rest) = a

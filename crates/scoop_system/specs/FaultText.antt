@@ -1,7 +1,9 @@
 -- Texts of faults.
 use Rattle.std.specs.Prelude.{ℕ, List, [], ◌++◌, codes, Option, Some, None}
 use Rattle.std.specs.Fmt.{decimal}
+use Rattle.std.specs.Net.Text.{socket_text}
 use Rattle.scoop_message.specs.declared.limits.TheConstants.{MAX_HANDLERS, MAX_WORDS}
+use Rattle.scoop_system.specs.declared.node_addresses.TheConstants.{MAX_ADDRESSES}
 use Rattle.scoop_system.specs.declared.error.Place.{Place}
 use Rattle.scoop_system.specs.declared.error.Place.TheVariants as place
 use Rattle.scoop_system.specs.declared.error.Wrong.{Wrong}
@@ -26,6 +28,7 @@ place_text (place.NamelessOperation count class) = codes "[[class.operation]] " 
 -- the text of a fault that names nothing; empty for the others
 abbrev pub plain_text : Wrong → List ℕ
 plain_text wrong.OtherFamily = codes "address must have the same family, IPv4 or IPv6, as the first one"
+plain_text wrong.NotAddresses = codes "address must be one address or a list of 1 to " ++ decimal MAX_ADDRESSES
 plain_text wrong.NoTable = codes "not a table"
 plain_text wrong.Twice = codes "defined twice"
 plain_text wrong.KnownClass = codes "every system already has a class of this name"
@@ -42,6 +45,7 @@ wrong_text (wrong.Missing key) = codes "no " ++ key_text key
 wrong_text (wrong.NotANumber key low high) = key_text key ++ codes " must be a whole number from " ++ decimal low ++ codes " to " ++ decimal high
 wrong_text (wrong.NotAName key) = key_text key ++ codes " must be 1 to 32 letters, digits, _ or -, beginning with a letter"
 wrong_text (wrong.NotAnAddress key) = key_text key ++ codes " must be an IP address with a port from 1 to 65535"
+wrong_text (wrong.AddressTwice address) = codes "address " ++ socket_text address ++ codes " stands twice"
 wrong_text (wrong.AddressOf kind number) = codes "address is already used by " ++ key_text kind ++ codes " " ++ decimal number
 wrong_text (wrong.StatusOf number) = codes "status is already used by node " ++ decimal number
 wrong_text (wrong.NotAList key) = key_text key ++ codes " must be a list" ++ hint_text key

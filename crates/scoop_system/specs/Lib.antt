@@ -15,6 +15,7 @@ pub mod Address
 pub mod KeyText
 pub mod FaultText
 pub mod Value
+pub mod Addresses
 pub mod Place
 pub mod Formulas
 pub mod Terms

@@ -26,9 +26,10 @@ use Rattle.scoop_system.specs.declared.identity.Identity.{Identity}
 use Rattle.scoop_system.specs.declared.reading.TheConstants.{MAX_CLASSES}
 use Rattle.scoop_system.specs.Name.{told}
 use Rattle.scoop_system.specs.System.{Plan, NamedClass, class_named, has_name}
+use Rattle.scoop_system.specs.Addresses.{addresses_at}
 use Rattle.scoop_system.specs.Value.{number_at, text_at, name_at, address_at, status_at, words_at, handler_name_at, list_at, key_fault, in_range, whole_of}
 use Rattle.scoop_system.specs.KeyText.{key_text}
-use Rattle.scoop_system.specs.Address.{same_address}
+use Rattle.scoop_system.specs.Address.{same_address, has_address, first_of}
 use Rattle.scoop_system.specs.Place.{Told, at, place_at}
 use Rattle.scoop_system.specs.Classes.{classes_from}
 use Rattle.scoop_system.specs.Used.{used_at}
@@ -64,7 +65,7 @@ first_address (n ∷ ns) clients = Some n.address
 
 -- the node, or the client, that has the address
 abbrev pub node_at : List NodePlace → SocketAddr → Option NodePlace
-node_at nodes a = find (λ n. same_address n.address a) nodes
+node_at nodes a = find (λ n. has_address n.addresses a) nodes
 
 abbrev pub client_at : List ClientPlace → SocketAddr → Option ClientPlace
 client_at clients a = find (λ c. same_address c.address a) clients
@@ -80,6 +81,19 @@ address_taken nodes clients a =
 -- the fault of the address of a party after these: a party has it, or it is of the other family
 abbrev pub address_fault : List NodePlace → List ClientPlace → SocketAddr → Option Wrong
 address_fault nodes clients a = or_else (address_taken nodes clients a) (wrong_if (other_family (first_address nodes clients) a) OtherFamily)
+
+abbrev pub some_fault : List NodePlace → List SocketAddr → Option Wrong
+some_fault nodes [] = None
+some_fault nodes (a ∷ rest) = or_else (address_fault nodes [] a) (some_fault nodes rest)
+
+-- addresses of both families
+abbrev pub is_mixed : List SocketAddr → Bool
+is_mixed [] = false
+is_mixed (a ∷ rest) = list_any (other_family (Some a)) rest
+
+-- the fault of the addresses of a node after these: the first fault of one, or that they are of both families
+abbrev pub addresses_fault : List NodePlace → List SocketAddr → Option Wrong
+addresses_fault nodes addresses = or_else (some_fault nodes addresses) (wrong_if (is_mixed addresses) OtherFamily)
 
 abbrev pub node_keys : List Key
 node_keys = key.Number ∷ key.Address ∷ key.Status ∷ []
@@ -97,16 +111,17 @@ abbrev pub status_fault : List NodePlace → Option SocketAddr → Option Wrong
 status_fault nodes None = None
 status_fault nodes (Some a) = option_map (λ n. StatusOf n.number) (status_node nodes a)
 
-abbrev pub new_node : ℕ → SocketAddr → Option SocketAddr → NodePlace
-new_node number address status = record { number = number; address = address; status = status }
+-- a node stands at its first address
+abbrev pub new_node : ℕ → List SocketAddr → Option SocketAddr → NodePlace
+new_node number addresses status = record { number = number; address = first_of addresses; addresses = addresses; status = status }
 
 -- a node, after those before it
 abbrev pub node_of : List NodePlace → Data → Read Wrong NodePlace
 node_of nodes d =
     unless (key_fault node_keys d)
-    (number_of d >>= λ number. address_at d >>= λ address. status_at d >>= λ status.
+    (number_of d >>= λ number. addresses_at d >>= λ addresses. status_at d >>= λ status.
     unless (wrong_if (list_any (λ n. n.number == number) nodes) Twice)
-    (unless (address_fault nodes [] address) (unless (status_fault nodes status) (Ok (new_node number address status)))))
+    (unless (addresses_fault nodes addresses) (unless (status_fault nodes status) (Ok (new_node number addresses status)))))
 
 abbrev pub nodes_from : List NodePlace → List Data → Told (List NodePlace)
 nodes_from nodes [] = Ok nodes

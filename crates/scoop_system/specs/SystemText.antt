@@ -49,9 +49,14 @@ abbrev pub status_text : Option SocketAddr → List ℕ
 status_text None = []
 status_text (Some address) = codes " status " ++ socket_text address
 
+-- addresses, with a space before each
+abbrev pub addresses_text : List SocketAddr → List ℕ
+addresses_text [] = []
+addresses_text (a ∷ rest) = codes " " ++ socket_text a ++ addresses_text rest
+
 abbrev pub node_text : List HandlerPlace → NodePlace → List ℕ
 node_text handlers n =
-    codes "node " ++ decimal n.number ++ codes " " ++ socket_text n.address ++ status_text n.status ++ codes "\n" ++ handlers_text n.number handlers
+    codes "node " ++ decimal n.number ++ addresses_text n.addresses ++ status_text n.status ++ codes "\n" ++ handlers_text n.number handlers
 
 abbrev pub nodes_text : List HandlerPlace → List NodePlace → List ℕ
 nodes_text handlers [] = []

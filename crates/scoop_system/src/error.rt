@@ -3,6 +3,7 @@
 use crate::name::Name;
 use std::error::Error;
 use std::fmt;
+use std::net::SocketAddr;
 
 /// Why a text is no system. Printed after the file's name.
 #[derive(Clone, Copy, Debug)]
@@ -87,6 +88,10 @@ pub enum Wrong {
     NotAName(Key),
     /// The value of the key isn't an IP address with a port that isn't 0.
     NotAnAddress(Key),
+    /// The addresses of a node aren't a list of 1 to 4.
+    NotAddresses,
+    /// The node has this address twice.
+    AddressTwice(SocketAddr),
     /// The address is that of this node or client.
     AddressOf(Key, u32),
     /// The status address is that of this node.
@@ -288,6 +293,7 @@ impl Wrong {
         match self {
             Wrong::OtherFamily =>
                 "address must have the same family, IPv4 or IPv6, as the first one",
+            Wrong::NotAddresses => "address must be one address or a list of 1 to 4",
             Wrong::NoTable => "not a table",
             Wrong::Twice => "defined twice",
             Wrong::KnownClass => "every system already has a class of this name",
@@ -323,6 +329,7 @@ impl fmt::Display for Wrong {
             Wrong::NotAnAddress(key) => {
                 write!(f, "{key} must be an IP address with a port from 1 to 65535")
             }
+            Wrong::AddressTwice(address) => write!(f, "address {address} stands twice"),
             Wrong::AddressOf(kind, number) => write!(
                 f,
                 "address is already used by {kind} {number}"
@@ -355,6 +362,7 @@ impl fmt::Display for Wrong {
             Wrong::NoHandlerNamed(name) => write!(f, "no such handler \"{name}\""),
             Wrong::HandlerTwice(number) => write!(f, "handler {number} stands twice"),
             Wrong::OtherFamily
+            | Wrong::NotAddresses
             | Wrong::NoTable
             | Wrong::Twice
             | Wrong::KnownClass

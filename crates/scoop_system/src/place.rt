@@ -2,6 +2,7 @@
 
 use crate::name::Name;
 use crate::named_handlers::NamedHandlers;
+use crate::node_addresses::NodeAddresses;
 use scoop_classes::DemoClass;
 use scoop_message::{ClientId, HandlerId, Words};
 use std::fmt;
@@ -11,10 +12,28 @@ use std::net::SocketAddr;
 #[derive(Clone, Copy)]
 pub struct NodePlace {
     pub number: u32,
-    /// Its port isn't 0, all addresses of the system are of its family, and no other party has it.
+    /// The one of its addresses at which it stands: the first, unless it was bound at another one.
     pub address: SocketAddr,
+    /// At least one, each once. No port is 0, all addresses of the system are of one family, and no other party has one of these.
+    pub addresses: NodeAddresses,
     /// The address of its status page, if it has one. Its port isn't 0, and no other node has it.
     pub status: Option<SocketAddr>,
+}
+
+impl NodePlace {
+    ghost use Rattle.std.specs.Prelude.{◌≡◌};
+
+    /// The same node, which stands at this address.
+    pub fn at(&self, address: SocketAddr) -> NodePlace
+        ensures { result ≡ record self.now { address = address } }
+    {
+        NodePlace {
+            number: self.number,
+            address,
+            addresses: self.addresses,
+            status: self.status,
+        }
+    }
 }
 
 /// The class of a handler's object.

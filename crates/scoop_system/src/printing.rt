@@ -2,7 +2,7 @@
 
 ghost use Rattle.std.specs.Prelude.{OnOk};
 ghost use Rattle.std.specs.Io.KnownBytes.{Appends};
-ghost use Rattle.scoop_system.specs.SystemText.{system_text, nodes_text, node_text, handlers_text, handler_text, numbers_text, clients_text, client_text, status_text, name_text, identity_text, own_name_text, life_text, used_text, handler_numbers_text};
+ghost use Rattle.scoop_system.specs.SystemText.{system_text, nodes_text, node_text, addresses_text, handlers_text, handler_text, numbers_text, clients_text, client_text, status_text, name_text, identity_text, own_name_text, life_text, used_text, handler_numbers_text};
 
 mod class;
 
@@ -84,11 +84,24 @@ fn print_node<W: Write>(
     ensures { OnOk result (Appends (W.contents writer.old) (W.contents writer.new) (node_text handlers.now node.now)) }
 {
     let number = node.number;
-    let address = node.address;
-    write!(writer, "node {number} {address}")?;
+    write!(writer, "node {number}")?;
+    print_addresses(node.addresses.as_slice(), writer)?;
     print_status(node.status, writer)?;
     writeln!(writer)?;
     print_handlers(number, handlers, writer)
+}
+
+// Addresses, with a space before each.
+fn print_addresses<W: Write>(addresses: &[SocketAddr], writer: &mut W) -> io::Result<()>
+    ensures { OnOk result (Appends (W.contents writer.old) (W.contents writer.new) (addresses_text addresses.now)) }
+{
+    match addresses {
+        [] => Ok(()),
+        [first, rest @ ..] => {
+            write!(writer, " {first}")?;
+            print_addresses(rest, writer)
+        }
+    }
 }
 
 // The status address of a node, if it has one.

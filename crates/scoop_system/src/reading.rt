@@ -9,6 +9,7 @@ ghost use Rattle.scoop_system.specs.Meaning.{parts_of, system_of};
 ghost use Rattle.scoop_system.specs.File.{Means, SaysNoSystem};
 ghost use Rattle.scoop_system.specs.Stop.{IfFault};
 
+mod addresses;
 mod class;
 mod formula;
 mod identity;

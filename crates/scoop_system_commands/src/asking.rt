@@ -12,11 +12,13 @@ use scoop_command_line::{ClientOptions, StoreChoice};
 use scoop_files::{NamedKeeper, StoreName, close};
 use scoop_journal::{JournalFile, Owner};
 use scoop_keeper::Keeper;
-use scoop_link::Link;
+use scoop_link::{Link, SetsAddress};
 use scoop_message::ClientId;
 use scoop_pacing::{MeasuredLink, SystemTimes};
 use scoop_report::{Hints, Status, hint, report};
-use scoop_runtime::{ClientPlan, ClientProgram, FileFault, check_script, open_client_link};
+use scoop_runtime::{
+    ClientPlan, ClientProgram, FileFault, check_script, open_client_link, turning_link,
+};
 use scoop_seal::{Key, SealedLink};
 use scoop_system::System;
 use std::alloc::Global;
@@ -189,8 +191,8 @@ fn run_at<T: Net, C: ClientTask>(
     }
 }
 
-// Runs the client over this link, whose round trips decide when a datagram goes again.
-fn run_measured<L: Link, C: ClientTask>(
+// Runs the client over this link to the nodes' addresses. Its round trips decide when a datagram goes again.
+fn run_measured<L: SetsAddress, C: ClientTask>(
     rt: &HostRuntime,
     options: &ClientOptions<'_>,
     plan: &ClientPlan<'_>,
@@ -201,6 +203,7 @@ fn run_measured<L: Link, C: ClientTask>(
     let handlers = plan.system().handlers().len();
     let client = plan.place().client;
     let clock = SystemTimes::new(rt);
+    let link = turning_link(rt.alloc(), plan.system(), link)?;
     let link = MeasuredLink::new(rt.alloc(), link, clock, handlers, client.0)?;
     run_stored(rt, options, plan, journal, link, task)
 }

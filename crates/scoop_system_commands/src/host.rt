@@ -53,7 +53,7 @@ pub(crate) struct Host<K: Keeper<Global>> {
 }
 
 impl<K: Keeper<Global> + Send> Host<K> {
-    /// The node at this place over its port and this keeper.
+    /// The node of this place, at the first of its addresses that is free, over this keeper.
     pub(crate) fn open<T: Net>(
         rt: &HostRuntime,
         net: &T,
@@ -63,8 +63,8 @@ impl<K: Keeper<Global> + Send> Host<K> {
         keeper: K,
         name: Option<StoreName>,
     ) -> Result<Host<K>, RuntimeError> {
-        let plan = NodePlan::of(rt.alloc(), system, place)?;
-        let link = open_node_link(net, rt.alloc(), system, place)?;
+        let (link, place) = open_node_link(net, rt.alloc(), system, place)?;
+        let plan = NodePlan::of(rt.alloc(), system, &place)?;
         let clients = clients_of(rt.alloc(), system)?;
         Ok(Host {
             plan,

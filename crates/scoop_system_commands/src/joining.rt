@@ -10,7 +10,7 @@ use scoop_keeper::Keeper;
 use scoop_link::UdpLink;
 use scoop_message::OutOfMemory;
 use scoop_report::{Hints, hint, report};
-use scoop_runtime::{Backoff, ClientPlan, Ending, client_run};
+use scoop_runtime::{Backoff, ClientPlan, Ending, TurningLink, client_run};
 use std::alloc::Global;
 use std::io::BufWriter;
 use std::net::Net;
@@ -26,7 +26,7 @@ struct Asking<'a, 'p, 'k, 'n, K: Keeper<Global>, T: Net> {
     net: &'a T,
     plan: &'a ClientPlan<'p>,
     keeper: &'k mut K,
-    link: UdpLink,
+    link: TurningLink<UdpLink>,
     names: &'n [StoreName],
 }
 
@@ -53,7 +53,7 @@ pub(crate) fn run_beside<K, C, T>(
     hosts: Vec<Host<K>>,
     plan: &ClientPlan<'_>,
     keeper: &mut C,
-    link: UdpLink,
+    link: TurningLink<UdpLink>,
     names: &[StoreName],
 ) -> (Vec<Host<K>>, Result<(), End>)
 where
@@ -116,7 +116,7 @@ fn ask<K: Keeper<Global>, T: Net>(
     net: &T,
     plan: &ClientPlan<'_>,
     keeper: &mut K,
-    link: UdpLink,
+    link: TurningLink<UdpLink>,
     names: &[StoreName],
 ) -> Result<(), End> {
     let alloc = rt.alloc();

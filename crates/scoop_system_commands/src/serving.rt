@@ -11,10 +11,10 @@ use crate::watching::{Served, Shown, level_of, open_server, run_watched};
 use jiff::Timestamp;
 use scoop_command_line::{NodeOptions, StoreChoice};
 use scoop_files::{FiledStore, NamedKeeper, StoreName, close_named};
-use scoop_journal::Owner;
+use scoop_journal::{JournalFile, Owner};
 use scoop_journal_keeper::{JournaledKeeper, Storage};
 use scoop_keeper::{Keeper, MemoryKeeper};
-use scoop_link::{HoldingLink, Link};
+use scoop_link::{HoldingLink, Link, UdpLink};
 use scoop_message::OutOfMemory;
 use scoop_record::{GatheringStore, Store};
 use scoop_report::{Hints, Status, hint, report};
@@ -104,7 +104,6 @@ fn serve_in<T: Threads + Wait + Clock + Net + Sync, O: Objects + Sync>(
         ));
     };
     let key = read_key(rt, options.key, system)?;
-    warn_unsealed(rt, key, place.address);
     check_owner(rt, options.store, system, Owner::Node(number))?;
     let party = Party {
         system,
@@ -122,6 +121,7 @@ fn serve_in<T: Threads + Wait + Clock + Net + Sync, O: Objects + Sync>(
         },
         log: level_of(options),
         status: status_of(rt, options, place)?,
+        may_lack_page: options.status.is_none() && place.addresses.as_slice().len() > 1,
     };
     match serve_journaled(rt, threads, options, serving, &shown, key, objects) {
         Ok(()) => Ok(()),
@@ -181,41 +181,59 @@ fn status_of(
 }
 
 // Serves the node with its journal, if it writes one.
-fn serve_journaled<'a, T: Threads + Wait + Clock + Net + Sync, O: Objects + Sync>(
+fn serve_journaled<T: Threads + Wait + Clock + Net + Sync, O: Objects + Sync>(
     rt: &HostRuntime,
     threads: &T,
     options: &NodeOptions<'_>,
-    serving: &'a Serving,
-    shown: &'a Shown<'a>,
+    serving: &Serving,
+    shown: &Shown<'_>,
     key: Option<Key>,
     objects: &O,
 ) -> Result<(), End> {
-    let (system, place) = (shown.about.system, &shown.about.place);
-    let journal = open_journal(rt, options.journal, Owner::Node(place.number))?;
+    let owner = Owner::Node(shown.about.place.number);
+    let journal = open_journal(rt, options.journal, owner)?;
     let journal = journal.as_ref();
-    let plan = NodePlan::of(rt.alloc(), system, place)?.with(objects);
+    let store = options.store;
+    let ended = serve_bound(rt, threads, store, serving, shown, journal, key, objects);
+    with_journal(journal, ended)
+}
+
+// Serves the node at the first of its addresses that is free on this machine.
+fn serve_bound<T: Threads + Wait + Clock + Net + Sync, O: Objects + Sync>(
+    rt: &HostRuntime,
+    threads: &T,
+    store: StoreChoice<'_>,
+    serving: &Serving,
+    shown: &Shown<'_>,
+    journal: Option<&JournalFile>,
+    key: Option<Key>,
+    objects: &O,
+) -> Result<(), End> {
+    let system = shown.about.system;
+    let (link, place) = open_node_link(threads, rt.alloc(), system, &shown.about.place)?;
+    warn_unsealed(rt, key, place.address);
+    let shown = shown.at(place);
+    let plan = NodePlan::of(rt.alloc(), system, &place)?.with(objects);
     let served = Served {
         plan: &plan,
         serving,
         journal,
-        shown,
+        shown: &shown,
     };
-    let ended = serve_at(rt, threads, options.store, &served, key);
-    with_journal(journal, ended)
+    serve_at(rt, threads, store, &served, link, key)
 }
 
-// Serves the node at its place. Its ports come first, and then its store. Over a store it replies to many messages at once, after
-// one commit.
+// Serves the node over the link of its place. Its status's port comes first, and then its store. Over a store it replies to many
+// messages at once, after one commit.
 fn serve_at<T: Threads + Wait + Clock + Net + Sync, O: Objects + Sync>(
     rt: &HostRuntime,
     threads: &T,
     store: StoreChoice<'_>,
     served: &Served<'_, O>,
+    link: UdpLink,
     key: Option<Key>,
 ) -> Result<(), End> {
-    let shown = served.shown;
-    let link = open_node_link(threads, rt.alloc(), shown.about.system, &shown.about.place)?;
-    let mut server = open_server(rt, shown.status)?;
+    let mut server = open_server(rt, served.shown)?;
     let is_stored = !matches!(store, StoreChoice::None);
     let link = HoldingLink::new(rt.alloc(), link, is_stored);
     match key {

@@ -15,7 +15,9 @@ use scoop_keeper::{Keeper, MemoryKeeper};
 use scoop_message::{ClientId, OutOfMemory};
 use scoop_record::Store;
 use scoop_report::{Hints, Status, report};
-use scoop_runtime::{ClientPlan, FileFault, OutOfRange, RuntimeError, Serving, open_client_link};
+use scoop_runtime::{
+    ClientPlan, FileFault, OutOfRange, RuntimeError, Serving, open_client_link, turning_link,
+};
 use scoop_system::{ClientPlace, NodePlace, System};
 use sqlite::Alter;
 use std::alloc::Global;
@@ -371,6 +373,10 @@ where
     let link = match open_client_link(threads, rt.alloc(), plan.system(), &place) {
         Ok(link) => link,
         Err(error) => return Err(report_client(rt, plan, End::Runtime(error))),
+    };
+    let link = match turning_link(rt.alloc(), plan.system(), link) {
+        Ok(link) => link,
+        Err(error) => return Err(report_client(rt, plan, End::from(error))),
     };
     let lent = mem::replace(hosts, Vec::new(rt.alloc()));
     let (lent, ran) = run_beside(rt, threads, lent, plan, keeper, link, names);

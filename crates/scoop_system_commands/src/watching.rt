@@ -14,7 +14,7 @@ use scoop_report::report;
 use scoop_runtime::{Ending, NodePlan, Objects, RuntimeError, Serving};
 use scoop_status::{About, Log};
 use scoop_status_server::{Server, show};
-use scoop_system::System;
+use scoop_system::{NodePlace, System};
 use scoop_watch::{
     LogLevel, RefusesForged, Settings, Watch, WatchedKeeper, WatchedLink, WatchedOutput,
     WatchedStrangers,
@@ -35,6 +35,17 @@ pub(crate) struct Shown<'a> {
     pub(crate) log: LogLevel,
     /// The address of its status, if it has one.
     pub(crate) status: Option<SocketAddr>,
+    /// Whether it goes on if its status can't be served there.
+    pub(crate) may_lack_page: bool,
+}
+
+impl<'a> Shown<'a> {
+    /// The same of the node at this place.
+    pub(crate) fn at(&self, place: NodePlace) -> Shown<'a> {
+        let mut shown = *self;
+        shown.about.place = place;
+        shown
+    }
 }
 
 /// A node that is served, with its journal if it writes one, and how it is shown.
@@ -56,12 +67,10 @@ pub(crate) fn level_of(options: &NodeOptions<'_>) -> LogLevel {
     }
 }
 
-/// Opens the server of a node's status at this address, if there is one. It says so if other machines can reach it.
-pub(crate) fn open_server(
-    rt: &HostRuntime,
-    status: Option<SocketAddr>,
-) -> Result<Option<Server>, End> {
-    let Some(address) = status else {
+/// Opens the server of a node's status, if it has one. It says so if other machines can reach it, and if a node that may stand at
+/// another machine goes on without.
+pub(crate) fn open_server(rt: &HostRuntime, shown: &Shown<'_>) -> Result<Option<Server>, End> {
+    let Some(address) = shown.status else {
         return Ok(None);
     };
     if !address.ip().is_loopback() {
@@ -74,6 +83,13 @@ pub(crate) fn open_server(
     }
     match listen(rt, address) {
         Ok(server) => Ok(Some(server)),
+        Err(_) if shown.may_lack_page => {
+            report(
+                rt,
+                format_args!("status: Refused, and the node goes on without {address}"),
+            );
+            Ok(None)
+        }
         Err(_) => Err(End::Status(address)),
     }
 }

@@ -104,6 +104,17 @@ class one 1 word
     Ok(())
 }
 
+#[test]
+fn a_node_with_two_addresses(rt: HostRuntime) -> Result<(), Fail> {
+    let text = "\
+node = [{number = 4, address = [\"10.0.0.1:9\", \"10.0.0.2:9\"], status = \"127.0.0.1:8\"}]
+";
+    let output = printed(rt.alloc(), text)?;
+    let wanted = "node 4 10.0.0.1:9 10.0.0.2:9 status 127.0.0.1:8\n";
+    assert!(rt; output.as_slice() == wanted.as_bytes());
+    Ok(())
+}
+
 // The system is borrowed, so that no early return has to drop it. The tests below do the same.
 fn has_parts(rt: &impl Abort, system: &System) -> Result<(), Fail> {
     assert_eq!(rt; system.classes().len(), 1);

@@ -6,11 +6,12 @@ ghost use Rattle.std.specs.Option.{option_copied};
 ghost use Rattle.toml.specs.View.{view};
 ghost use Rattle.scoop_classes.specs.Classes.{table_of};
 ghost use Rattle.scoop_system.specs.Meaning.{node_of, nodes_from, nodes_of, handler_of, handlers_from, handlers_of, handler_class, client_of, clients_from, clients_of, batch_at, number_of};
-ghost use Rattle.scoop_system.specs.Meaning.{first_address, first_client, other_family, is_v4, node_at, client_at, address_taken, address_fault};
+ghost use Rattle.scoop_system.specs.Meaning.{first_address, first_client, other_family, is_v4, node_at, client_at, address_taken, address_fault, addresses_fault, is_mixed, some_fault};
 ghost use Rattle.scoop_system.specs.Meaning.{status_fault, status_node, is_status, name_fault};
 ghost use Rattle.scoop_system.specs.System.{has_name};
 ghost use Rattle.scoop_system.specs.Stop.{IfFault};
 
+use super::addresses::addresses_at;
 use super::place::{at, place_at};
 use super::stop::Stop;
 use super::used::used_at;
@@ -21,6 +22,7 @@ use super::value::{
 use crate::class::{OwnClass, class_named};
 use crate::error::{Key, Place, Wrong};
 use crate::name::Name;
+use crate::node_addresses::has_address;
 use crate::place::{ClientPlace, HandlerClass, HandlerPlace, NodePlace};
 use crate::system::has_name;
 use scoop_classes::DemoClass;
@@ -66,12 +68,12 @@ fn read_node(value: &Value, done: &[NodePlace]) -> Result<NodePlace, Wrong>
         return Err(wrong);
     }
     let number = read_number(value)?;
-    let address = address_at(value)?;
+    let addresses = addresses_at(value)?;
     let status = status_at(value)?;
     if has_node(done, number) {
         return Err(Wrong::Twice);
     }
-    if let Some(wrong) = address_fault(done, &[], address) {
+    if let Some(wrong) = addresses_fault(done, addresses.as_slice()) {
         return Err(wrong);
     }
     if let Some(wrong) = status_fault(done, status) {
@@ -79,9 +81,43 @@ fn read_node(value: &Value, done: &[NodePlace]) -> Result<NodePlace, Wrong>
     }
     Ok(NodePlace {
         number,
-        address,
+        address: addresses.first(),
+        addresses,
         status,
     })
+}
+
+// The fault of the addresses of a node after these: the first fault of one, or that they are of both families.
+fn addresses_fault(nodes: &[NodePlace], addresses: &[SocketAddr]) -> Option<Wrong>
+    ensures { result ≡ addresses_fault nodes.now addresses.now }
+{
+    match some_fault(nodes, addresses) {
+        None if is_mixed(addresses) => Some(Wrong::OtherFamily),
+        fault => fault,
+    }
+}
+
+fn some_fault(nodes: &[NodePlace], addresses: &[SocketAddr]) -> Option<Wrong>
+    ensures { result ≡ some_fault nodes.now addresses.now }
+{
+    match addresses {
+        [] => None,
+        [first, rest @ ..] => match address_fault(nodes, &[], *first) {
+            Some(wrong) => Some(wrong),
+            None => some_fault(nodes, rest),
+        },
+    }
+}
+
+fn is_mixed(addresses: &[SocketAddr]) -> bool
+    ensures { result ≡ is_mixed addresses.now }
+{
+    match addresses {
+        [] => false,
+        [first, rest @ ..] => rest
+            .iter()
+            .any(|address| other_family(Some(*first), *address)),
+    }
 }
 
 // The fault of the status address of a node after these: one of them has it.
@@ -171,7 +207,9 @@ fn address_taken(nodes: &[NodePlace], clients: &[ClientPlace], address: SocketAd
 fn node_at(nodes: &[NodePlace], address: SocketAddr) -> Option<&NodePlace>
     ensures { option_copied result ≡ node_at nodes.now address }
 {
-    nodes.iter().find(|node| node.address == address)
+    nodes
+        .iter()
+        .find(|node| has_address(node.addresses.as_slice(), address))
 }
 
 fn client_at(clients: &[ClientPlace], address: SocketAddr) -> Option<&ClientPlace>

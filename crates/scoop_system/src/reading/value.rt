@@ -131,7 +131,7 @@ pub(super) fn status_at(value: &Value) -> Result<Option<SocketAddr>, Wrong>
 }
 
 // The address that the value of a key writes.
-fn address_in(value: &Value, key: Key) -> Result<SocketAddr, Wrong>
+pub(super) fn address_in(value: &Value, key: Key) -> Result<SocketAddr, Wrong>
     ensures { result ≡ written_address key (view value.now) }
 {
     match value.as_str() {

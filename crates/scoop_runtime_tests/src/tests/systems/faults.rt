@@ -5,7 +5,7 @@ use std::alloc::Global;
 use std::test::Fail;
 
 // Texts that are no systems, each with what is told of it.
-const FAULTS: [(&str, &str); 48] = [
+const FAULTS: [(&str, &str); 54] = [
     ("nodes = 1", "unknown key \"nodes\""),
     (
         "[node]\nnumber = 1",
@@ -32,6 +32,30 @@ const FAULTS: [(&str, &str); 48] = [
     (
         "[[node]]\nnumber = 1\naddress = \"localhost:1\"",
         "node 1: address must be an IP address with a port from 1 to 65535",
+    ),
+    (
+        "node = [{number = 1, address = []}]",
+        "node 1: address must be one address or a list of 1 to 4",
+    ),
+    (
+        "node = [{number = 1, address = [\"[::1]:1\", \"[::1]:2\", \"[::1]:3\", \"[::1]:4\", \"[::1]:5\"]}]",
+        "node 1: address must be one address or a list of 1 to 4",
+    ),
+    (
+        "node = [{number = 1, address = [\"[::1]:1\", \"[::1]:2\", \"[::1]:1\"]}]",
+        "node 1: address [::1]:1 stands twice",
+    ),
+    (
+        "node = [{number = 1, address = [\"[::1]:1\", 2]}]",
+        "node 1: address must be an IP address with a port from 1 to 65535",
+    ),
+    (
+        "node = [{number = 1, address = [\"[::1]:1\", \"127.0.0.1:1\"]}]",
+        "node 1: address must have the same family, IPv4 or IPv6, as the first one",
+    ),
+    (
+        "node = [{number = 1, address = [\"[::1]:1\", \"[::1]:2\"]}, {number = 2, address = \"[::1]:2\"}]",
+        "node 2: address is already used by node 1",
     ),
     (
         "node = [{number = 1, address = \"127.0.0.1:1\"}, {number = 1, address = \"[::1]:1\"}]",

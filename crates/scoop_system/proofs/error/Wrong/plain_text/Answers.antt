@@ -9,3 +9,7 @@ returns-in-NotWords c = rw c.in-NotWords.is refl
 pub returns-in-NotHandlers : goal.returns-in-NotHandlers
 unfolding digits
 returns-in-NotHandlers c = rw c.in-NotHandlers.is refl
+
+pub returns-in-NotAddresses : goal.returns-in-NotAddresses
+unfolding digits
+returns-in-NotAddresses c = rw c.in-NotAddresses.is refl

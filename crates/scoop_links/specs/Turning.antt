@@ -1,0 +1,82 @@
+-- A link whose handlers stand at one of several addresses, and when it turns to the next one.
+use Rattle.std.specs.Prelude.{◌≡◌, ℕ, ◌+◌, ◌-◌, nat_lt, List, [], ◌∷◌, length, map, find, position, bytes_eq, if◌then◌else◌, Option, Some, None, Result, Ok, Err}
+use Rattle.std.specs.List.{slice_get}
+use Rattle.std.specs.Option.{option_and_then}
+use Rattle.std.specs.declared.net.socket_addr.SocketAddr.{SocketAddr}
+use Rattle.scoop_message.specs.declared.name.HandlerId.{HandlerId}
+use Rattle.scoop_message.specs.Message.{same_handler}
+use Rattle.scoop_link.specs.declared.party.Party.{Party}
+use Rattle.scoop_link.specs.declared.party.Party.TheVariants.{Handler, Client}
+use Rattle.scoop_link.specs.declared.link.LinkFault.{LinkFault}
+use Rattle.scoop_link.specs.Link.{Datagrams, Told, Exchanges}
+use Rattle.scoop_link.specs.Udp.{Address, address_of, moved_all}
+use Rattle.scoop_system.specs.Address.{same_address}
+use Rattle.scoop_links.specs.declared.turning_link.Road.{Road}
+use Rattle.scoop_links.specs.declared.turning_link.TheConstants.{TIMEOUTS}
+
+-- the road to a handler before anything is sent, at the first address
+abbrev pub fresh_road : HandlerId → List SocketAddr → Road
+fresh_road h addresses = record { handler = h; addresses = addresses; at = 0; unanswered = []; timeouts = 0 }
+
+abbrev pub current : Road → Option SocketAddr
+current r = slice_get r.addresses r.at
+
+-- the place of the next address, round again
+abbrev pub next_place : Road → ℕ
+next_place r = if nat_lt r.at (length r.addresses - 1) then r.at + 1 else 0
+
+-- one timeout more; the last of `TIMEOUTS` in a row turns to the next address
+abbrev pub timed_out : Road → Road
+timed_out r = if nat_lt r.timeouts (TIMEOUTS - 1) then record r { timeouts = r.timeouts + 1 } else record r { at = next_place r; timeouts = 0 }
+
+-- a datagram to the handler; the same one again means a timeout, unless a datagram of the node came since
+abbrev pub asked_now : List ℕ → Road → Road
+asked_now datagram r = if bytes_eq r.unanswered datagram then timed_out r else record r { unanswered = datagram; timeouts = 0 }
+
+abbrev pub asked : HandlerId → List ℕ → Road → Road
+asked h datagram r = if same_handler r.handler h then asked_now datagram r else r
+
+abbrev pub heard_at : Road → Option ℕ → Road
+heard_at r None = r
+heard_at r (Some place) = record r { at = place; unanswered = []; timeouts = 0 }
+
+-- a datagram that came from this address, which becomes the current one if it is of the node
+abbrev pub heard : SocketAddr → Road → Road
+heard from r = heard_at r (position (λ own. same_address own from) r.addresses)
+
+abbrev pub after_send : List Road → Party → List ℕ → List Road
+after_send roads (Handler h) datagram = map (asked h datagram) roads
+after_send roads (Client c) datagram = roads
+
+abbrev pub heard_from : List Road → Option SocketAddr → List Road
+heard_from roads None = roads
+heard_from roads (Some from) = map (heard from) roads
+
+abbrev pub after_receive : List Road → Result (Option ℕ) LinkFault → Option SocketAddr → List Road
+after_receive roads (Ok (Some n)) from = heard_from roads from
+after_receive roads (Ok None) from = roads
+after_receive roads (Err fault) from = roads
+
+-- the current address on the road to a party, if it has one
+abbrev pub address_on : List Road → Party → Option SocketAddr
+address_on roads (Handler h) = option_and_then current (find (λ r. same_handler r.handler h) roads)
+address_on roads (Client c) = None
+
+abbrev pub set_to : Option SocketAddr → Party → List (Party × Address) → List (Party × Address)
+set_to None to addresses = addresses
+set_to (Some a) to addresses = moved_all to (address_of a) addresses
+
+-- The link below first sets this address for the party, and then it sends.
+pub record SendsAt {L : Type 0} (addresses : L → List (Party × Address)) (told : L → Option Told) (old new : L) (at : Option SocketAddr) (to : Party)
+    (gone : Datagrams) : Type 0 where
+  pub set : L
+  pub at_it : addresses set ≡ set_to at to (addresses old)
+  pub sent : Exchanges (told set) (told new) [] gone
+
+-- the link below, and the road to each handler whose node has several addresses
+pub record TurningValue (L : Type 0) : Type 0 where
+  pub inner : L
+  pub roads : List Road
+
+abbrev pub turning : {L : Type 0} → L → List Road → TurningValue L
+turning inner roads = record { inner = inner; roads = roads }

@@ -1,0 +1,229 @@
+//! A link that turns to the next address of a node that doesn't reply.
+
+ghost use Rattle.std.specs.Prelude.{◌≡◌, ◌≤◌, [], map, position, IfOk, IfSome};
+ghost use Rattle.std.specs.Option.{option_copied};
+ghost use Rattle.scoop_link.specs.Datagram.{kept};
+ghost use Rattle.scoop_link.specs.Link.{CountsFault, Exchanges, sent_by, taken_by};
+ghost use Rattle.scoop_system.specs.Address.{same_address};
+ghost use Rattle.scoop_links.specs.Turning.{SendsAt, address_on, after_receive, after_send, asked, asked_now, current, fresh_road, heard, heard_from, next_place, set_to, timed_out, turning};
+
+use scoop_link::{Datagram, Link, LinkFault, Party, SetsAddress};
+use scoop_message::HandlerId;
+use scoop_message::limits::BUFFER_LEN;
+use scoop_system::NodeAddresses;
+use std::marker::Model;
+use std::net::SocketAddr;
+
+// This many timeouts in a row turn to the next address.
+const TIMEOUTS: u32 = 3;
+
+/// The road to a handler whose node stands at one of several addresses.
+#[derive(Drop)]
+pub struct Road {
+    /// The handler.
+    pub handler: HandlerId,
+    /// The addresses of its node.
+    pub addresses: NodeAddresses,
+    /// The place of the current one among them.
+    pub at: usize,
+    /// The last datagram to the handler. Empty if a datagram of the node came since.
+    pub unanswered: Datagram,
+    /// The timeouts in a row at the current address: that datagram was repeated so often.
+    pub timeouts: u32,
+}
+
+impl Road {
+    /// The road to a handler, at the first of its node's addresses.
+    pub fn new(handler: HandlerId, addresses: NodeAddresses) -> Road
+        ensures { result ≡ fresh_road handler addresses }
+    {
+        Road {
+            handler,
+            addresses,
+            at: 0,
+            unanswered: Datagram::of(&[]),
+            timeouts: 0,
+        }
+    }
+
+    // The current address.
+    fn current(&self) -> Option<SocketAddr>
+        ensures { result ≡ current self.now }
+    {
+        self.addresses.as_slice().get(self.at).copied()
+    }
+
+    // The place of the next address, round again.
+    fn next_place(&self) -> usize
+        ensures { result ≡ next_place self.now }
+    {
+        let last = self.addresses.as_slice().len().saturating_sub(1);
+        if self.at < last { self.at + 1 } else { 0 }
+    }
+
+    // Counts a timeout.
+    fn time_out(&mut self)
+        ensures { self.new ≡ timed_out self.old }
+    {
+        if self.timeouts < TIMEOUTS - 1 {
+            self.timeouts += 1;
+        } else {
+            self.at = self.next_place();
+            self.timeouts = 0;
+        }
+    }
+
+    // Records a datagram to a handler.
+    fn ask(&mut self, handler: HandlerId, bytes: &[u8])
+        ensures { self.new ≡ asked handler (kept bytes.now) self.old }
+    {
+        if self.handler == handler {
+            self.ask_now(Datagram::of(bytes));
+        }
+    }
+
+    // Records a datagram to its handler.
+    fn ask_now(&mut self, datagram: Datagram)
+        ensures { self.new ≡ asked_now datagram self.old }
+    {
+        if self.unanswered.as_slice() == datagram.as_slice() {
+            self.time_out();
+        } else {
+            self.unanswered = datagram;
+            self.timeouts = 0;
+        }
+    }
+
+    // The place of an address of the node.
+    fn place_of(&self, address: SocketAddr) -> Option<usize>
+        ensures { result ≡ position (λ own. same_address own address) self.now.addresses }
+    {
+        self.addresses
+            .as_slice()
+            .iter()
+            .position(|own| *own == address)
+    }
+
+    // Records a datagram that came from this address.
+    fn hear(&mut self, from: SocketAddr)
+        ensures { self.new ≡ heard from self.old }
+    {
+        if let Some(place) = self.place_of(from) {
+            self.at = place;
+            self.unanswered = Datagram::of(&[]);
+            self.timeouts = 0;
+        }
+    }
+}
+
+// The same for each road.
+fn ask_all(roads: &mut [Road], handler: HandlerId, bytes: &[u8])
+    ensures { roads.new ≡ map (asked handler (kept bytes.now)) roads.old }
+{
+    for road in roads.iter_mut() {
+        road.ask(handler, bytes);
+    }
+}
+
+fn hear_all(roads: &mut [Road], from: SocketAddr)
+    ensures { roads.new ≡ map (heard from) roads.old }
+{
+    for road in roads.iter_mut() {
+        road.hear(from);
+    }
+}
+
+// The current address on the road to a party.
+fn address_on(roads: &[Road], to: Party) -> Option<SocketAddr>
+    ensures { result ≡ address_on roads.now to }
+{
+    match to {
+        Party::Handler(handler) => match roads.iter().find(|road| road.handler == handler) {
+            Some(road) => road.current(),
+            None => None,
+        },
+        Party::Client(_) => None,
+    }
+}
+
+// Sets the party's address.
+fn point<L: SetsAddress>(inner: &mut L, to: Party, address: Option<SocketAddr>)
+    ensures at { L.addresses inner.new ≡ set_to address to (L.addresses inner.old) }
+    ensures faults { L.fault_count inner.new ≡ L.fault_count inner.old }
+    ensures told { Exchanges (L.told inner.old) (L.told inner.new) [] [] }
+{
+    if let Some(address) = address {
+        inner.set_address(to, address);
+    }
+}
+
+/// A client's link to nodes, each of which stands at one of several addresses. It sends to the current address. A repeated
+/// datagram is a timeout if none came from the node since. After three in a row the link turns to the node's next address, and
+/// after the last to the first. An address from which a datagram comes is the node's current one.
+///
+/// The link that decides when to repeat a datagram stands around this one, and a seal within, so that no forged datagram turns it.
+/// Contracts see the link below it, and the road to each handler.
+#[derive(Drop)]
+pub struct TurningLink<L> {
+    inner: L,
+    roads: Vec<Road>,
+}
+
+impl<L> Model for TurningLink<L> {
+    ghost use Rattle.scoop_links.specs.Turning.{TurningValue};
+
+    ghost Value = { TurningValue L };
+
+    ghost view = { λ t. record { inner = t.inner; roads = t.roads.items } };
+}
+
+impl<L: SetsAddress> TurningLink<L> {
+    /// The link with these roads. It sends to other parties as the link below does.
+    pub fn new(inner: L, roads: Vec<Road>) -> TurningLink<L>
+        ensures { result ≡ turning inner roads.items }
+    {
+        TurningLink { inner, roads }
+    }
+}
+
+impl<L: SetsAddress> Link for TurningLink<L> {
+    ghost told = { λ t. L.told t.inner };
+
+    ghost fault_count = { λ t. L.fault_count t.inner };
+
+    fn send(&mut self, to: Party, bytes: &[u8]) -> Result<(), LinkFault>
+        ensures faults { CountsFault result (L.fault_count self.old.inner) (L.fault_count self.new.inner) }
+        ensures told { Exchanges (L.told self.old.inner) (L.told self.new.inner) [] (sent_by result to bytes.now) }
+
+        ensures asked { self.new.roads ≡ after_send self.old.roads to (kept bytes.now) }
+        ensures sent { SendsAt L.addresses L.told self.old.inner self.new.inner (address_on self.new.roads to) to (sent_by result to bytes.now) }
+    {
+        if let Party::Handler(handler) = to {
+            ask_all(&mut self.roads, handler, bytes);
+        }
+        point(&mut self.inner, to, address_on(&self.roads, to));
+        self.inner.send(to, bytes)
+    }
+
+    fn receive(&mut self, buffer: &mut [u8; BUFFER_LEN]) -> Result<Option<usize>, LinkFault>
+        ensures in_bounds { IfOk result (λ got. IfSome got (λ n. n ≤ BUFFER_LEN)) }
+        ensures faults { CountsFault result (L.fault_count self.old.inner) (L.fault_count self.new.inner) }
+        ensures told { Exchanges (L.told self.old.inner) (L.told self.new.inner) (taken_by result buffer.new) [] }
+
+        ensures heard { self.new.roads ≡ after_receive self.old.roads result (L.came_from self.new.inner) }
+    {
+        match self.inner.receive(buffer) {
+            Ok(Some(len)) => {
+                if let Some(from) = self.inner.origin() {
+                    hear_all(&mut self.roads, from);
+                }
+                Ok(Some(len))
+            }
+            got => got,
+        }
+    }
+
+    fn faults(&self) -> u64 {
+        self.inner.faults()
+    }
+}

@@ -1,0 +1,8 @@
+use Rattle.scoop_system.specs.declared.node_addresses.TheConstants.{MAX_ADDRESSES}
+use Rattle.scoop_system.specs.Address.{nowhere}
+use Rattle.scoop_object.proofs.Start.{padded_start}
+use Rattle.scoop_system.proofs.node_addresses.NodeAddresses.of.Goals as goal
+
+pub invariant_of-result : goal.invariant_of-result
+invariant_of-result c =
+    padded_start nowhere MAX_ADDRESSES c.args.addresses.now c.copy_from_slice.new.self c.copy_from_slice.ensures.after c.if-count-gt-MAX_ADDRESSES.false
