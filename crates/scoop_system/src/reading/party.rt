@@ -1,6 +1,6 @@
 //! The nodes, handlers and clients of a file.
 
-ghost use Rattle.std.specs.Prelude.{◌≡◌, ◌==◌, [], map, not, Ok, Err, IfOk, IfErr, MatchResult};
+ghost use Rattle.std.specs.Prelude.{◌≡◌, ◌==◌, [], map, not, Some, Ok, Err, IfOk, IfErr, MatchResult};
 ghost use Rattle.std.specs.List.{list_any};
 ghost use Rattle.std.specs.Option.{option_copied};
 ghost use Rattle.toml.specs.View.{view};
@@ -114,10 +114,16 @@ fn is_mixed(addresses: &[SocketAddr]) -> bool
 {
     match addresses {
         [] => false,
-        [first, rest @ ..] => rest
-            .iter()
-            .any(|address| other_family(Some(*first), *address)),
+        [first, rest @ ..] => has_other_family(*first, rest),
     }
+}
+
+fn has_other_family(first: SocketAddr, addresses: &[SocketAddr]) -> bool
+    ensures { result ≡ list_any (other_family (Some first)) addresses.now }
+{
+    addresses
+        .iter()
+        .any(|address| other_family(Some(first), *address))
 }
 
 // The fault of the status address of a node after these: one of them has it.
