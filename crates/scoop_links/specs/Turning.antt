@@ -1,5 +1,5 @@
 -- A link whose handlers stand at one of several addresses, and when it turns to the next one.
-use Rattle.std.specs.Prelude.{◌≡◌, ℕ, ◌+◌, ◌-◌, nat_lt, List, [], ◌∷◌, length, map, find, position, bytes_eq, if◌then◌else◌, Option, Some, None, Result, Ok, Err}
+use Rattle.std.specs.Prelude.{◌≡◌, ℕ, ◌+◌, ◌-◌, ◌==◌, nat_lt, flat_map, List, [], ◌∷◌, length, map, find, position, bytes_eq, if◌then◌else◌, Option, Some, None, Result, Ok, Err}
 use Rattle.std.specs.List.{slice_get}
 use Rattle.std.specs.Option.{option_and_then}
 use Rattle.std.specs.declared.net.socket_addr.SocketAddr.{SocketAddr}
@@ -11,6 +11,8 @@ use Rattle.scoop_link.specs.declared.link.LinkFault.{LinkFault}
 use Rattle.scoop_link.specs.Link.{Datagrams, Told, Exchanges}
 use Rattle.scoop_link.specs.Udp.{Address, address_of, moved_all}
 use Rattle.scoop_system.specs.Address.{same_address}
+use Rattle.scoop_system.specs.declared.place.NodePlace.{NodePlace}
+use Rattle.scoop_system.specs.declared.place.HandlerPlace.{HandlerPlace}
 use Rattle.scoop_links.specs.declared.turning_link.Road.{Road}
 use Rattle.scoop_links.specs.declared.turning_link.TheConstants.{TIMEOUTS}
 
@@ -77,6 +79,18 @@ pub record SendsAt {L : Type 0} (addresses : L → List (Party × Address)) (tol
 pub record TurningValue (L : Type 0) : Type 0 where
   pub inner : L
   pub roads : List Road
+
+abbrev pub road_to : HandlerPlace → Option NodePlace → List Road
+road_to h None = []
+road_to h (Some n) = if nat_lt 1 (length n.addresses) then fresh_road h.handler n.addresses ∷ [] else []
+
+-- the road to a handler, if its node has several addresses
+unfoldable pub road_among : List NodePlace → HandlerPlace → List Road
+road_among nodes h = road_to h (find (λ n. n.number == h.node) nodes)
+
+-- the roads to these handlers, in their order
+abbrev pub roads_to : List NodePlace → List HandlerPlace → List Road
+roads_to nodes handlers = flat_map (road_among nodes) handlers
 
 abbrev pub turning : {L : Type 0} → L → List Road → TurningValue L
 turning inner roads = record { inner = inner; roads = roads }

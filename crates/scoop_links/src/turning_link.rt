@@ -1,16 +1,18 @@
 //! A link that turns to the next address of a node that doesn't reply.
 
-ghost use Rattle.std.specs.Prelude.{◌≡◌, ◌≤◌, [], map, position, IfOk, IfSome};
+ghost use Rattle.std.specs.Prelude.{◌≡◌, ◌≤◌, ◌++◌, [], find, map, position, IfOk, IfSome, OnOk};
 ghost use Rattle.std.specs.Option.{option_copied};
+ghost use Rattle.scoop_message.specs.Message.{same_handler};
 ghost use Rattle.scoop_link.specs.Datagram.{kept};
 ghost use Rattle.scoop_link.specs.Link.{CountsFault, Exchanges, sent_by, taken_by};
 ghost use Rattle.scoop_system.specs.Address.{same_address};
-ghost use Rattle.scoop_links.specs.Turning.{SendsAt, address_on, after_receive, after_send, asked, asked_now, current, fresh_road, heard, heard_from, next_place, set_to, timed_out, turning};
+ghost use Rattle.scoop_links.specs.Turning.{SendsAt, address_on, after_receive, after_send, asked, asked_now, current, fresh_road, heard, heard_from, next_place, road_among, roads_to, set_to, timed_out, turning};
 
 use scoop_link::{Datagram, Link, LinkFault, Party, SetsAddress};
-use scoop_message::HandlerId;
 use scoop_message::limits::BUFFER_LEN;
-use scoop_system::NodeAddresses;
+use scoop_message::{HandlerId, OutOfMemory};
+use scoop_system::{HandlerPlace, NodeAddresses, System};
+use std::alloc::Global;
 use std::marker::Model;
 use std::net::SocketAddr;
 
@@ -33,8 +35,8 @@ pub struct Road {
 }
 
 impl Road {
-    /// The road to a handler, at the first of its node's addresses.
-    pub fn new(handler: HandlerId, addresses: NodeAddresses) -> Road
+    // The road to a handler, at the first of its node's addresses.
+    fn new(handler: HandlerId, addresses: NodeAddresses) -> Road
         ensures { result ≡ fresh_road handler addresses }
     {
         Road {
@@ -133,12 +135,52 @@ fn hear_all(roads: &mut [Road], from: SocketAddr)
     }
 }
 
+// Adds the roads to these handlers.
+fn add_roads(
+    system: &System,
+    handlers: &[HandlerPlace],
+    roads: &mut Vec<Road>,
+) -> Result<(), OutOfMemory>
+    ensures { OnOk result (roads.new.items ≡ roads.old.items ++ roads_to system.now.nodes handlers.now) }
+{
+    match handlers {
+        [] => Ok(()),
+        [first, rest @ ..] => {
+            add_road(system, first, roads)?;
+            add_roads(system, rest, roads)
+        }
+    }
+}
+
+// Adds the road to a handler, if its node has several addresses.
+#[tactic(auto, unfolding(crate::specs::Turning::road_among))]
+fn add_road(system: &System, place: &HandlerPlace, roads: &mut Vec<Road>) -> Result<(), OutOfMemory>
+    ensures { OnOk result (roads.new.items ≡ roads.old.items ++ road_among system.now.nodes place.now) }
+{
+    match system.node(place.node) {
+        Some(node) if node.addresses.as_slice().len() > 1 => {
+            match roads.push(Road::new(place.handler, node.addresses)) {
+                Ok(()) => Ok(()),
+                Err(_) => Err(OutOfMemory),
+            }
+        }
+        _ => Ok(()),
+    }
+}
+
+// The road to a handler.
+fn road_on(roads: &[Road], handler: HandlerId) -> Option<&Road>
+    ensures { option_copied result ≡ find (λ r. same_handler r.handler handler) roads.now }
+{
+    roads.iter().find(|road| road.handler == handler)
+}
+
 // The current address on the road to a party.
 fn address_on(roads: &[Road], to: Party) -> Option<SocketAddr>
     ensures { result ≡ address_on roads.now to }
 {
     match to {
-        Party::Handler(handler) => match roads.iter().find(|road| road.handler == handler) {
+        Party::Handler(handler) => match road_on(roads, handler) {
             Some(road) => road.current(),
             None => None,
         },
@@ -178,11 +220,16 @@ impl<L> Model for TurningLink<L> {
 }
 
 impl<L: SetsAddress> TurningLink<L> {
-    /// The link with these roads. It sends to other parties as the link below does.
-    pub fn new(inner: L, roads: Vec<Road>) -> TurningLink<L>
-        ensures { result ≡ turning inner roads.items }
+    /// The link to the handlers of this system. It sends to other parties, and to handlers whose node has one address, as the link
+    /// below does. `OutOfMemory` means that the memory was refused.
+    pub fn new(alloc: Global, inner: L, system: &System) -> Result<TurningLink<L>, OutOfMemory>
+        ensures { IfOk result (λ t. t ≡ turning inner (roads_to system.now.nodes system.now.handlers)) }
     {
-        TurningLink { inner, roads }
+        let mut roads = Vec::new(alloc);
+        match add_roads(system, system.handlers(), &mut roads) {
+            Ok(()) => Ok(TurningLink { inner, roads }),
+            Err(error) => Err(error),
+        }
     }
 }
 

@@ -5,8 +5,8 @@
 //! an input, which may end a reservation that waits ([`Interrupt`]). The client takes its next incarnation, greets
 //! every handler that it uses, and replies line by line. At its end it leaves no block behind. The call [`client_cut`]
 //! cuts the block of a client that was killed. The call [`program_run`] runs a program as a client, whose commands are the
-//! calls of the program ([`Calls`]). The calls [`open_node_link`] and [`open_client_link`] bind their addresses, and
-//! [`turning_link`] lets a client follow a node to its other addresses. The call
+//! calls of the program ([`Calls`]). The calls [`open_node_link`] and [`open_client_link`] bind their addresses, and a
+//! [`TurningLink`] follows a node to its other addresses. The call
 //! [`print_reply`] writes the reply to a line. The call [`check_script`] reads all lines of a script before a client runs
 //! them.
 //!
@@ -53,7 +53,7 @@ pub use calling::{Caller, Calls};
 pub use client::client_run;
 pub use cutting::client_cut;
 pub use ending::Ending;
-pub use links::{open_client_link, open_node_link, turning_link};
+pub use links::{open_client_link, open_node_link};
 pub use node::{node_run, node_run_until};
 pub use objects::{Native, Objects, Tables};
 pub use plan::{ClientPlan, NodePlan, Serving};

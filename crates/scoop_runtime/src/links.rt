@@ -1,8 +1,7 @@
 //! The links of nodes and clients.
 
 use scoop_errors::PartyError;
-use scoop_link::{Addresses, OpenLinkError, Party, SetsAddress, UdpLink};
-use scoop_links::{Road, TurningLink};
+use scoop_link::{Addresses, OpenLinkError, Party, UdpLink};
 use scoop_message::OutOfMemory;
 use scoop_system::{ClientPlace, NodePlace, System};
 use scoop_texts::RuntimeError;
@@ -64,24 +63,4 @@ pub fn open_client_link<R: Net>(
     }
     let (link, _) = open_link(rt, alloc, &[client.address], &table)?;
     Ok(link)
-}
-
-/// The link of a client to these addresses, which turns to the next one of a node that doesn't reply ([`TurningLink`]).
-/// `OutOfMemory` is the one error.
-pub fn turning_link<L: SetsAddress>(
-    alloc: Global,
-    system: &System,
-    link: L,
-) -> Result<TurningLink<L>, OutOfMemory> {
-    let mut roads = Vec::new(alloc);
-    for place in system.handlers() {
-        match system.node(place.node) {
-            Some(node) if node.addresses.as_slice().len() > 1 => {
-                let road = Road::new(place.handler, node.addresses);
-                roads.push(road).map_err(OutOfMemory::from)?;
-            }
-            _ => {}
-        }
-    }
-    Ok(TurningLink::new(link, roads))
 }

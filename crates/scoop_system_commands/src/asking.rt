@@ -17,7 +17,7 @@ use scoop_message::ClientId;
 use scoop_pacing::{MeasuredLink, SystemTimes};
 use scoop_report::{Hints, Status, hint, report};
 use scoop_runtime::{
-    ClientPlan, ClientProgram, FileFault, check_script, open_client_link, turning_link,
+    ClientPlan, ClientProgram, FileFault, TurningLink, check_script, open_client_link,
 };
 use scoop_seal::{Key, SealedLink};
 use scoop_system::System;
@@ -203,7 +203,7 @@ fn run_measured<L: SetsAddress, C: ClientTask>(
     let handlers = plan.system().handlers().len();
     let client = plan.place().client;
     let clock = SystemTimes::new(rt);
-    let link = turning_link(rt.alloc(), plan.system(), link)?;
+    let link = TurningLink::new(rt.alloc(), link, plan.system())?;
     let link = MeasuredLink::new(rt.alloc(), link, clock, handlers, client.0)?;
     run_stored(rt, options, plan, journal, link, task)
 }

@@ -16,7 +16,7 @@ use scoop_message::{ClientId, OutOfMemory};
 use scoop_record::Store;
 use scoop_report::{Hints, Status, report};
 use scoop_runtime::{
-    ClientPlan, FileFault, OutOfRange, RuntimeError, Serving, open_client_link, turning_link,
+    ClientPlan, FileFault, OutOfRange, RuntimeError, Serving, TurningLink, open_client_link,
 };
 use scoop_system::{ClientPlace, NodePlace, System};
 use sqlite::Alter;
@@ -374,7 +374,7 @@ where
         Ok(link) => link,
         Err(error) => return Err(report_client(rt, plan, End::Runtime(error))),
     };
-    let link = match turning_link(rt.alloc(), plan.system(), link) {
+    let link = match TurningLink::new(rt.alloc(), link, plan.system()) {
         Ok(link) => link,
         Err(error) => return Err(report_client(rt, plan, End::from(error))),
     };

@@ -3,11 +3,11 @@
 use super::HANDLER;
 use scoop_free_ports::free_ports;
 use scoop_link::{Addresses, Link, Party, SetsAddress, UdpLink};
-use scoop_links::{Road, TurningLink};
+use scoop_links::TurningLink;
+use scoop_message::ClientId;
 use scoop_message::limits::BUFFER_LEN;
-use scoop_message::{ClientId, HandlerId};
 use scoop_seal::{Key, SealedLink};
-use scoop_system::NodeAddresses;
+use scoop_system::System;
 use std::alloc::Global;
 use std::net::{IpAddr, Ipv4Addr, Net, SocketAddr};
 use std::process::Abort;
@@ -36,20 +36,20 @@ fn udp<R: Net + Abort>(rt: &R, alloc: Global, own: u16, party: Party, other: u16
 
 // The client's link to a node with two addresses.
 fn turning<L: SetsAddress>(
-    rt: &impl Abort,
     alloc: Global,
     link: L,
     first: u16,
     second: u16,
-) -> TurningLink<L> {
-    let mut roads = Vec::new(alloc);
-    let Ok(addresses) = NodeAddresses::of(&[at(first), at(second)]) else {
-        panic!(rt; "too many addresses")
-    };
-    if roads.push(Road::new(HandlerId(1), addresses)).is_err() {
-        panic!(rt; "out of memory");
-    }
-    TurningLink::new(link, roads)
+) -> Result<TurningLink<L>, Fail> {
+    let (first, second) = (at(first), at(second));
+    let text = format!(in alloc;
+        "\
+node = [{{number = 1, address = [\"{first}\", \"{second}\"]}}]
+handler = [{{number = 1, node = 1, class = \"cell\", words = [0]}}]
+"
+    )?;
+    let system = System::read(alloc, &text)?;
+    Ok(TurningLink::new(alloc, link, &system)?)
 }
 
 // The datagram comes to the first of these links, and not to the other.
@@ -112,7 +112,7 @@ fn three_timeouts_turn_to_the_next_address(rt: HostRuntime) -> Result<(), Fail> 
     let mut first = udp(&rt, rt.alloc(), here, CLIENT, own);
     let mut second = udp(&rt, rt.alloc(), there, CLIENT, own);
     let link = udp(&rt, rt.alloc(), own, HANDLER, here);
-    let mut client = turning(&rt, rt.alloc(), link, here, there);
+    let mut client = turning(rt.alloc(), link, here, there)?;
     turns(&rt, &mut client, &mut first, &mut second);
     Ok(())
 }
@@ -123,7 +123,7 @@ fn a_sealed_client_turns_too(rt: HostRuntime) -> Result<(), Fail> {
     let mut first = SealedLink::new(udp(&rt, rt.alloc(), here, CLIENT, own), Key::new(KEY));
     let mut second = SealedLink::new(udp(&rt, rt.alloc(), there, CLIENT, own), Key::new(KEY));
     let link = SealedLink::new(udp(&rt, rt.alloc(), own, HANDLER, here), Key::new(KEY));
-    let mut client = turning(&rt, rt.alloc(), link, here, there);
+    let mut client = turning(rt.alloc(), link, here, there)?;
     turns(&rt, &mut client, &mut first, &mut second);
     Ok(())
 }
