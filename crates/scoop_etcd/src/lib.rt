@@ -1,0 +1,6 @@
+//! Keepers of the states of handlers over an etcd.
+#![tactic(auto)]
+
+mod etcd;
+
+pub use etcd::{Etcd, EtcdError};
