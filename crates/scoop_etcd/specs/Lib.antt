@@ -1,3 +1,4 @@
 pub mod Etcd
 pub mod Keys
 pub mod Packed
+pub mod Owning

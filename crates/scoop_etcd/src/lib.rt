@@ -2,9 +2,12 @@
 #![tactic(auto)]
 
 mod etcd;
+mod fault;
 mod finding;
 mod keys;
+mod owning;
 mod packing;
 
 pub use etcd::{Etcd, EtcdError};
+pub use fault::StoreFault;
 pub use keys::{Owner, is_store_name};
