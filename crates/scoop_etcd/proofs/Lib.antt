@@ -1,1 +1,2 @@
 pub mod PackedLemmas
+pub mod KeyLemmas
