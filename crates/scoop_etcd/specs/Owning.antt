@@ -29,7 +29,13 @@ value_under c key = value_of (c.under key)
 abbrev pub Owns : Contents → StoreKeys → Type 0
 Owns c keys = value_under c keys.owner ≡ Some keys.token
 
--- The token was put, where the owner's key stood at this revision.
+-- The token was put.
+pub record Replaces (IsAlone : Type 0) (old new : Contents) (keys : StoreKeys) : Type 0 where
+  pub met : Contents
+  pub own : IsAlone → met ≡ old
+  pub puts : Puts met new ((keys.owner, keys.token) ∷ [])
+
+-- The token was put where the owner's key stood at this revision.
 pub record Takes (IsAlone : Type 0) (old new : Contents) (keys : StoreKeys) (revision : ℕ) : Type 0 where
   pub met : Contents
   pub own : IsAlone → met ≡ old

@@ -5,9 +5,11 @@ mod etcd;
 mod fault;
 mod finding;
 mod keys;
+mod opening;
 mod owning;
 mod packing;
 
 pub use etcd::{Etcd, EtcdError};
 pub use fault::StoreFault;
 pub use keys::{Owner, is_store_name};
+pub use opening::OpenError;

@@ -1,6 +1,6 @@
 //! The token under a store's owner's key.
 
-ghost use Rattle.std.specs.Prelude.{◌≡◌, ◌∷◌, [], IfOk, OnOk, OnErr, true, false};
+ghost use Rattle.std.specs.Prelude.{◌≡◌, ◌∷◌, [], IfOk, OnOk, IsTrue};
 ghost use Rattle.scoop_etcd.specs.Etcd.{HasRevision, conditions_of, entries_of};
 ghost use Rattle.scoop_etcd.specs.Owning.{Owns, Takes, keys_of};
 ghost use Rattle.scoop_etcd.specs.declared.fault.StoreFault.{StoreFault};
@@ -56,8 +56,8 @@ pub(crate) fn take<E: Etcd>(
     keys: &Keys,
     revision: u64,
 ) -> Result<bool, EtcdError>
-    ensures taken { E.is_honest etcd.new → result ≡ Ok true
-        → Takes (E.is_alone etcd.new) (E.contents etcd.old) (E.contents etcd.new) (keys_of keys.now) revision }
+    ensures taken { E.is_honest etcd.new → IfOk result (λ taken. IsTrue taken
+        → Takes (E.is_alone etcd.new) (E.contents etcd.old) (E.contents etcd.new) (keys_of keys.now) revision) }
     ensures honest { E.is_honest etcd.new → E.is_honest etcd.old }
     ensures alone { E.is_alone etcd.new → E.is_alone etcd.old }
 {
