@@ -1,2 +1,3 @@
 pub mod PackedLemmas
 pub mod KeyLemmas
+pub mod IncarnationLemmas

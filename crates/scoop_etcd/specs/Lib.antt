@@ -2,3 +2,4 @@ pub mod Etcd
 pub mod Keys
 pub mod Packed
 pub mod Owning
+pub mod Incarnation

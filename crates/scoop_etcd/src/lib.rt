@@ -4,6 +4,7 @@
 mod etcd;
 mod fault;
 mod finding;
+mod incarnations;
 mod keys;
 mod opening;
 mod owning;
