@@ -1,3 +1,4 @@
 pub mod PackedLemmas
 pub mod KeyLemmas
 pub mod IncarnationLemmas
+pub mod MemoryLemmas

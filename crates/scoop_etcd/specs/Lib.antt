@@ -3,3 +3,4 @@ pub mod Keys
 pub mod Packed
 pub mod Owning
 pub mod Incarnation
+pub mod Memory
