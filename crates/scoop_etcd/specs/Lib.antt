@@ -3,4 +3,5 @@ pub mod Keys
 pub mod Packed
 pub mod Owning
 pub mod Incarnation
-pub mod Memory
+pub mod States
+pub mod Store

@@ -1,7 +1,7 @@
 //! The value under a handler's key.
 
 ghost use Rattle.std.specs.Prelude.{◌≡◌, ◌≤◌, length, IfOk, IfSome};
-ghost use Rattle.scoop_etcd.specs.Packed.{packed, SplitsAt};
+ghost use Rattle.scoop_etcd.specs.Packed.{IsPacked, SplitsAt};
 
 use scoop_frame::u64_at;
 use scoop_message::OutOfMemory;
@@ -12,7 +12,7 @@ pub(crate) const FRONT_LEN: usize = 8;
 
 /// The value of an image and the pending entries. `OutOfMemory` is the one refusal.
 pub(crate) fn pack(alloc: Global, image: &[u8], entries: &[u8]) -> Result<Vec<u8>, OutOfMemory>
-    ensures { IfOk result (λ value. value.items ≡ packed image.now entries.now) }
+    ensures { IfOk result (λ value. IsPacked value.items image.now entries.now) }
 {
     let len = image.len() as u64;
     let mut value = Vec::from_slice(alloc, &len.to_be_bytes())?;
