@@ -6,6 +6,8 @@ use Rattle.std.specs.List.{AllByRecursion}
 use Rattle.std.proofs.lemmas.Bool.{lt-ltb, ltb-true}
 use Rattle.std.proofs.lemmas.Bool.Decides.{Decides-eqb}
 use Rattle.std.proofs.lemmas.List.{take_at, drop_at}
+use Rattle.scoop_etcd_calls.specs.declared.calls.Txn.{Txn}
+use Rattle.scoop_etcd_calls.specs.declared.calls.Outcome.{Outcome}
 use Rattle.scoop_message.specs.declared.name.HandlerId.{HandlerId}
 use Rattle.scoop_handler.specs.State.{HandlerState}
 use Rattle.scoop_handler.proofs.Basics.{all_both, by_test}
@@ -15,13 +17,13 @@ use Rattle.scoop_record.specs.Reading.{IsStored}
 use Rattle.scoop_record.proofs.Firsts.{word_apart}
 use Rattle.scoop_record.proofs.Stored.{same_state}
 use Rattle.scoop_record.proofs.StoredLemmas.{same_id}
-use Rattle.scoop_etcd.specs.Etcd.{Bytes, Contents, Puts, kept, value_of}
+use Rattle.scoop_etcd.specs.Etcd.{Answers, Bytes, Contents, HasValue, Holds as HoldsIn, Puts, TransactsAs, conditions_of, entries_of, kept, value_of}
 use Rattle.scoop_etcd.specs.Keys.{handler_key, client_key, owner_key}
 use Rattle.scoop_etcd.specs.declared.keys.Owner.{Owner}
 use Rattle.scoop_etcd.specs.Packed.{IsPacked, packed}
-use Rattle.scoop_etcd.specs.Owning.{value_under}
+use Rattle.scoop_etcd.specs.Owning.{StoreKeys, value_under}
 use Rattle.scoop_etcd.specs.Incarnation.{incs_in}
-use Rattle.scoop_etcd.specs.States.{Has, IsStateOf, IsWritable, handlers_in, state_bytes, state_entry, state_value}
+use Rattle.scoop_etcd.specs.States.{Commits, Has, IsStateOf, IsWritable, handlers_in, state_bytes, state_condition, state_entry, state_value}
 use Rattle.scoop_etcd.proofs.KeyLemmas.{handler_same, handler_no_client, owner_no_handler, owner_no_client}
 use Rattle.scoop_etcd.proofs.IncarnationLemmas.{same_incs}
 
@@ -85,6 +87,35 @@ all_mapped : {A B : Type 0} (P : B → Type 0) (f : A → B) (xs : List A) → A
 all_mapped P f [] all = tt
 all_mapped P f (x ∷ xs) all = (all.0, all_mapped P f xs all.1)
 
+-- a transaction that stores states, once it has succeeded
+pub commits_by : {IsAlone : Type 0} (old new : Contents) (keys : StoreKeys) (known : List (ℕ × ℕ)) (states : List HandlerState) (txn : Txn) (outcome : Outcome)
+    → conditions_of txn ≡ HasValue keys.owner keys.token ∷ map (state_condition keys.name known) states
+    → entries_of txn ≡ map (state_entry keys.name) states → AllByRecursion IsWritable states → Answers IsAlone old new txn outcome
+    → outcome.succeeded ≡ true → Commits IsAlone old new keys known states
+commits_by old new keys known states txn outcome conditions entries writable answers succeeded =
+    let made = subst (λ b. TransactsAs b answers.met new (conditions_of txn) (entries_of txn)) succeeded answers.transacts.result in
+    let held = subst (AllByRecursion (HoldsIn answers.met)) conditions made.0 in
+    record {
+      met = answers.met;
+      own = answers.own;
+      owns = held.0;
+      stood = all_mapped (HoldsIn answers.met) (state_condition keys.name known) states held.1;
+      writable = writable;
+      puts = subst (Puts answers.met new) entries made.1;
+    }
+
+-- where nothing has changed before it
+pub commits_after : {IsAlone : Type 0} (old mid new : Contents) (keys : StoreKeys) (known : List (ℕ × ℕ)) (states : List HandlerState)
+    → Commits IsAlone mid new keys known states → (IsAlone → mid ≡ old) → Commits IsAlone old new keys known states
+commits_after old mid new keys known states commits same = record {
+  met = commits.met;
+  own = λ alone. commits.own alone ∙ same alone;
+  owns = commits.owns;
+  stood = commits.stood;
+  writable = commits.writable;
+  puts = commits.puts;
+}
+
 -- it is the handler's, and among the states
 record IsLast (P : HandlerState → Type 0) (handler : ℕ) (s : HandlerState) : Type 0 where
   number : s.number.0 ≡ handler
@@ -93,26 +124,27 @@ record IsLast (P : HandlerState → Type 0) (handler : ℕ) (s : HandlerState) :
 last_is : (P : HandlerState → Type 0) (handler : ℕ) (xs : List HandlerState) (s : HandlerState) → AllByRecursion P xs → last_of handler xs ≡ Some s
     → IsLast P handler s
 last_is P handler [] s all is = absurd cc
-last_is P handler (x ∷ xs) s all is = go (last_of handler xs) refl is
+last_is P handler (x ∷ xs) s all is = go (last_of handler xs) refl (last_is P handler xs s all.1) is
   where
     here : x.number.0 ≡ handler → Some x ≡ Some s → IsLast P handler s
     here own e = let same : x ≡ s = cc in subst (IsLast P handler) same (record { number = own; holds = all.0 })
-    go : (o : Option HandlerState) → last_of handler xs ≡ o → option_or o (if x.number.0 == handler then Some x else None) ≡ Some s → IsLast P handler s
-    go (Some y) later e = last_is P handler xs s all.1 (later ∙ e)
-    go None later e =
+    go : (o : Option HandlerState) → last_of handler xs ≡ o → (last_of handler xs ≡ Some s → IsLast P handler s)
+        → option_or o (if x.number.0 == handler then Some x else None) ≡ Some s → IsLast P handler s
+    go (Some y) later more e = more (later ∙ e)
+    go None later more e =
         by_test (λ t. x.number.0 == handler ≡ t → (if t then Some x else None) ≡ Some s → IsLast P handler s) (x.number.0 == handler)
         (λ _ own f. here ((Decides-eqb x.number.0 handler).0 own) f) (λ _ own f. absurd cc) refl e
 
 last_none : (handler : ℕ) (xs : List HandlerState) → last_of handler xs ≡ None → AllByRecursion (λ x. x.number.0 ≢ handler) xs
 last_none handler [] none = tt
-last_none handler (x ∷ xs) none = go (last_of handler xs) refl none
+last_none handler (x ∷ xs) none = go (last_of handler xs) refl (last_none handler xs) none
   where
-    go : (o : Option HandlerState) → last_of handler xs ≡ o → option_or o (if x.number.0 == handler then Some x else None) ≡ None
-        → AllByRecursion (λ y. y.number.0 ≢ handler) (x ∷ xs)
-    go (Some y) later e = absurd cc
-    go None later e = (
+    go : (o : Option HandlerState) → last_of handler xs ≡ o → (last_of handler xs ≡ None → AllByRecursion (λ y. y.number.0 ≢ handler) xs)
+        → option_or o (if x.number.0 == handler then Some x else None) ≡ None → AllByRecursion (λ y. y.number.0 ≢ handler) (x ∷ xs)
+    go (Some y) later more e = absurd cc
+    go None later more e = (
       λ own. let is : x.number.0 == handler ≡ true = (Decides-eqb x.number.0 handler).1 own in let f = rw is at e in cc,
-      last_none handler xs later,
+      more later,
     )
 
 -- ---- what a put changes

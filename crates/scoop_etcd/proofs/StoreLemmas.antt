@@ -5,12 +5,15 @@ use Rattle.std.proofs.lemmas.List.{length-map}
 use Rattle.scoop_handler.specs.State.{HandlerState}
 use Rattle.scoop_keeper.specs.Keeper.{Stored, Keeps, Stays, IsSame, Sets}
 use Rattle.scoop_record.specs.Gathering.{last_of, Over, OverOne, Gathers, GathersAt, is_of}
-use Rattle.scoop_etcd.specs.Etcd.{Bytes, Contents}
-use Rattle.scoop_etcd.specs.Owning.{StoreKeys, Replaces}
+use Rattle.scoop_etcd.specs.Etcd.{Bytes, Contents, Puts}
+use Rattle.scoop_etcd.specs.Owning.{StoreKeys, Replaces, keys_under}
+use Rattle.hex.specs.Hex.{encode_lower}
+use Rattle.scoop_etcd.specs.Keys.{owner_key}
+use Rattle.scoop_etcd.specs.declared.keys.Owner.{Owner}
 use Rattle.scoop_etcd.specs.Incarnation.{Advances, incs_in}
 use Rattle.scoop_etcd.specs.States.{Commits, handlers_in}
 use Rattle.scoop_etcd.proofs.IncarnationLemmas.{put_inc}
-use Rattle.scoop_etcd.proofs.StateLemmas.{put_states, put_states_incs, put_inc_states}
+use Rattle.scoop_etcd.proofs.StateLemmas.{put_states, put_states_incs, put_inc_states, put_token_states, put_token_incs}
 
 module _ {IsAlone : Type 0} (old new : Contents) (keys : StoreKeys) (known : List (ℕ × ℕ)) (states : List HandlerState)
     (commits : Commits IsAlone old new keys known states) (alone : IsAlone) where
@@ -48,8 +51,8 @@ over_stays states old new stays = record { each = λ handler v. go (last_of hand
 pub keeps_after : (old mid new : ℕ → Stored → Type 0) (s : HandlerState) → Stays old mid → Keeps mid new s → Keeps old new s
 keeps_after old mid new s stays keeps = record {
   there = keeps.there;
-  others = λ other apart v. let first = stays.each other v in let then = keeps.others other apart v in
-      ((λ h. then.0 (first.0 h)), (λ h. first.1 (then.1 h)));
+  others = λ other apart v. let first = stays.each other v in let second = keeps.others other apart v in
+      ((λ h. second.0 (first.0 h)), (λ h. first.1 (second.1 h)));
 }
 
 pub gathers_few : (old new : List HandlerState) (s : HandlerState) → Gathers old new s → length old < 64 → length new ≤ 64
@@ -58,3 +61,16 @@ gathers_few old new s gathers few = go (find (is_of s.number) old) gathers
     go : (o : Option HandlerState) → GathersAt o old new s → length new ≤ 64
     go None is = let long : length new ≡ length old + 1 = ap length is ∙ length-append old (s ∷ []) in omega (arith, long, few)
     go (Some x) is = let long : length new ≡ length old = ap length is ∙ length-map old _ in omega (arith, long, few)
+
+-- ---- a token
+
+module _ {IsAlone : Type 0} (name : Bytes) (owner : Owner) (token : Bytes) (keys : StoreKeys) (same : keys ≡ keys_under name owner token) (old new : Contents)
+    (replaces : Replaces IsAlone old new keys) (alone : IsAlone) where
+  puts : Puts replaces.met new ((owner_key name owner, encode_lower token) ∷ [])
+  puts = subst (λ k. Puts replaces.met new ((k.owner, k.token) ∷ [])) same replaces.puts
+
+  pub replaced_states : Stays (handlers_in name old) (handlers_in name new)
+  replaced_states = subst (λ c. Stays (handlers_in name c) (handlers_in name new)) (replaces.own alone) (put_token_states name owner replaces.met new _ puts)
+
+  pub replaced_incs : IsSame (incs_in name old) (incs_in name new)
+  replaced_incs = subst (λ c. IsSame (incs_in name c) (incs_in name new)) (replaces.own alone) (put_token_incs name owner replaces.met new _ puts)
