@@ -128,6 +128,7 @@ last_is P handler (x ∷ xs) s all is = go (last_of handler xs) refl (last_is P 
   where
     here : x.number.0 ≡ handler → Some x ≡ Some s → IsLast P handler s
     here own e = let same : x ≡ s = cc in subst (IsLast P handler) same (record { number = own; holds = all.0 })
+
     go : (o : Option HandlerState) → last_of handler xs ≡ o → (last_of handler xs ≡ Some s → IsLast P handler s)
         → option_or o (if x.number.0 == handler then Some x else None) ≡ Some s → IsLast P handler s
     go (Some y) later more e = more (later ∙ e)

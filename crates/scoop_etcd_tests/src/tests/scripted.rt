@@ -52,10 +52,12 @@ impl ScriptedEtcd {
     pub fn put(&mut self, key: &[u8], value: &[u8]) -> Result<Outcome, EtcdError> {
         let txn = Txn {
             compares: Vec::new(self.alloc),
-            puts: vec![in self.alloc; Put {
-                key: Vec::from_slice(self.alloc, key)?,
-                value: Vec::from_slice(self.alloc, value)?,
-            }]?,
+            puts: vec![in self.alloc;
+                Put {
+                    key: Vec::from_slice(self.alloc, key)?,
+                    value: Vec::from_slice(self.alloc, value)?,
+                },
+            ]?,
         };
         self.inner.transact(&txn)
     }
@@ -78,7 +80,11 @@ impl Etcd for ScriptedEtcd {
     }
 
     fn transact(&mut self, txn: &Txn) -> Result<Outcome, EtcdError> {
-        let event = self.script.get(self.transactions).copied().unwrap_or(Event::Answered);
+        let event = self
+            .script
+            .get(self.transactions)
+            .copied()
+            .unwrap_or(Event::Answered);
         self.transactions = self.transactions.wrapping_add(1);
         match event {
             Event::Answered => self.inner.transact(txn),
