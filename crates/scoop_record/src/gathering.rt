@@ -57,8 +57,8 @@ impl<S: Alter + Drop> GatheringStore<S> {
     }
 }
 
-// The place of the handler's state.
-fn place_of(states: &[HandlerState], handler: HandlerId) -> Option<usize>
+/// The first place of a state of this handler.
+pub fn place_of(states: &[HandlerState], handler: HandlerId) -> Option<usize>
     ensures { MatchOption result (find (is_of handler) states.now ≡ None) (IsFirst (is_of handler) states.now) }
 {
     for (i, state) in states.iter().enumerate() {
@@ -69,8 +69,11 @@ fn place_of(states: &[HandlerState], handler: HandlerId) -> Option<usize>
     None
 }
 
-// The state waits in the place of its handler's earlier one, or as the last. An `Err` changes nothing.
-fn gather(pending: &mut Vec<HandlerState>, state: &HandlerState) -> Result<(), OutOfMemory>
+/// Adds a copy of the state to those that wait, in the place of its handler's earlier one, or as the last. At most one of
+/// those that wait is of each handler.
+///
+/// `OutOfMemory` is the one refusal, and changes nothing.
+pub fn gather(pending: &mut Vec<HandlerState>, state: &HandlerState) -> Result<(), OutOfMemory>
     requires { AreOfOthers pending.old.items }
     ensures ok { OnOk result (Gathers pending.old.items pending.new.items state.now) }
     ensures err { OnErr result (pending.new.items ≡ pending.old.items) }

@@ -303,8 +303,10 @@ pub(crate) fn load<S: Alter>(
     find_state(alloc, &mut tx, handler)
 }
 
-/// The image of the state, and the row of its pending entries.
-pub(crate) fn images_of(alloc: Global, it: &HandlerState) -> Result<(Vec<u8>, Vec<u8>), OutOfMemory>
+/// The image of the state, as [`image`] makes it, and the row of its pending entries, as [`pending_row`] does.
+///
+/// `OutOfMemory` is the one refusal.
+pub fn images_of(alloc: Global, it: &HandlerState) -> Result<(Vec<u8>, Vec<u8>), OutOfMemory>
     ensures { IfOk result (λ rows. IsStored it.now.number rows.0.items rows.1.items it.now) }
 {
     // Shows the prover that the value is a state, as any reader of the type does.

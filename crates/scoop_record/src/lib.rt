@@ -32,7 +32,8 @@ mod version;
 
 pub use adopt::adopt_tables;
 pub use create::create_tables;
-pub use gathering::GatheringStore;
+pub use gathering::{GatheringStore, gather, place_of};
+pub use handlers::images_of;
 pub use images::{ReadError, image, pending_row, read_image, read_image_with_entries};
 pub use scoop_keeper::{
     FailingKeeper, JobRefusal, Keeper, KeeperError, MemoryKeeper, Unfinished, finish_and_store,
