@@ -1,0 +1,4 @@
+pub mod History
+pub mod Fate
+pub mod Post
+pub mod Refusal
