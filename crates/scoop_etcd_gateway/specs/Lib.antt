@@ -2,3 +2,4 @@ pub mod History
 pub mod Fate
 pub mod Post
 pub mod Refusal
+pub mod Told

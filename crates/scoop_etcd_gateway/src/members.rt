@@ -117,6 +117,11 @@ impl<'a, R: Net + Clock> Members<'a, R> {
         }
     }
 
+    /// The time after so many milliseconds. `None` if the clock can't be read.
+    pub(crate) fn end_after(&self, millis: u64) -> Option<Instant> {
+        after(self.rt, millis)
+    }
+
     // Leaves the member. The next try goes to the next one.
     fn turn(&mut self) {
         self.stream = None;
