@@ -1,5 +1,5 @@
 -- One call more.
-use Rattle.std.proofs.Common.{◌≡◌, List, [], ◌∷◌, ◌++◌, ◌∙◌, refl, sym, ap, subst, append_assoc, Ok, Err, Result, IfOk, OnErr, String, Global, string_bytes}
+use Rattle.std.proofs.Common.{◌≡◌, [], ◌∷◌, ◌++◌, ◌∙◌, refl, sym, ap, subst, append_assoc, Ok, Err, Result, IfOk, OnErr, String, Global, string_bytes}
 use Rattle.serde_json.specs.Written.{compact_text}
 use Rattle.scoop_etcd_calls.specs.declared.calls.Range.{Range}
 use Rattle.scoop_etcd_calls.specs.declared.calls.Found.{Found}
