@@ -64,3 +64,12 @@ pub struct Outcome {
     /// The store's revision after the transaction. It is that of each key that was put.
     pub revision: u64,
 }
+
+/// Why an etcd refused a call.
+#[derive(Drop)]
+pub struct Refusal {
+    /// The code of gRPC: 8 if the store has no room left, 14 if it has no leader, 0 if none was given.
+    pub code: u64,
+    /// The reason in words.
+    pub message: String,
+}
