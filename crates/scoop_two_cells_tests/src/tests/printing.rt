@@ -11,7 +11,6 @@ use scoop_netloop::ServeEnd;
 use scoop_two_cells::{Outcome, Waited, Woven, print_outcome};
 use std::alloc::Global;
 use std::process::Abort;
-use std::test::Fail;
 
 // The outcome is printed like this, and the program ends with this status.
 fn prints(rt: &impl Abort, alloc: Global, outcome: &Outcome, text: &[u8], status: u8) {

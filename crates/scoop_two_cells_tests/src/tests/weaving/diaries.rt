@@ -10,7 +10,6 @@ use scoop_message::{ClientId, Message};
 use scoop_weaver::{Party, Traffic};
 use std::alloc::Global;
 use std::process::Abort;
-use std::test::Fail;
 
 // A client that knows the one handler.
 fn client(rt: &impl Abort, alloc: Global, inc: u32) -> Client {
