@@ -1,5 +1,6 @@
 //! Frames in words, and back.
 
+use crate::tests::{are_equal, are_equal_at};
 use scoop_demo::*;
 use scoop_frame::FrameError;
 use std::alloc::Global;
@@ -95,7 +96,7 @@ fn frames(rt: &impl Abort, alloc: Global, words: &str, digits: &str) {
 // The frame is printed as the words.
 fn tells(rt: &impl Abort, alloc: Global, words: &str, digits: &str) {
     let mut told = Vec::new(alloc);
-    assert_eq!(rt; tell_frames(digits.as_bytes(), &mut told), Ok(()));
+    are_equal(rt, tell_frames(digits.as_bytes(), &mut told), Ok(()));
     assert!(rt; is_line(&told, words), "{words}");
 }
 
@@ -164,7 +165,7 @@ const FRAMELESS: [(&str, WordsError); 19] = [
 fn prints_why_words_have_no_frame(rt: HostRuntime) {
     for (words, error) in FRAMELESS {
         let read = read_message(rt.alloc(), words.as_bytes());
-        assert_eq!(rt; read, Err(error), "{words}");
+        are_equal_at(&rt, read, Err(error), words);
     }
 }
 
@@ -177,7 +178,7 @@ const UNEVEN: Result<(), RunError> = Err(RunError::Input {
 fn refuses_what_is_no_frame(rt: HostRuntime) {
     let mut told = Vec::new(rt.alloc());
     let input = "5351\n5351010300000000000000070000000000000001000000000000\n";
-    assert_eq!(rt; tell_frames(input.as_bytes(), &mut told), Ok(()));
+    are_equal(&rt, tell_frames(input.as_bytes(), &mut told), Ok(()));
     assert!(rt; told.as_slice() == b"refused Short\nrefused FieldZero\n".as_slice());
-    assert_eq!(rt; tell_frames("5351\n535".as_bytes(), &mut told), UNEVEN);
+    are_equal(&rt, tell_frames("5351\n535".as_bytes(), &mut told), UNEVEN);
 }

@@ -1,5 +1,6 @@
 //! Lines of scripts.
 
+use crate::tests::{are_equal, are_equal_at};
 use scoop_demo::*;
 use scoop_message::{Args, ClientId, HandlerId, Request};
 use scoop_world::{Command, Event, HandlerList};
@@ -109,7 +110,7 @@ const KINDLESS: [(&str, bool); 9] = [
 #[test]
 fn knows_what_lines_are(rt: HostRuntime) {
     for (line, blank) in KINDLESS {
-        assert_eq!(rt; is_blank(line.as_bytes()), blank, "{line}");
+        are_equal_at(&rt, is_blank(line.as_bytes()), blank, line);
         assert!(rt; blank || line_kind(line.as_bytes()).is_none(), "{line}");
     }
 }
@@ -123,15 +124,15 @@ const CLIENTS: [(&str, Result<(ClientId, u8), InputFault>); 4] = [
 
 // A placed handler has these fields.
 fn places(rt: &impl Abort, placed: &PlacedLine) {
-    assert_eq!(rt; placed.node, 2);
-    assert_eq!(rt; placed.handler, ONE);
-    assert_eq!(rt; placed.words.as_slice(), [3, 4].as_slice());
+    are_equal(rt, placed.node, 2);
+    are_equal(rt, placed.handler, ONE);
+    are_equal(rt, placed.words.as_slice(), [3, 4].as_slice());
 }
 
 #[test]
 fn reads_the_lines_of_parties(rt: HostRuntime) {
     for (line, wanted) in CLIENTS {
-        assert_eq!(rt; read_client(line.as_bytes()), wanted, "{line}");
+        are_equal_at(&rt, read_client(line.as_bytes()), wanted, line);
     }
     match read_placement(rt.alloc(), b" 2 1 exchange 3 4") {
         Ok(placed) => places(&rt, &placed),

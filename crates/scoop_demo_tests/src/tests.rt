@@ -8,6 +8,7 @@ use scoop_keeper::Keeper;
 use scoop_message::{HandlerId, Words};
 use scoop_object::{Behaviour, Boxed, Table};
 use std::alloc::Global;
+use std::fmt::Debug;
 use std::process::Abort;
 
 // An input that opens the first block of client 7: its greeting, and the Lock, Open and Unlock.
@@ -114,8 +115,8 @@ fn answers<B: Behaviour, K: Keeper<Global>>(
 ) {
     let mut written = Vec::new(alloc);
     let result = answer_run(book, shown, input.as_bytes(), &mut written);
-    assert_eq!(rt; result, ended, "{input}");
-    assert_eq!(rt; written.as_slice(), output.as_bytes(), "{input}");
+    are_equal_at(rt, result, ended, input);
+    are_equal_at(rt, written.as_slice(), output.as_bytes(), input);
 }
 
 /// An object of this class gives these answers to an input, over a keeper, and its words are shown. Returns the keeper.
@@ -147,7 +148,25 @@ fn runs_cell<K: Keeper<Global>>(rt: &impl Abort, alloc: Global, keeper: K, case:
 /// The error has this text.
 fn says(rt: &impl Abort, alloc: Global, error: RunError, text: &str) {
     match format!(in alloc; "{error}") {
-        Ok(told) => assert_eq!(rt; told.as_str(), text),
+        Ok(told) => are_equal(rt, told.as_str(), text),
         Err(_) => panic!(rt; "out of memory"),
+    }
+}
+
+/// Both values are equal. It is proved once, where an `assert_eq!` would be proved in each function.
+pub(super) fn are_equal<T: PartialEq + Debug + Drop>(rt: &impl Abort, left: T, right: T) {
+    if left != right {
+        panic!(rt; "{left:?} is not {right:?}");
+    }
+}
+
+/// Both values are equal, at this step.
+pub(super) fn are_equal_at<T, N>(rt: &impl Abort, left: T, right: T, step: N)
+where
+    T: PartialEq + Debug + Drop,
+    N: Debug + Drop,
+{
+    if left != right {
+        panic!(rt; "{left:?} is not {right:?}, at {step:?}");
     }
 }

@@ -14,6 +14,7 @@ mod waits;
 use scoop_client::Client;
 use scoop_message::{Args, ClientId, HandlerId, Request};
 use std::alloc::Global;
+use std::fmt::Debug;
 use std::process::Abort;
 
 const ONE: HandlerId = HandlerId(1);
@@ -37,5 +38,12 @@ fn request(rt: &impl Abort, op: u16, argument: u64) -> Request {
     match Args::of(&[argument]) {
         Ok(args) => Request { op, args },
         Err(_) => panic!(rt; "no request"),
+    }
+}
+
+/// Both values are equal. It is proved once, where an `assert_eq!` would be proved in each function.
+fn are_equal<T: PartialEq + Debug + Drop>(rt: &impl Abort, left: T, right: T) {
+    if left != right {
+        panic!(rt; "{left:?} is not {right:?}");
     }
 }

@@ -33,7 +33,9 @@ use scoop_runtime::{
 };
 use scoop_system::System;
 use std::alloc::Global;
+use std::fmt::Debug;
 use std::net::Net;
+use std::process::Abort;
 use std::sync::Wait;
 use std::test::Fail;
 use std::thread::Threads;
@@ -184,4 +186,22 @@ fn client_link<R: Net>(
 ) -> Option<Result<UdpLink, RuntimeError>> {
     let place = system.client(ClientId(number))?;
     Some(open_client_link(rt, alloc, system, place))
+}
+
+/// Both values are equal. It is proved once, where an `assert_eq!` would be proved in each function.
+fn are_equal<T: PartialEq + Debug + Drop>(rt: &impl Abort, left: T, right: T) {
+    if left != right {
+        panic!(rt; "{left:?} is not {right:?}");
+    }
+}
+
+/// Both values are equal, at this step.
+fn are_equal_at<T, N>(rt: &impl Abort, left: T, right: T, step: N)
+where
+    T: PartialEq + Debug + Drop,
+    N: Debug + Drop,
+{
+    if left != right {
+        panic!(rt; "{left:?} is not {right:?}, at {step:?}");
+    }
 }

@@ -10,7 +10,8 @@ use scoop_message::{Block, ClientId, HandlerId, Words};
 use scoop_queue::QueueOfQueues;
 use scoop_watch::{LogLevel, Settings, Watch};
 use std::alloc::Global;
-use std::test::Fail;
+use std::fmt::Debug;
+use std::process::Abort;
 
 // The block of client 7 that the handler of `state` has open.
 const BLOCK: Block = Block {
@@ -20,9 +21,9 @@ const BLOCK: Block = Block {
 };
 
 // Handler 1 with these words. Block 7.1.3 has its lock and an open private queue, in which nothing waits.
-fn state(alloc: Global, words: &[u64]) -> Result<HandlerState, Fail> {
+fn state(rt: &impl Abort, alloc: Global, words: &[u64]) -> HandlerState {
     let mut queues = QueueOfQueues::new(alloc);
-    queues.open(BLOCK)?;
+    queues.open(BLOCK).expect(rt, "no queue");
     let mark = Mark {
         client: ClientId(7),
         inc: 1,
@@ -32,9 +33,10 @@ fn state(alloc: Global, words: &[u64]) -> Result<HandlerState, Fail> {
         ended: false,
         kept: None,
     };
-    let words = Words::of(words)?;
-    let state = HandlerState::of(alloc, HandlerId(1), words, Some(BLOCK), &[mark], queues)?;
-    Ok(state)
+    let words = Words::of(words).expect(rt, "no words");
+    HandlerState::of(alloc, HandlerId(1), words, Some(BLOCK), &[mark], queues).expect(
+        rt, "no state",
+    )
 }
 
 // A watch that shows states.
@@ -49,4 +51,11 @@ fn watch(alloc: Global, log: LogLevel) -> Watch {
 // A message without a reply.
 fn heard(note: Note) -> Heard {
     Heard { reply: None, note }
+}
+
+/// Both values are equal. It is proved once, where an `assert_eq!` would be proved in each function.
+fn are_equal<T: PartialEq + Debug + Drop>(rt: &impl Abort, left: T, right: T) {
+    if left != right {
+        panic!(rt; "{left:?} is not {right:?}");
+    }
 }

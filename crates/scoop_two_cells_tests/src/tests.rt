@@ -13,6 +13,7 @@ use scoop_message::{ClientId, HandlerId, OutOfMemory};
 use scoop_object::{Boxed, Class};
 use scoop_two_cells::{Objects, Plan, Ports, Woven, demo_run};
 use std::alloc::Global;
+use std::fmt::Debug;
 use std::io;
 use std::net::Net;
 use std::process::Abort;
@@ -72,98 +73,101 @@ fn refuses<R: Threads + Wait + Clock + Net + Abort + Sync>(
     let mut output = Vec::new(alloc);
     let line: Option<Vec<u8>> = None;
     let ended = demo_run(rt, alloc, objects, keeper, plan, line, &mut output);
-    assert_eq!(rt; ended, Err(error));
+    are_equal(rt, ended, Err(error));
     assert!(rt; output.is_empty());
 }
 
 #[test]
-fn two_clients_paint_two_cells_over_two_nodes(rt: HostRuntime) -> Result<(), Fail> {
+fn two_clients_paint_two_cells_over_two_nodes(rt: HostRuntime) {
     let alloc = rt.alloc();
     // each node has a cell, and the clients take their incarnations from the keeper
-    let objects = cells(alloc)?;
-    let mut keeper = MemoryKeeper::new(alloc).with_incarnation(ClientId(8), 4)?;
+    let objects = cells(alloc).expect(&rt, "failed");
+    let mut keeper = MemoryKeeper::new(alloc)
+        .with_incarnation(ClientId(8), 4)
+        .expect(&rt, "failed");
     let (mut line, mut output) = (Vec::new(alloc), Vec::new(alloc));
-    let (plan, told) = (plan(&rt)?, Some(&mut line));
-    let outcome = demo_run(&rt, alloc, objects, &mut keeper, &plan, told, &mut output)?;
+    let (plan, told) = (plan(&rt).expect(&rt, "failed"), Some(&mut line));
+    let outcome = demo_run(&rt, alloc, objects, &mut keeper, &plan, told, &mut output).expect(
+        &rt, "failed",
+    );
     // both clients painted both cells in their blocks, so that a third one reads the same value in both
-    assert_eq!(rt; outcome.first, outcome.second);
-    assert_eq!(rt; outcome.status(), 0);
+    are_equal(&rt, outcome.first, outcome.second);
+    are_equal(&rt, outcome.status(), 0);
     let lines = "cells same\nnode 1 closed\nnode 2 closed\n";
     assert!(rt; output.as_slice() == lines.as_bytes());
     assert!(rt; line.ends_with(b"\rclient 7: 3 of 3 rounds, client 8: 3 of 3 rounds\n"));
-    assert_eq!(rt; keeper.next_incarnation(ClientId(8)), Ok(6));
-    assert_eq!(rt; keeper.next_incarnation(ClientId(7)), Ok(2));
-    assert_eq!(rt; keeper.next_incarnation(ClientId(9)), Ok(2));
-    Ok(())
+    are_equal(&rt, keeper.next_incarnation(ClientId(8)), Ok(6));
+    are_equal(&rt, keeper.next_incarnation(ClientId(7)), Ok(2));
+    are_equal(&rt, keeper.next_incarnation(ClientId(9)), Ok(2));
 }
 
 #[test]
-fn a_client_waits_for_the_balance(rt: HostRuntime) -> Result<(), Fail> {
+fn a_client_waits_for_the_balance(rt: HostRuntime) {
     let alloc = rt.alloc();
-    let mut objects = cells(alloc)?;
-    objects.account = Some(account(alloc)?);
+    let mut objects = cells(alloc).expect(&rt, "failed");
+    objects.account = Some(account(alloc).expect(&rt, "failed"));
     let mut keeper = MemoryKeeper::new(alloc);
     let mut output = Vec::new(alloc);
     let line: Option<Vec<u8>> = None;
-    let plan = plan(&rt)?;
-    let outcome = demo_run(&rt, alloc, objects, &mut keeper, &plan, line, &mut output)?;
+    let plan = plan(&rt).expect(&rt, "failed");
+    let outcome = demo_run(&rt, alloc, objects, &mut keeper, &plan, line, &mut output).expect(
+        &rt, "failed",
+    );
     let lines = "balance 0\ncells same\nnode 1 closed\nnode 2 closed\n";
     assert!(rt; output.as_slice() == lines.as_bytes());
-    assert_eq!(rt; outcome.status(), 0);
-    Ok(())
+    are_equal(&rt, outcome.status(), 0);
 }
 
 #[test]
-fn an_order_is_printed_after_the_other_lines(rt: HostRuntime) -> Result<(), Fail> {
+fn an_order_is_printed_after_the_other_lines(rt: HostRuntime) {
     let alloc = rt.alloc();
-    let objects = cells(alloc)?;
+    let objects = cells(alloc).expect(&rt, "failed");
     let mut keeper = MemoryKeeper::new(alloc);
-    let mut plan = plan(&rt)?;
+    let mut plan = plan(&rt).expect(&rt, "failed");
     plan.weaves = true;
     let mut output = Vec::new(alloc);
     let line: Option<Vec<u8>> = None;
-    let outcome = demo_run(&rt, alloc, objects, &mut keeper, &plan, line, &mut output)?;
+    let outcome = demo_run(&rt, alloc, objects, &mut keeper, &plan, line, &mut output).expect(
+        &rt, "failed",
+    );
     let Some(Woven::Moves(count)) = outcome.woven else {
         panic!(rt; "no order");
     };
     let lines = format!(in alloc;
         "cells same\nnode 1 closed\nnode 2 closed\nwoven: {count} moves\n"
-    )?;
+    ).expect(&rt, "failed");
     assert!(rt; output.as_slice() == lines.as_bytes());
-    assert_eq!(rt; outcome.status(), 0);
-    Ok(())
+    are_equal(&rt, outcome.status(), 0);
 }
 
 #[test]
-fn a_port_in_use_is_reported(rt: HostRuntime) -> Result<(), Fail> {
+fn a_port_in_use_is_reported(rt: HostRuntime) {
     let alloc = rt.alloc();
-    let plan = plan(&rt)?;
+    let plan = plan(&rt).expect(&rt, "failed");
     let own = plan.ports.clients[2];
-    let _taken = UdpLink::open(&rt, alloc, Peers { own, table: &[] })?;
-    let objects = cells(alloc)?;
+    let _taken = UdpLink::open(&rt, alloc, Peers { own, table: &[] }).expect(&rt, "failed");
+    let objects = cells(alloc).expect(&rt, "failed");
     let mut keeper = MemoryKeeper::new(alloc);
     refuses(&rt, alloc, objects, &mut keeper, &plan, PartyError::NoLink);
-    Ok(())
 }
 
 #[test]
-fn too_few_turns_are_reported(rt: HostRuntime) -> Result<(), Fail> {
+fn too_few_turns_are_reported(rt: HostRuntime) {
     let alloc = rt.alloc();
-    let objects = cells(alloc)?;
+    let objects = cells(alloc).expect(&rt, "failed");
     let mut keeper = MemoryKeeper::new(alloc);
-    let mut plan = plan(&rt)?;
+    let mut plan = plan(&rt).expect(&rt, "failed");
     plan.turns = 1;
     let error = PartyError::Driver(DriverError::TurnsOver);
     refuses(&rt, alloc, objects, &mut keeper, &plan, error);
-    Ok(())
 }
 
 #[test]
 fn no_turns_are_turns_over(rt: HostRuntime) -> Result<(), Fail> {
     let alloc = rt.alloc();
-    let objects = cells(alloc)?;
+    let objects = cells(alloc).expect(&rt, "failed");
     let mut keeper = MemoryKeeper::new(alloc);
-    let mut plan = plan(&rt)?;
+    let mut plan = plan(&rt).expect(&rt, "failed");
     plan.turns = 0;
     let mut output = Vec::new(alloc);
     let line: Option<Vec<u8>> = None;
@@ -172,33 +176,40 @@ fn no_turns_are_turns_over(rt: HostRuntime) -> Result<(), Fail> {
     let Err(error) = ended else {
         panic!(rt; "ended well");
     };
-    let text = format!(in alloc; "{error}")?;
-    assert_eq!(rt; text.as_str(), "link: TurnsOver");
-    assert_eq!(rt; error.status(), 3);
+    let text = format!(in alloc; "{error}").expect(&rt, "failed");
+    are_equal(&rt, text.as_str(), "link: TurnsOver");
+    are_equal(&rt, error.status(), 3);
     assert!(rt; output.is_empty());
     Ok(())
 }
 
 #[test]
-fn spent_incarnations_are_reported(rt: HostRuntime) -> Result<(), Fail> {
+fn spent_incarnations_are_reported(rt: HostRuntime) {
     let alloc = rt.alloc();
-    let objects = cells(alloc)?;
-    let mut keeper = MemoryKeeper::new(alloc).with_incarnation(ClientId(9), u32::MAX)?;
+    let objects = cells(alloc).expect(&rt, "failed");
+    let mut keeper = MemoryKeeper::new(alloc)
+        .with_incarnation(ClientId(9), u32::MAX)
+        .expect(&rt, "failed");
     let error = PartyError::Store(KeeperError::IncarnationsSpent);
-    let plan = plan(&rt)?;
+    let plan = plan(&rt).expect(&rt, "failed");
     refuses(&rt, alloc, objects, &mut keeper, &plan, error);
-    Ok(())
 }
 
 #[test]
-fn an_object_of_another_class_is_reported(rt: HostRuntime) -> Result<(), Fail> {
+fn an_object_of_another_class_is_reported(rt: HostRuntime) {
     let alloc = rt.alloc();
-    let mut objects = cells(alloc)?;
-    let (_, other) = account(alloc)?;
+    let mut objects = cells(alloc).expect(&rt, "failed");
+    let (_, other) = account(alloc).expect(&rt, "failed");
     objects.second.1 = other;
     let mut keeper = MemoryKeeper::new(alloc);
     let error = PartyError::WrongClass(HandlerId(2));
-    let plan = plan(&rt)?;
+    let plan = plan(&rt).expect(&rt, "failed");
     refuses(&rt, alloc, objects, &mut keeper, &plan, error);
-    Ok(())
+}
+
+/// Both values are equal. It is proved once, where an `assert_eq!` would be proved in each function.
+fn are_equal<T: PartialEq + Debug + Drop>(rt: &impl Abort, left: T, right: T) {
+    if left != right {
+        panic!(rt; "{left:?} is not {right:?}");
+    }
 }

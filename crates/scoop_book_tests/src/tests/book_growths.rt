@@ -127,7 +127,7 @@ fn any_refused(rt: &impl Abort, alloc: Global, number: u64) -> Option<bool> {
 fn a_refused_growth_leaves_words_and_history(rt: HostRuntime) -> Result<(), Fail> {
     assert!(rt; any_refused(&rt, rt.alloc(), 1) == Some(true));
     for number in 2..64u64 {
-        if !any_refused(&rt, rt.alloc(), number).ok_or("no book")? {
+        if !any_refused(&rt, rt.alloc(), number).expect(&rt, "no book") {
             return Ok(());
         }
     }

@@ -23,13 +23,15 @@ fn sends(book: &mut MemoryBook) -> Result<(), Fail> {
     Ok(())
 }
 
-fn runs(rt: &impl Abort, book: &mut MemoryBook) -> Result<(), Fail> {
+fn runs(rt: &impl Abort, book: &mut MemoryBook) {
     // the entry runs outside the book
-    let job = book.begin(0, ONE)?.ok_or("nothing to run")?;
-    let ran = book.finish(0, job.work()).ok().ok_or("refused")?;
+    let job = book
+        .begin(0, ONE)
+        .expect(rt, "failed")
+        .expect(rt, "nothing to run");
+    let ran = book.finish(0, job.work()).ok().expect(rt, "refused");
     assert!(rt; (ran.block, ran.number) == (block(7), 1));
     assert!(rt; book.history().len() == 6);
-    Ok(())
 }
 
 fn stored(book: MemoryBook) -> Option<u64> {
@@ -40,15 +42,17 @@ fn stored(book: MemoryBook) -> Option<u64> {
 
 #[test]
 fn a_block_sets_a_cell(rt: HostRuntime) -> Result<(), Fail> {
-    let mut book = book(rt.alloc(), &[1]).ok_or("no cells")??;
+    let mut book = book(rt.alloc(), &[1])
+        .expect(&rt, "no cells")
+        .expect(&rt, "failed");
     sends(&mut book)?;
-    runs(&rt, &mut book)?;
+    runs(&rt, &mut book);
     assert!(rt; stored(book) == Some(5));
     Ok(())
 }
 
 #[test]
-fn a_lock_takes_five_words(rt: HostRuntime) -> Result<(), Fail> {
+fn a_lock_takes_five_words(rt: HostRuntime) {
     let block = Block {
         client: ClientId(7),
         inc: 2,
@@ -56,11 +60,10 @@ fn a_lock_takes_five_words(rt: HostRuntime) -> Result<(), Fail> {
     };
     let lock = Message::Lock(HandlerId(1), block);
     let mut words = Vec::new(rt.alloc());
-    words.reserve(51)?;
+    words.reserve(51).expect(&rt, "failed");
     put_message(&mut words, &lock);
     assert_eq!(rt; words.len(), 5);
     let mut reader = Reader::new(&words);
     let kind = reader.word();
     assert_eq!(rt; reader.message(kind), lock);
-    Ok(())
 }

@@ -196,7 +196,7 @@ fn opening(alloc: Global, number: u64) -> Option<(Option<OpenError>, bool)> {
 fn each_growth_of_an_event_is_refused(rt: HostRuntime) -> Result<(), Fail> {
     assert!(rt; any_refused(&rt, rt.alloc(), 1) == Some(true));
     for number in 2..64u64 {
-        if !any_refused(&rt, rt.alloc(), number).ok_or("no node")? {
+        if !any_refused(&rt, rt.alloc(), number).expect(&rt, "no node") {
             return Ok(());
         }
     }
@@ -208,7 +208,7 @@ fn each_growth_of_an_opening_is_refused(rt: HostRuntime) -> Result<(), Fail> {
     let refused = (Some(OpenError::OutOfMemory), true);
     assert!(rt; opening(rt.alloc(), 1) == Some(refused));
     for number in 2..64u64 {
-        let opened = opening(rt.alloc(), number).ok_or("no cells")?;
+        let opened = opening(rt.alloc(), number).expect(&rt, "no cells");
         if opened == (None, false) {
             return Ok(());
         }

@@ -117,7 +117,9 @@ fn is_read_back(rt: &impl Abort, alloc: Global, book: &MemoryBook, made: &[(u32,
 
 #[test]
 fn each_kind_of_entry_is_read_back(rt: HostRuntime) -> Result<(), Fail> {
-    let mut book = book(rt.alloc(), &[1]).ok_or("cells")??;
+    let mut book = book(rt.alloc(), &[1])
+        .expect(&rt, "cells")
+        .expect(&rt, "failed");
     let Some(made) = makes(rt.alloc(), &mut book) else {
         return Err("refused".into());
     };

@@ -70,7 +70,9 @@ fn is_run(rt: &impl Abort, history: &[(u32, Event, Reply)]) {
 
 #[test]
 fn a_book_hears_and_runs(rt: HostRuntime) -> Result<(), Fail> {
-    let mut book = book(rt.alloc(), &[1, 2]).ok_or("cells")??;
+    let mut book = book(rt.alloc(), &[1, 2])
+        .expect(&rt, "cells")
+        .expect(&rt, "failed");
     sends(&rt, &mut book);
     let unknown = refusal(&mut book, hello(3, 7));
     runs(&rt, &mut book);
@@ -102,13 +104,16 @@ fn goes_on(rt: &impl Abort, book: &mut MemoryBook, strange: Done<Table>) {
 
 /// A book that opens over another one's keeper goes on where that one was, with no job out.
 #[test]
-fn a_book_opens_again(rt: HostRuntime) -> Result<(), Fail> {
-    let mut first = book(rt.alloc(), &[1]).ok_or("cells")??;
+fn a_book_opens_again(rt: HostRuntime) {
+    let mut first = book(rt.alloc(), &[1])
+        .expect(&rt, "cells")
+        .expect(&rt, "failed");
     sends(&rt, &mut first);
-    let strange = done(&mut first, 0).ok_or("a job")?;
-    let mut second = again(rt.alloc(), first).ok_or("cells")??;
+    let strange = done(&mut first, 0).expect(&rt, "a job");
+    let mut second = again(rt.alloc(), first)
+        .expect(&rt, "cells")
+        .expect(&rt, "failed");
     goes_on(&rt, &mut second, strange);
-    Ok(())
 }
 
 /// Why handler 1, as it stood, doesn't open again over this keeper.
@@ -126,9 +131,11 @@ fn not_reopened(
 /// A handler that stood with a job out opens again over its keeper, and over no other one.
 #[test]
 fn a_book_opens_again_as_it_stood(rt: HostRuntime) -> Result<(), Fail> {
-    let mut first = book(rt.alloc(), &[1]).ok_or("cells")??;
+    let mut first = book(rt.alloc(), &[1])
+        .expect(&rt, "cells")
+        .expect(&rt, "failed");
     sends(&rt, &mut first);
-    let _job = done(&mut first, 0).ok_or("a job")?;
+    let _job = done(&mut first, 0).expect(&rt, "a job");
     let (keeper, stood) = first.into_standing();
     let empty = MemoryKeeper::new(rt.alloc());
     assert!(rt; not_reopened(rt.alloc(), keeper, &stood) == Some(Ok(())));
@@ -184,14 +191,17 @@ fn closed(rt: &impl Wait, alloc: Global, node: MemoryNode, pass: Pass) -> Option
 
 /// A limit of two: the node returns a job that is out then, and closes.
 #[test]
-fn a_history_ends(rt: HostRuntime) -> Result<(), Fail> {
-    let mut before = book(rt.alloc(), &[1]).ok_or("cells")??;
+fn a_history_ends(rt: HostRuntime) {
+    let mut before = book(rt.alloc(), &[1])
+        .expect(&rt, "cells")
+        .expect(&rt, "failed");
     sends(&rt, &mut before);
-    let (node, mut passes) = limited(rt.alloc(), before).ok_or("cells")??;
-    let mut pass = passes.pop().ok_or("a pass")?;
+    let (node, mut passes) = limited(rt.alloc(), before)
+        .expect(&rt, "cells")
+        .expect(&rt, "failed");
+    let mut pass = passes.pop().expect(&rt, "a pass");
     ends(&rt, &node, &mut pass);
     assert!(rt; closed(&rt, rt.alloc(), node, pass) == Some(2));
-    Ok(())
 }
 
 fn fills(rt: &impl Abort, book: &mut MemoryBook) {
@@ -205,8 +215,9 @@ fn fills(rt: &impl Abort, book: &mut MemoryBook) {
 
 /// The longest history, met and passed.
 #[test]
-fn the_longest_history_ends(rt: HostRuntime) -> Result<(), Fail> {
-    let mut book = book(rt.alloc(), &[1]).ok_or("cells")??;
+fn the_longest_history_ends(rt: HostRuntime) {
+    let mut book = book(rt.alloc(), &[1])
+        .expect(&rt, "cells")
+        .expect(&rt, "failed");
     fills(&rt, &mut book);
-    Ok(())
 }

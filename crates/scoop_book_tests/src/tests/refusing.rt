@@ -43,34 +43,39 @@ fn goes_on(rt: &impl Abort, book: &mut MemoryBook) {
 
 /// The second put is refused: the book has failed, and another one has what the first put stored.
 #[test]
-fn a_refused_put_fails_the_book(rt: HostRuntime) -> Result<(), Fail> {
-    let mut book = failing(rt.alloc(), 2).ok_or("cells")??;
+fn a_refused_put_fails_the_book(rt: HostRuntime) {
+    let mut book = failing(rt.alloc(), 2)
+        .expect(&rt, "cells")
+        .expect(&rt, "failed");
     fails(&rt, &mut book);
-    let mut again = again(rt.alloc(), book).ok_or("cells")??;
+    let mut again = again(rt.alloc(), book)
+        .expect(&rt, "cells")
+        .expect(&rt, "failed");
     goes_on(&rt, &mut again);
-    Ok(())
 }
 
 /// A new handler's first message makes a put even if the handler drops it.
 #[test]
-fn a_first_message_is_put(rt: HostRuntime) -> Result<(), Fail> {
-    let mut book = failing(rt.alloc(), 1).ok_or("cells")??;
+fn a_first_message_is_put(rt: HostRuntime) {
+    let mut book = failing(rt.alloc(), 1)
+        .expect(&rt, "cells")
+        .expect(&rt, "failed");
     assert!(rt; refusal(&mut book, lock(1, 7)) == Some(BookError::StoreRefused));
-    Ok(())
 }
 
 #[test]
-fn a_refused_load_opens_nothing(rt: HostRuntime) -> Result<(), Fail> {
+fn a_refused_load_opens_nothing(rt: HostRuntime) {
     let refused = OpenError::Keeper(KeeperError::Refused);
-    let error = failing(rt.alloc(), 0).ok_or("cells")?.err();
+    let error = failing(rt.alloc(), 0).expect(&rt, "cells").err();
     assert!(rt; error == Some(refused));
-    Ok(())
 }
 
 /// The keeper takes a load, a put and a commit, and refuses the next commit: the book has failed, and keeps its history.
 #[test]
 fn a_refused_commit_fails_the_book(rt: HostRuntime) -> Result<(), Fail> {
-    let mut book = failing(rt.alloc(), 3).ok_or("cells")??;
+    let mut book = failing(rt.alloc(), 3)
+        .expect(&rt, "cells")
+        .expect(&rt, "failed");
     assert!(rt; refusal(&mut book, hello(1, 7)).is_none());
     assert!(rt; book.commit().is_ok());
     assert!(rt; book.commit() == Err(BookError::StoreRefused));

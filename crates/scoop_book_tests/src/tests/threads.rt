@@ -8,7 +8,6 @@ use scoop_object::Table;
 use std::alloc::Global;
 use std::process::Abort;
 use std::sync::Wait;
-use std::test::Fail;
 use std::thread;
 use std::thread::Threads;
 
@@ -166,22 +165,20 @@ fn closes<R: Wait>(
 }
 
 #[test]
-fn two_threads_work_and_the_node_is_closed(rt: HostRuntime) -> Result<(), Fail> {
+fn two_threads_work_and_the_node_is_closed(rt: HostRuntime) {
     let alloc = rt.alloc();
-    let stranger = strange(alloc).ok_or("a stranger")?;
-    let (node, passes) = opened(alloc, 2).ok_or("cells")??;
-    let (second, given) = worked(&rt, alloc, &node, passes).ok_or("passes")?;
-    let (causes, entries) = closes(&rt, alloc, node, given, stranger, second).ok_or("closed")?;
+    let stranger = strange(alloc).expect(&rt, "a stranger");
+    let (node, passes) = opened(alloc, 2).expect(&rt, "cells").expect(&rt, "failed");
+    let (second, given) = worked(&rt, alloc, &node, passes).expect(&rt, "passes");
+    let (causes, entries) = closes(&rt, alloc, node, given, stranger, second).expect(&rt, "closed");
     assert!(rt; causes == (CloseRefusal::MissingPass, CloseRefusal::PassDiffers(1)));
     assert!(rt; entries == (1000, 500, 500));
-    Ok(())
 }
 
 #[test]
-fn a_node_has_a_pass(rt: HostRuntime) -> Result<(), Fail> {
-    let none = opened(rt.alloc(), 0).ok_or("cells")?.err();
+fn a_node_has_a_pass(rt: HostRuntime) {
+    let none = opened(rt.alloc(), 0).expect(&rt, "cells").err();
     assert!(rt; none == Some(OpenError::NoPasses));
-    let one = opened(rt.alloc(), 1).ok_or("cells")?.is_ok();
+    let one = opened(rt.alloc(), 1).expect(&rt, "cells").is_ok();
     assert!(rt; one);
-    Ok(())
 }

@@ -1,6 +1,7 @@
 //! Advice on errors of a run.
 
 use super::ONE;
+use crate::tests::are_equal;
 use scoop_demo::*;
 use scoop_keeper::KeeperError;
 use scoop_lines::SourceFault;
@@ -79,7 +80,7 @@ fn each_error_says_what_to_do(rt: HostRuntime) {
         assert!(rt; !error.advice().is_empty());
     }
     for (error, advice) in ADVICES {
-        assert_eq!(rt; error.advice(), advice);
+        are_equal(&rt, error.advice(), advice);
     }
 }
 

@@ -1,5 +1,6 @@
 //! Errors of wrong command lines, and the help.
 
+use crate::tests::are_equal;
 use clap::Error;
 use scoop_classes::DemoClass;
 use scoop_command_line::command;
@@ -269,7 +270,7 @@ fn has(rt: &impl Abort, text: &str, parts: &[&str]) {
 // The program prints these parts, and ends with this status.
 fn tells(rt: &impl Abort, alloc: Global, (line, parts): &Case<'_>, status: i32) {
     let error = ended(rt, alloc, line);
-    assert_eq!(rt; error.exit_code(), status);
+    are_equal(rt, error.exit_code(), status);
     match format!(in alloc; "{error}") {
         Ok(text) => has(rt, &text, parts),
         Err(_) => panic!(rt; "out of memory"),

@@ -1,6 +1,7 @@
 //! Answers to inputs.
 
 use super::{Case, ONE, answers, runs_cell, runs_over, says, table_book};
+use crate::tests::are_equal;
 use scoop_classes::AccountObject;
 use scoop_demo::*;
 use scoop_keeper::{KeeperError, MemoryKeeper};
@@ -88,7 +89,7 @@ fn enters_what_its_handler_hears_and_runs(rt: HostRuntime) {
     answers(&rt, alloc, &mut book, Some(HandlerId(2)), HEARD);
     // Each message to handler 1 is an entry. The greeting lets the handler look for something to run, and the call lets
     // it begin, finish, and look again.
-    assert_eq!(rt; book.history().len(), 5 + 1 + 3);
+    are_equal(&rt, book.history().len(), 5 + 1 + 3);
 }
 
 const WITHDRAWAL: Case = (
@@ -254,11 +255,11 @@ const REFUSALS: [(KeeperError, &str); 4] = [
 fn errors_have_a_text_and_a_status(rt: HostRuntime) {
     for (error, text, status) in ERRORS {
         says(&rt, rt.alloc(), error, text);
-        assert_eq!(rt; error.status(), status);
+        are_equal(&rt, error.status(), status);
     }
     for (refusal, text) in REFUSALS {
         let error = RunError::from(refusal);
         says(&rt, rt.alloc(), error, text);
-        assert_eq!(rt; error.status(), 3);
+        are_equal(&rt, error.status(), 3);
     }
 }

@@ -1,6 +1,7 @@
 //! Runs over keepers, and refusals of keepers.
 
 use super::{Case, HELLO, LOCK, ONE, answers, opened, runs_cell, runs_over, table_book};
+use crate::tests::{are_equal, are_equal_at};
 use scoop_classes::{CellObject, ExchangeObject};
 use scoop_demo::*;
 use scoop_keeper::{FailingKeeper, Keeper, KeeperError, MemoryKeeper};
@@ -44,7 +45,7 @@ fn behind_an_exchange(rt: &impl Abort, alloc: Global) -> MemoryKeeper {
 fn words_of_another_class_are_refused(rt: HostRuntime) {
     let keeper = behind_an_exchange(&rt, rt.alloc());
     let refused = cell_refusal(&rt, rt.alloc(), keeper);
-    assert_eq!(rt; refused, Some(RunError::WrongClass(ONE)));
+    are_equal(&rt, refused, Some(RunError::WrongClass(ONE)));
 }
 
 // Whether something is stored for handler 1 once a run has answered an input.
@@ -99,7 +100,7 @@ const STORED: [(Case, bool); 7] = [
 #[test]
 fn what_is_dropped_here_is_stored(rt: HostRuntime) {
     for (case, stored) in STORED {
-        assert_eq!(rt; stores(&rt, rt.alloc(), case), stored, "{}", case.0);
+        are_equal_at(&rt, stores(&rt, rt.alloc(), case), stored, case.0);
     }
 }
 
@@ -166,7 +167,7 @@ fn a_refusal_stops_before_its_answer(rt: HostRuntime) {
     let alloc = rt.alloc();
     let keeper = FailingKeeper::new(MemoryKeeper::new(alloc), 0);
     let refused = cell_refusal(&rt, alloc, keeper);
-    assert_eq!(rt; refused, Some(RunError::Store(KeeperError::Refused)));
+    are_equal(&rt, refused, Some(RunError::Store(KeeperError::Refused)));
     for (calls, answered) in ANSWERED {
         goes_on(&rt, alloc, calls, answered);
     }

@@ -4,6 +4,7 @@
 //! histories, have nothing before that.
 
 use super::says;
+use crate::tests::are_equal;
 use scoop_demo::*;
 use scoop_keeper::MemoryKeeper;
 use scoop_message::ClientId;
@@ -487,7 +488,7 @@ fn plays_doc(rt: &impl Abort, alloc: Global) -> Result<(), RunError> {
 
 #[test]
 fn plays_the_example_of_the_doc(rt: HostRuntime) {
-    assert_eq!(rt; plays_doc(&rt, rt.alloc()), Ok(()));
+    are_equal(&rt, plays_doc(&rt, rt.alloc()), Ok(()));
 }
 
 const ECHOED: &str = "\
@@ -552,16 +553,16 @@ fn echoed(
 #[test]
 fn echoes_the_lines_that_it_plays(rt: HostRuntime) {
     let mut written = Vec::new(rt.alloc());
-    assert_eq!(rt; echoed(rt.alloc(), ECHOED, false, &mut written), Ok(()));
-    assert_eq!(rt; str::from_utf8(&written).ok(), Some(ALL_ECHOES));
+    are_equal(&rt, echoed(rt.alloc(), ECHOED, false, &mut written), Ok(()));
+    are_equal(&rt, str::from_utf8(&written).ok(), Some(ALL_ECHOES));
 }
 
 #[test]
 fn stops_at_a_refused_event(rt: HostRuntime) {
     let mut written = Vec::new(rt.alloc());
     let ended = echoed(rt.alloc(), ECHOED, true, &mut written);
-    assert_eq!(rt; ended, fault!(9, Refused));
-    assert_eq!(rt; str::from_utf8(&written).ok(), Some(ECHOES));
+    are_equal(&rt, ended, fault!(9, Refused));
+    are_equal(&rt, str::from_utf8(&written).ok(), Some(ECHOES));
 }
 
 const RAN: &str = "\
@@ -596,11 +597,11 @@ ran 7.1.1 2 5
 #[test]
 fn echoes_the_entries_that_run(rt: HostRuntime) {
     let mut written = Vec::new(rt.alloc());
-    assert_eq!(rt; echoed(rt.alloc(), RAN, true, &mut written), Ok(()));
+    are_equal(&rt, echoed(rt.alloc(), RAN, true, &mut written), Ok(()));
     let text = str::from_utf8(&written).ok().unwrap_or("");
     let (_, behind) = text.split_once("10: ").unwrap_or(("", ""));
     let (told, _) = behind.split_once("joint").unwrap_or((behind, ""));
-    assert_eq!(rt; told, RUNS);
+    are_equal(&rt, told, RUNS);
 }
 
 // A client that is to reserve a handler, and what it did before.
@@ -653,23 +654,24 @@ fn settled(alloc: Global, script: &str, written: &mut Vec<u8>) -> Result<(), Run
 #[test]
 fn says_how_many_rounds_were_left_and_how_many_steps_were_taken(rt: HostRuntime) {
     let mut written = Vec::new(rt.alloc());
-    assert_eq!(rt; settled(rt.alloc(), RESERVING, &mut written), Ok(()));
+    are_equal(&rt, settled(rt.alloc(), RESERVING, &mut written), Ok(()));
     let text = str::from_utf8(&written).ok().unwrap_or("");
     let (_, steps) = text.split_once(RESERVED).unwrap_or(("", ""));
     let (told, _) = steps.split_once("handler").unwrap_or((steps, ""));
-    assert_eq!(rt; told, SETTLES);
+    are_equal(&rt, told, SETTLES);
 }
 
 #[test]
 fn a_calm_world_settles_in_no_step(rt: HostRuntime) {
     let mut written = Vec::new(rt.alloc());
     let script = "handler 1 1 cell 0\nclient 7\ntrip 7 1\n";
-    assert_eq!(rt; settled(rt.alloc(), script, &mut written), Ok(()));
+    are_equal(&rt, settled(rt.alloc(), script, &mut written), Ok(()));
     let text = str::from_utf8(&written).ok().unwrap_or("");
     let (_, told) = text.split_once("Welcomed 1\n").unwrap_or(("", ""));
     let (line, _) = told.split_once('\n').unwrap_or((told, ""));
-    assert_eq!(rt;
+    are_equal(
+        &rt,
         line,
-        "settled: at most 0 rounds were left, 0 steps were taken"
+        "settled: at most 0 rounds were left, 0 steps were taken",
     );
 }

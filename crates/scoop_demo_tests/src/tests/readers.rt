@@ -1,6 +1,7 @@
 //! Readers and writers that fail, and a user who waits for an answer.
 
 use super::{ONE, table_book};
+use crate::tests::{are_equal, are_equal_at};
 use scoop_demo::*;
 use scoop_keeper::MemoryKeeper;
 use scoop_lines::{MAX_LINES, SourceFault};
@@ -102,9 +103,9 @@ fn ended_behind(
 #[test]
 fn ends_at_a_read_fault_and_past_the_last_line(rt: HostRuntime) {
     let faulty = ended_behind(&rt, rt.alloc(), 3, Some(ErrorKind::Other));
-    assert_eq!(rt; faulty, unread!(4, ReadFault));
+    are_equal(&rt, faulty, unread!(4, ReadFault));
     let long = ended_behind(&rt, rt.alloc(), MAX_LINES as usize + 1, None);
-    assert_eq!(rt; long, unread!(MAX_LINES + 1, TooManyLines));
+    are_equal(&rt, long, unread!(MAX_LINES + 1, TooManyLines));
 }
 
 // A Lock, a Hello, and the Lock again.
@@ -137,6 +138,6 @@ fn typed(rt: &impl Abort, alloc: Global, room: usize) -> Result<(), RunError> {
 #[test]
 fn shows_each_answer_before_it_waits(rt: HostRuntime) {
     for (room, wanted) in ROOMS {
-        assert_eq!(rt; typed(&rt, rt.alloc(), room), wanted, "with room {room}");
+        are_equal_at(&rt, typed(&rt, rt.alloc(), room), wanted, room);
     }
 }

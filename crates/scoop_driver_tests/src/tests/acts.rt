@@ -3,6 +3,7 @@
 
 use super::node::{BALANCE, DEPOSIT};
 use super::{ONE, request};
+use crate::tests::are_equal_at;
 use scoop_client::{ClientNote, Phase};
 use scoop_driver::{Condition, Diary, Driver, DriverError};
 use scoop_link::Link;
@@ -127,7 +128,7 @@ pub fn plays<L: Link, D: Diary<A>, A: Allocator + Clone>(
     rows: &[Row],
 ) {
     for (act, told, phase) in rows {
-        assert_eq!(rt; makes(rt, driver, *act), *told, "{act:?}");
-        assert_eq!(rt; driver.phase(), *phase, "{act:?}");
+        are_equal_at(rt, makes(rt, driver, *act), *told, act);
+        are_equal_at(rt, driver.phase(), *phase, act);
     }
 }

@@ -3,6 +3,7 @@
 use super::acts::{Act, DONE, RESERVES, Row, TURNS_OVER, Told, WELCOMED, plays};
 use super::node::{BALANCE, DEPOSIT, Node, WITHDRAW, Wire};
 use super::{FIRST, ONE, client};
+use crate::tests::are_equal;
 use scoop_client::{ClientError, ClientNote, Phase};
 use scoop_driver::{Driver, DriverError};
 use scoop_message::{Answer, Block, ClientId, HandlerId, Message};
@@ -43,7 +44,7 @@ const BLOCK: [Row; 6] = [
 fn a_block_deposits_and_asks(rt: HostRuntime) {
     let node = Node::new(&rt, rt.alloc());
     let balance = plays_over(&rt, rt.alloc(), node, 10, &BLOCK);
-    assert_eq!(rt; balance, Some(150));
+    are_equal(&rt, balance, Some(150));
 }
 
 const FULL: [Row; 4] = [

@@ -4,6 +4,7 @@ use super::acts::{Act, DONE, FAULT, NO_FRAME, RESERVES, Row, Told, WELCOMED, pla
 use super::node::{BALANCE, DEPOSIT, Node, Wire};
 use super::turns::stray;
 use super::{ONE, client};
+use crate::tests::{are_equal, are_equal_at};
 use scoop_client::{Client, ClientError, Phase};
 use scoop_driver::{Command, Diary, Driver, DriverError, Received, Step, StepList};
 use scoop_message::{Answer, OutOfMemory};
@@ -47,10 +48,10 @@ fn commands(steps: &[Step]) -> usize {
 
 /// A client that plays the steps of a diary comes to where the block has ended.
 fn stands_behind(rt: &impl Abort, again: &mut Client, steps: &[Step]) {
-    assert_eq!(rt; commands(steps), 4);
+    are_equal(rt, commands(steps), 4);
     takes(rt, again, steps);
-    assert_eq!(rt; again.phase(), Phase::Idle);
-    assert_eq!(rt; again.due(ONE), None);
+    are_equal(rt, again.phase(), Phase::Idle);
+    are_equal(rt, again.due(ONE), None);
     assert!(rt; again.reserve(&[ONE]).is_ok());
 }
 
@@ -98,10 +99,10 @@ fn kind(steps: &[Step], place: usize) -> Option<&str> {
 fn are_three(rt: &impl Abort, steps: &[Step]) {
     let kinds = [Some("no frame"), Some("nothing"), Some("broke"), None];
     for place in 0..4usize {
-        assert_eq!(rt; kind(steps, place), kinds[place], "{place}");
+        are_equal_at(rt, kind(steps, place), kinds[place], place);
     }
     if let Some(Step::Turned(Received::NoFrame(stray))) = steps.get(0) {
-        assert_eq!(rt; stray.as_slice(), [5, 5, 5].as_slice());
+        are_equal(rt, stray.as_slice(), [5, 5, 5].as_slice());
     }
 }
 
@@ -182,7 +183,7 @@ impl<A: Allocator> Diary<A> for Sends {
 /// After these calls this number of sends is counted.
 fn counts(rt: &impl Abort, driver: &mut Driver<Wire, Sends>, rows: &[Row], sends: u64) {
     plays(rt, driver, rows);
-    assert_eq!(rt; driver.diary().count, sends);
+    are_equal(rt, driver.diary().count, sends);
 }
 
 const TURNS: [Row; 2] = [WELCOMED, (Act::Turn, NO_FRAME, Phase::Idle)];
@@ -224,8 +225,8 @@ fn a_diary_is_settled_when_it_is_asked(rt: HostRuntime) {
     let wire = Wire::new(Node::new(&rt, rt.alloc()));
     let mut driver = Driver::with_diary(client(&rt, rt.alloc()), wire, 10, Sends::of_turns(9));
     counts(&rt, &mut driver, &TURNS, 1);
-    assert_eq!(rt; driver.diary().answers, 0);
-    assert_eq!(rt; driver.settle(), Ok(()));
-    assert_eq!(rt; driver.diary().answers, 1);
-    assert_eq!(rt; driver.phase(), Phase::Idle);
+    are_equal(&rt, driver.diary().answers, 0);
+    are_equal(&rt, driver.settle(), Ok(()));
+    are_equal(&rt, driver.diary().answers, 1);
+    are_equal(&rt, driver.phase(), Phase::Idle);
 }

@@ -2,6 +2,7 @@
 
 use super::node::{BALANCE, DEPOSIT, Node, Wire};
 use super::{ONE, client};
+use crate::tests::are_equal;
 use scoop_client::{ClientNote, Phase};
 use scoop_driver::Driver;
 use scoop_message::{Answer, Args, Request};
@@ -10,7 +11,7 @@ use std::test::Fail;
 
 // Each part of the example borrows the driver, so no early return of it has to drop one.
 fn pays(rt: &impl Abort, driver: &mut Driver<Wire>) -> Result<(), Fail> {
-    assert_eq!(rt; driver.turn()?, Some(ClientNote::Welcomed(ONE)));
+    are_equal(rt, driver.turn()?, Some(ClientNote::Welcomed(ONE)));
     driver.reserve(&[ONE])?;
     let args = Args::of(&[150])?;
     driver.call(ONE, Request { op: DEPOSIT, args })?;
@@ -21,9 +22,9 @@ fn asks(rt: &impl Abort, driver: &mut Driver<Wire>) -> Result<(), Fail> {
     // a query comes after the calls before it, and waits for its answer
     let args = Args::of(&[])?;
     let balance = driver.query(ONE, Request { op: BALANCE, args })?;
-    assert_eq!(rt; balance, Answer::Value(150));
+    are_equal(rt, balance, Answer::Value(150));
     driver.end()?;
-    assert_eq!(rt; driver.phase(), Phase::Idle);
+    are_equal(rt, driver.phase(), Phase::Idle);
     Ok(())
 }
 

@@ -4,6 +4,7 @@ use super::acts::{Act, DONE, RESERVES, Row, Told, WELCOMED, makes, plays};
 use super::diaries::takes;
 use super::node::{BALANCE, DEPOSIT, Node, WITHDRAW, Wire};
 use super::{ONE, client};
+use crate::tests::are_equal;
 use scoop_client::{ClientError, Phase};
 use scoop_driver::{Driver, DriverError, StepList};
 use scoop_message::Answer;
@@ -40,8 +41,8 @@ const ROWS: [Row; 6] = [
 fn is_kept<'a>(rt: &impl Abort, alloc: Global, driver: &Kept<'a>) {
     let mut again = client(rt, alloc);
     takes(rt, &mut again, driver.diary().steps());
-    assert_eq!(rt; again.phase(), driver.phase());
-    assert_eq!(rt; again.due(ONE), driver.due(ONE));
+    are_equal(rt, again.phase(), driver.phase());
+    are_equal(rt, again.due(ONE), driver.due(ONE));
 }
 
 /// The call of a row, with a growth refused, reports that memory ran out.
@@ -57,7 +58,7 @@ fn is_told<'a>(
     let answer = makes(rt, driver, act);
     let refused = heap.has_refused();
     heap.refuse(0);
-    assert_eq!(rt; answer, if refused { WANTING } else { told });
+    are_equal(rt, answer, if refused { WANTING } else { told });
     refused
 }
 
@@ -115,10 +116,10 @@ const WITHOUT_ROOM: [Row; 1] = [(Act::Turn, WANTING, Phase::Greeting)];
 fn takes_with_room<'a>(rt: &impl Abort, heap: Heap<'a>, driver: &mut Kept<'a>) {
     heap.refuse(1);
     plays(rt, driver, &WITHOUT_ROOM);
-    assert_eq!(rt; driver.diary().steps().len(), 0);
+    are_equal(rt, driver.diary().steps().len(), 0);
     heap.refuse(0);
     plays(rt, driver, &[WELCOMED]);
-    assert_eq!(rt; driver.diary().steps().len(), 1);
+    are_equal(rt, driver.diary().steps().len(), 1);
 }
 
 #[test]

@@ -7,6 +7,7 @@ use super::calls::busy;
 use super::node::{Node, Wire};
 use super::turns::turns_up_to;
 use super::{ONE, client};
+use crate::tests::are_equal;
 use scoop_client::{ClientNote, Phase};
 use scoop_driver::{Driver, DriverError, Interrupt};
 use scoop_link::{Script, ScriptLink};
@@ -39,11 +40,12 @@ fn is_ended(
 ) {
     let _none = turns_up_to(rt, driver, node, end, ClientNote::Welcomed(ONE));
     let mut interrupt = AtThird { asked: 0 };
-    assert_eq!(rt; driver.reserve_unless(&[ONE], &mut interrupt), Ok(false));
-    assert_eq!(rt; (interrupt.asked, driver.phase()), (3, Phase::Locking));
+    are_equal(rt, driver.reserve_unless(&[ONE], &mut interrupt), Ok(false));
+    are_equal(rt, interrupt.asked, 3);
+    are_equal(rt, driver.phase(), Phase::Locking);
     plays(rt, driver, &GIVES_UP);
     let _none = turns_up_to(rt, driver, node, end, ClientNote::Unlocked(ONE));
-    assert_eq!(rt; driver.phase(), Phase::Idle);
+    are_equal(rt, driver.phase(), Phase::Idle);
 }
 
 #[test]
@@ -61,8 +63,8 @@ fn is_not_asked(rt: &impl Abort, driver: &mut Driver<Wire>) {
     plays(rt, driver, &[WELCOMED]);
     let mut interrupt = AtThird { asked: 0 };
     let ended = driver.reserve_unless(&[ONE], &mut interrupt);
-    assert_eq!(rt; ended, Err(DriverError::TurnsOver));
-    assert_eq!(rt; interrupt.asked, 0);
+    are_equal(rt, ended, Err(DriverError::TurnsOver));
+    are_equal(rt, interrupt.asked, 0);
 }
 
 #[test]

@@ -3,6 +3,7 @@
 use super::acts::{Act, FAULT, NO_FRAME, Row, TURNS_OVER, Told, WELCOMED, plays};
 use super::node::{BALANCE, Node};
 use super::{FIRST, ONE, SEVEN, client};
+use crate::tests::are_equal;
 use scoop_client::{Client, ClientNote, Phase};
 use scoop_driver::{Driver, DriverError};
 use scoop_frame::{Version, encode};
@@ -36,8 +37,8 @@ fn sent_hello(rt: &impl Abort, link: &TapeLink, version: Version) {
     let Some((to, bytes)) = link.sent(0) else {
         panic!(rt; "nothing was sent");
     };
-    assert_eq!(rt; to, Party::Handler(ONE));
-    assert_eq!(rt; bytes, &buffer[..len]);
+    are_equal(rt, to, Party::Handler(ONE));
+    are_equal(rt, bytes, &buffer[..len]);
     assert!(rt; link.sent(1).is_none());
 }
 
@@ -82,7 +83,7 @@ fn turns_over(
 ) {
     let mut driver = Driver::new(client(rt, alloc), link, 10);
     plays(rt, &mut driver, &[(Act::Turn, told, Phase::Greeting)]);
-    assert_eq!(rt; driver.link().to_come(), to_come);
+    are_equal(rt, driver.link().to_come(), to_come);
 }
 
 #[test]
@@ -132,7 +133,7 @@ pub fn turns_up_to(
                 }
             }
             Err(error) => {
-                assert_eq!(rt; error, DriverError::LinkFault);
+                are_equal(rt, error, DriverError::LinkFault);
                 failed = 1;
             }
         }
@@ -155,11 +156,11 @@ fn goes_on(
 ) {
     plays(rt, driver, &RESERVES_LATE);
     let opened = ClientNote::Opened(ONE);
-    assert_eq!(rt; turns_up_to(rt, driver, node, end, opened), 0);
+    are_equal(rt, turns_up_to(rt, driver, node, end, opened), 0);
     plays(rt, driver, &ASKS_LATE);
     let answered = ClientNote::Accepted(ONE, 1, Answer::Value(0));
-    assert_eq!(rt; turns_up_to(rt, driver, node, end, answered), 0);
-    assert_eq!(rt; driver.link().faults(), 1);
+    are_equal(rt, turns_up_to(rt, driver, node, end, answered), 0);
+    are_equal(rt, driver.link().faults(), 1);
 }
 
 /// The same, after the fault in the greeting.
@@ -170,8 +171,8 @@ fn goes_on_behind_a_fault(
     end: &mut ScriptLink,
 ) {
     let greeted = ClientNote::Welcomed(ONE);
-    assert_eq!(rt; turns_up_to(rt, driver, node, end, greeted), 1);
-    assert_eq!(rt; driver.link().faults(), 1);
+    are_equal(rt, turns_up_to(rt, driver, node, end, greeted), 1);
+    are_equal(rt, driver.link().faults(), 1);
     goes_on(rt, driver, node, end);
 }
 

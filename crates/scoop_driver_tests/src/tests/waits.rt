@@ -3,6 +3,7 @@
 use super::acts::{Act, Told, WELCOMED, plays, waits};
 use super::node::{DEPOSIT, Node, WITHDRAW, Wire};
 use super::{ONE, client, request};
+use crate::tests::are_equal;
 use scoop_client::{ClientError, Phase};
 use scoop_driver::{Driver, DriverError};
 use scoop_message::HandlerId;
@@ -24,7 +25,7 @@ fn withdraws(rt: &impl Abort, driver: &mut Driver<Wire>) {
     plays(rt, driver, &[WELCOMED]);
     for (act, told, balance) in WAITS {
         plays(rt, driver, &[(act, told, Phase::Idle)]);
-        assert_eq!(rt; driver.link().node.balance(), Some(balance));
+        are_equal(rt, driver.link().node.balance(), Some(balance));
     }
 }
 
@@ -48,8 +49,8 @@ fn refuses(
         (named, request(rt, DEPOSIT, 1)),
     ];
     let told = waits(rt, driver, asked, 0, &body);
-    assert_eq!(rt; told, Err(DriverError::Client(refusal)));
-    assert_eq!(rt; driver.phase(), Phase::Greeting);
+    are_equal(rt, told, Err(DriverError::Client(refusal)));
+    are_equal(rt, driver.phase(), Phase::Greeting);
 }
 
 #[test]

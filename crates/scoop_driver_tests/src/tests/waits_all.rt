@@ -5,6 +5,7 @@ ghost use Rattle.std.specs.Prelude.{⊤};
 use super::acts::{WELCOMED, plays};
 use super::node::{BALANCE, DEPOSIT, Node, WITHDRAW, Wire};
 use super::{ONE, client, request};
+use crate::tests::{are_equal, are_equal_at};
 use scoop_client::{ClientError, Phase};
 use scoop_driver::{BodyEntry, ConditionPart, Driver, DriverError, NoPause, Pause, Test};
 use scoop_message::{Answer, HandlerId};
@@ -73,8 +74,8 @@ fn all_parts(rt: &impl Abort, driver: &mut Driver<Wire>) {
         ((Test::Is(10), Test::Is(11)), (FAILED, NOTHING, 3)),
         ((Test::Is(10), Test::Least(10)), (Ok(1), read(10, 15), 0)),
     ] {
-        assert_eq!(rt; waits(rt, driver, tests), told, "{tests:?}");
-        assert_eq!(rt; driver.phase(), Phase::Idle);
+        are_equal_at(rt, waits(rt, driver, tests), told, tests);
+        are_equal(rt, driver.phase(), Phase::Idle);
     }
 }
 
@@ -95,10 +96,10 @@ fn refused(rt: &impl Abort, driver: &mut Driver<Wire>) {
             test,
         };
         let told = driver.when_all(&[ONE], &[asks], &[], &mut [], 3, &mut NoPause);
-        assert_eq!(rt; told, FAILED);
+        are_equal(rt, told, FAILED);
     }
     let told = driver.when_all(&[ONE], &[], &[], &mut [], 3, &mut NoPause);
-    assert_eq!(rt; told, Ok(1));
+    are_equal(rt, told, Ok(1));
 }
 
 #[test]
@@ -115,14 +116,14 @@ fn outside(rt: &impl Abort, driver: &mut Driver<Wire>) {
         part(rt, NINE, Test::Least(0)),
     ];
     let told = driver.when_all(&[ONE], &condition, &[], &mut [], 3, &mut NoPause);
-    assert_eq!(rt; told, OUTSIDE);
+    are_equal(rt, told, OUTSIDE);
     let body = [
         BodyEntry::Call(ONE, request(rt, DEPOSIT, 1)),
         BodyEntry::Call(NINE, request(rt, DEPOSIT, 1)),
     ];
     let told = driver.when_all(&[ONE], &condition[..1], &body, &mut [], 3, &mut NoPause);
-    assert_eq!(rt; told, OUTSIDE);
-    assert_eq!(rt; driver.phase(), Phase::Greeting);
+    are_equal(rt, told, OUTSIDE);
+    are_equal(rt, driver.phase(), Phase::Greeting);
 }
 
 #[test]

@@ -1,6 +1,7 @@
 //! Texts beside stores, which keepers bring up to date.
 
 use super::named::path_of;
+use crate::tests::are_equal;
 use scoop_files::{NameWatch, NamedKeeper, StoreName, replace_text, text_file, update_marks};
 use scoop_handler::HandlerState;
 use scoop_keeper::{FailingKeeper, Keeper, KeeperError, MemoryKeeper};
@@ -79,22 +80,27 @@ impl<'a> Files<'a> {
 fn the_text_has_each_handlers_marks_after_commits(rt: HostRuntime) -> Result<(), Fail> {
     let alloc = rt.alloc();
     let files = Files::new(&rt, "marks")?;
-    fs::write(&rt, files.path.as_str(), "a store")?;
-    fs::write(&rt, files.text.as_str(), OWNER)?;
+    fs::write(&rt, files.path.as_str(), "a store").expect(&rt, "failed");
+    fs::write(&rt, files.text.as_str(), OWNER).expect(&rt, "failed");
     let name = StoreName::new(alloc, files.path.as_str())?;
     let mut keeper = NamedKeeper::new(&rt, MemoryKeeper::new(alloc), &name);
     alternates(alloc, &mut keeper, 1, 1)?;
     assert!(rt; files.has(OWNER));
-    let start = Instant::now(&rt)?;
-    keeper.commit()?;
+    let start = Instant::now(&rt).expect(&rt, "failed");
+    keeper.commit().expect(&rt, "failed");
     assert!(rt; files.has(FIRST));
     // the 65th put looks at the name again
     alternates(alloc, &mut keeper, 2, 32)?;
-    keeper.commit()?;
+    keeper.commit().expect(&rt, "failed");
     let kept = files.has(FIRST);
-    assert!(rt; kept || Instant::now(&rt)?.duration_since(start) >= Duration::from_secs(1));
+    assert!(rt;
+        kept || Instant::now(&rt)
+            .expect(&rt, "failed")
+            .duration_since(start)
+            >= Duration::from_secs(1)
+    );
     thread::sleep(&rt, Duration::from_millis(1_100));
-    keeper.commit()?;
+    keeper.commit().expect(&rt, "failed");
     assert!(rt;
         files.has(
             "node = 1\nnewest.3.8 = \"8.1.1\"\nnewest.1.7 = \"7.9.33\"\nnewest.2.7 = \"7.9.33\"\n"
@@ -110,16 +116,20 @@ fn the_text_has_each_handlers_marks_after_commits(rt: HostRuntime) -> Result<(),
 fn only_committed_marks_are_in_the_text(rt: HostRuntime) -> Result<(), Fail> {
     let alloc = rt.alloc();
     let files = Files::new(&rt, "refused")?;
-    fs::write(&rt, files.path.as_str(), "a store")?;
-    fs::write(&rt, files.text.as_str(), OWNER)?;
+    fs::write(&rt, files.path.as_str(), "a store").expect(&rt, "failed");
+    fs::write(&rt, files.text.as_str(), OWNER).expect(&rt, "failed");
     let name = StoreName::new(alloc, files.path.as_str())?;
     let failing = FailingKeeper::new(MemoryKeeper::new(alloc), 3);
     let mut keeper = NamedKeeper::new(&rt, failing, &name);
-    keeper.put_handler(&state(alloc, 1, 1)?)?;
-    keeper.commit()?;
-    keeper.put_handler(&state(alloc, 1, 2)?)?;
+    keeper
+        .put_handler(&state(alloc, 1, 1)?)
+        .expect(&rt, "failed");
+    keeper.commit().expect(&rt, "failed");
+    keeper
+        .put_handler(&state(alloc, 1, 2)?)
+        .expect(&rt, "failed");
     let refused = keeper.put_handler(&state(alloc, 1, 3)?);
-    assert_eq!(rt; refused, Err(KeeperError::Refused));
+    are_equal(&rt, refused, Err(KeeperError::Refused));
     let _failed = keeper.into_inner();
     assert!(rt; files.has("node = 1\nnewest.3.8 = \"8.1.1\"\nnewest.1.7 = \"7.9.1\"\n"));
     files.remove();
@@ -143,7 +153,7 @@ fn puts_one(files: &Files<'_>, alloc: Global, loses: bool) -> Result<bool, Fail>
 fn a_missing_text_stays_missing(rt: HostRuntime) -> Result<(), Fail> {
     let files = Files::new(&rt, "missing")?;
     assert!(rt; !puts_one(&files, rt.alloc(), false)?);
-    assert!(rt; !fs::exists(&rt, files.text.as_str())?);
+    assert!(rt; !fs::exists(&rt, files.text.as_str()).expect(&rt, "failed"));
     files.remove();
     Ok(())
 }
@@ -151,7 +161,7 @@ fn a_missing_text_stays_missing(rt: HostRuntime) -> Result<(), Fail> {
 #[test]
 fn the_text_of_a_lost_store_stays_as_it_is(rt: HostRuntime) -> Result<(), Fail> {
     let files = Files::new(&rt, "lost")?;
-    fs::write(&rt, files.text.as_str(), OWNER)?;
+    fs::write(&rt, files.text.as_str(), OWNER).expect(&rt, "failed");
     assert!(rt; puts_one(&files, rt.alloc(), true)?);
     assert!(rt; files.has(OWNER));
     files.remove();
@@ -170,12 +180,12 @@ fn a_new_text_takes_the_place_of_the_old_one(rt: HostRuntime) -> Result<(), Fail
         },
     };
     assert!(rt; !update_marks(&rt, files.text.as_str(), &[mark]));
-    replace_text(&rt, files.text.as_str(), OWNER)?;
+    replace_text(&rt, files.text.as_str(), OWNER).expect(&rt, "failed");
     assert!(rt; files.has(OWNER));
     assert!(rt; update_marks(&rt, files.text.as_str(), &[mark]));
     assert!(rt; files.has("node = 1\nnewest.3.8 = \"8.1.1\"\nnewest.1.7 = \"7.9.3\"\n"));
-    let fresh = format!(in rt.alloc(); "{}.new", files.text)?;
-    assert!(rt; !fs::exists(&rt, fresh.as_str())?);
+    let fresh = format!(in rt.alloc(); "{}.new", files.text).expect(&rt, "failed");
+    assert!(rt; !fs::exists(&rt, fresh.as_str()).expect(&rt, "failed"));
     files.remove();
     Ok(())
 }
@@ -184,19 +194,19 @@ fn a_new_text_takes_the_place_of_the_old_one(rt: HostRuntime) -> Result<(), Fail
 fn a_watch_that_finds_a_loss_ends_all_puts(rt: HostRuntime) -> Result<(), Fail> {
     let alloc = rt.alloc();
     let files = Files::new(&rt, "watched")?;
-    fs::write(&rt, files.path.as_str(), "a store")?;
+    fs::write(&rt, files.path.as_str(), "a store").expect(&rt, "failed");
     let name = StoreName::new(alloc, files.path.as_str())?;
     let mut watch = NameWatch::new(&rt, &name);
     let mut keeper = NamedKeeper::new(&rt, MemoryKeeper::new(alloc), &name);
     let first = state(alloc, 1, 1)?;
-    keeper.put_handler(&first)?;
+    keeper.put_handler(&first).expect(&rt, "failed");
     assert!(rt; watch.has_name());
-    keeper.put_handler(&first)?;
-    fs::remove_file(&rt, files.path.as_str())?;
+    keeper.put_handler(&first).expect(&rt, "failed");
+    fs::remove_file(&rt, files.path.as_str()).expect(&rt, "failed");
     assert!(rt; !watch.has_name());
     assert!(rt; name.is_lost());
-    fs::write(&rt, files.path.as_str(), "a store")?;
-    assert_eq!(rt; keeper.put_handler(&first), Err(KeeperError::Refused));
+    fs::write(&rt, files.path.as_str(), "a store").expect(&rt, "failed");
+    are_equal(&rt, keeper.put_handler(&first), Err(KeeperError::Refused));
     files.remove();
     Ok(())
 }

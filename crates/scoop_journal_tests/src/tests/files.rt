@@ -1,5 +1,6 @@
 //! Journals in files.
 
+use crate::tests::are_equal;
 use scoop_journal::{Journal, JournalFile, Line, OpenError, Owner};
 use scoop_message::{ClientId, HandlerId};
 use std::path::PathBuf;
@@ -31,28 +32,32 @@ fn append(rt: &HostRuntime, path: &str, line: &Line<'_>, syncs: bool) -> Result<
 #[test]
 fn a_journal_is_made_and_appended_to(rt: HostRuntime) -> Result<(), Fail> {
     let path = path_of(&rt, "made")?;
-    let path = path.to_str().ok_or("a path")?;
+    let path = path.to_str().expect(&rt, "a path");
     append(&rt, path, &Line::NodeLife(1), false)?;
     append(&rt, path, &Line::Begin(HandlerId(2)), true)?;
     let text = text_of(&rt, path)?;
-    fs::remove_file(&rt, path)?;
-    assert_eq!(rt; text.as_str(), "scoop journal 1 node 1\nbegin 2\n");
+    fs::remove_file(&rt, path).expect(&rt, "failed");
+    are_equal(&rt, text.as_str(), "scoop journal 1 node 1\nbegin 2\n");
     Ok(())
 }
 
 #[test]
 fn half_a_line_is_cut_off(rt: HostRuntime) -> Result<(), Fail> {
     let path = path_of(&rt, "half")?;
-    let path = path.to_str().ok_or("a path")?;
-    fs::write(&rt, path, "scoop journal 1 node 1\nbegin 1\nfini")?;
+    let path = path.to_str().expect(&rt, "a path");
+    fs::write(&rt, path, "scoop journal 1 node 1\nbegin 1\nfini").expect(&rt, "failed");
     append(&rt, path, &Line::Begin(HandlerId(2)), false)?;
     let text = text_of(&rt, path)?;
-    fs::write(&rt, path, "scoop jour")?;
+    fs::write(&rt, path, "scoop jour").expect(&rt, "failed");
     append(&rt, path, &Line::NodeLife(1), false)?;
     let anew = text_of(&rt, path)?;
-    fs::remove_file(&rt, path)?;
-    assert_eq!(rt; text.as_str(), "scoop journal 1 node 1\nbegin 1\nbegin 2\n");
-    assert_eq!(rt; anew.as_str(), "scoop journal 1 node 1\n");
+    fs::remove_file(&rt, path).expect(&rt, "failed");
+    are_equal(
+        &rt,
+        text.as_str(),
+        "scoop journal 1 node 1\nbegin 1\nbegin 2\n",
+    );
+    are_equal(&rt, anew.as_str(), "scoop journal 1 node 1\n");
     Ok(())
 }
 
@@ -74,20 +79,23 @@ fn refusal_of(rt: &HostRuntime, text: &str) -> Result<Option<OpenError>, Fail> {
 #[test]
 fn another_file_is_refused(rt: HostRuntime) -> Result<(), Fail> {
     let foreign = refusal_of(&rt, "hello\nworld")?;
-    assert_eq!(rt; foreign, Some(OpenError::Foreign));
+    are_equal(&rt, foreign, Some(OpenError::Foreign));
     let event = refusal_of(&rt, "begin 1\n")?;
-    assert_eq!(rt; event, Some(OpenError::Foreign));
+    are_equal(&rt, event, Some(OpenError::Foreign));
     let node = refusal_of(&rt, "scoop journal 1 node 2\n")?;
-    assert_eq!(rt; node, Some(OpenError::WrongParty(Owner::Node(2))));
+    are_equal(&rt, node, Some(OpenError::WrongParty(Owner::Node(2))));
     let client = refusal_of(&rt, "scoop journal 1 client 7 1 1\n")?;
-    assert_eq!(rt;
+    are_equal(
+        &rt,
         client,
-        Some(OpenError::WrongParty(Owner::Client(ClientId(7))))
+        Some(OpenError::WrongParty(Owner::Client(ClientId(7)))),
     );
     let folder = JournalFile::open(&rt, "no/such/folder", NODE, false).err();
-    assert_eq!(rt; folder, Some(OpenError::Unopened));
-    let text = format!(in rt.alloc(); "{}", OpenError::WrongParty(Owner::Node(2)))?;
-    assert_eq!(rt; text.as_str(), "journal: WrongParty node 2");
+    are_equal(&rt, folder, Some(OpenError::Unopened));
+    let text = format!(in rt.alloc(); "{}", OpenError::WrongParty(Owner::Node(2))).expect(
+        &rt, "failed",
+    );
+    are_equal(&rt, text.as_str(), "journal: WrongParty node 2");
     assert!(rt; !OpenError::InUse.advice().is_empty());
     Ok(())
 }
@@ -95,11 +103,11 @@ fn another_file_is_refused(rt: HostRuntime) -> Result<(), Fail> {
 #[test]
 fn one_program_writes_a_journal(rt: HostRuntime) -> Result<(), Fail> {
     let path = path_of(&rt, "used")?;
-    let path = path.to_str().ok_or("a path")?;
-    let first = JournalFile::open(&rt, path, NODE, false)?;
+    let path = path.to_str().expect(&rt, "a path");
+    let first = JournalFile::open(&rt, path, NODE, false).expect(&rt, "failed");
     let second = JournalFile::open(&rt, path, NODE, false).err();
-    fs::remove_file(&rt, path)?;
-    assert_eq!(rt; second, Some(OpenError::InUse));
+    fs::remove_file(&rt, path).expect(&rt, "failed");
+    are_equal(&rt, second, Some(OpenError::InUse));
     assert!(rt; !first.has_failed());
     Ok(())
 }

@@ -1,5 +1,6 @@
 //! A keeper that writes a journal.
 
+use crate::tests::are_equal;
 use scoop_handler::{Heard, Note};
 use scoop_journal_keeper::{JournaledKeeper, Storage};
 use scoop_keeper::{FailingKeeper, Keeper, KeeperError, MemoryKeeper};
@@ -8,7 +9,7 @@ use scoop_record::read_image;
 use std::alloc::Global;
 use std::io;
 use std::io::{Error, ErrorKind, Write};
-use std::test::Fail;
+use std::process::Abort;
 
 const ONE: HandlerId = HandlerId(1);
 
@@ -37,15 +38,16 @@ struct Failing<'a> {
 }
 
 // A keeper in memory of handler 1, with a journal that takes a number of writes.
-fn journaled(
+fn journaled<'a>(
+    rt: &impl Abort,
     alloc: Global,
-    text: &mut Vec<u8>,
+    text: &'a mut Vec<u8>,
     left: u32,
-) -> Result<JournaledKeeper<MemoryKeeper, Failing<'_>>, Fail> {
-    let handlers = Vec::from_slice(alloc, &[ONE])?;
+) -> JournaledKeeper<MemoryKeeper, Failing<'a>> {
+    let handlers = Vec::from_slice(alloc, &[ONE]).expect(rt, "no memory");
     let writer = Failing { text, left };
-    let kept = kept(alloc)?;
-    Ok(JournaledKeeper::new(alloc, kept, Storage::Memory, writer, 1, handlers))
+    let kept = kept(rt, alloc);
+    JournaledKeeper::new(alloc, kept, Storage::Memory, writer, 1, handlers)
 }
 
 impl Write for Failing<'_> {
@@ -63,58 +65,71 @@ impl Write for Failing<'_> {
 }
 
 // A keeper of handler 1.
-fn kept(alloc: Global) -> Result<MemoryKeeper, Fail> {
+fn kept(rt: &impl Abort, alloc: Global) -> MemoryKeeper {
     let mut keeper = MemoryKeeper::new(alloc);
-    let state = read_image(alloc, ONE, &IMAGE, &[])?;
-    keeper.put_handler(&state)?;
-    Ok(keeper)
+    let state = read_image(alloc, ONE, &IMAGE, &[]).expect(rt, "no image");
+    keeper.put_handler(&state).expect(rt, "refused");
+    keeper
 }
 
 #[test]
-fn events_are_written_after_the_first_lines(rt: HostRuntime) -> Result<(), Fail> {
+fn events_are_written_after_the_first_lines(rt: HostRuntime) {
     let alloc = rt.alloc();
     let mut text = Vec::new(alloc);
-    let handlers = Vec::from_slice(alloc, &[ONE])?;
+    let handlers = Vec::from_slice(alloc, &[ONE]).expect(&rt, "no memory");
     let writer = Failing {
         text: &mut text,
         left: 9,
     };
-    let mut keeper = JournaledKeeper::new(alloc, kept(alloc)?, Storage::File, writer, 1, handlers);
-    keeper.note_heard(&HELLO, &GREETED)?;
-    keeper.note_finished(ONE)?;
+    let mut keeper = JournaledKeeper::new(
+        alloc,
+        kept(&rt, alloc),
+        Storage::File,
+        writer,
+        1,
+        handlers,
+    );
+    keeper.note_heard(&HELLO, &GREETED).expect(&rt, "refused");
+    keeper.note_finished(ONE).expect(&rt, "refused");
     let _kept = keeper.into_inner();
-    let whole = format!(in alloc; "{FIRST}{HEARD}{RUN}")?;
-    assert_eq!(rt; text.as_slice(), whole.as_bytes());
-    Ok(())
+    let whole = format!(in alloc; "{FIRST}{HEARD}{RUN}").expect(&rt, "no memory");
+    are_equal(&rt, text.as_slice(), whole.as_bytes());
 }
 
 #[test]
-fn nothing_is_written_after_a_failed_write(rt: HostRuntime) -> Result<(), Fail> {
+fn nothing_is_written_after_a_failed_write(rt: HostRuntime) {
     let alloc = rt.alloc();
     let mut text = Vec::new(alloc);
-    let handlers = Vec::from_slice(alloc, &[ONE])?;
+    let handlers = Vec::from_slice(alloc, &[ONE]).expect(&rt, "no memory");
     let writer = Failing {
         text: &mut text,
         left: 1,
     };
-    let mut keeper = JournaledKeeper::new(alloc, kept(alloc)?, Storage::File, writer, 1, handlers);
-    assert_eq!(rt;
-        keeper.note_heard(&HELLO, &GREETED),
-        Err(KeeperError::Refused)
+    let mut keeper = JournaledKeeper::new(
+        alloc,
+        kept(&rt, alloc),
+        Storage::File,
+        writer,
+        1,
+        handlers,
     );
-    assert_eq!(rt; keeper.note_finished(ONE), Err(KeeperError::Refused));
+    are_equal(
+        &rt,
+        keeper.note_heard(&HELLO, &GREETED),
+        Err(KeeperError::Refused),
+    );
+    are_equal(&rt, keeper.note_finished(ONE), Err(KeeperError::Refused));
     let _kept = keeper.into_inner();
-    assert_eq!(rt; text.as_slice(), FIRST.as_bytes());
-    Ok(())
+    are_equal(&rt, text.as_slice(), FIRST.as_bytes());
 }
 
 #[test]
-fn a_keeper_that_fails_ends_the_node(rt: HostRuntime) -> Result<(), Fail> {
+fn a_keeper_that_fails_ends_the_node(rt: HostRuntime) {
     let alloc = rt.alloc();
-    let state = read_image(alloc, ONE, &IMAGE, &[])?;
-    let handlers = Vec::from_slice(alloc, &[ONE])?;
+    let state = read_image(alloc, ONE, &IMAGE, &[]).expect(&rt, "no image");
+    let handlers = Vec::from_slice(alloc, &[ONE]).expect(&rt, "no memory");
     // the opening is loaded, and the put is refused
-    let failing = FailingKeeper::new(kept(alloc)?, 1);
+    let failing = FailingKeeper::new(kept(&rt, alloc), 1);
     let mut keeper = JournaledKeeper::new(
         alloc,
         failing,
@@ -123,75 +138,72 @@ fn a_keeper_that_fails_ends_the_node(rt: HostRuntime) -> Result<(), Fail> {
         1,
         handlers,
     );
-    keeper.note_heard(&HELLO, &GREETED)?;
-    assert_eq!(rt; keeper.put_handler(&state), Err(KeeperError::Refused));
-    Ok(())
+    keeper.note_heard(&HELLO, &GREETED).expect(&rt, "refused");
+    are_equal(&rt, keeper.put_handler(&state), Err(KeeperError::Refused));
 }
 
 #[test]
-fn a_handler_without_a_state_is_refused(rt: HostRuntime) -> Result<(), Fail> {
+fn a_handler_without_a_state_is_refused(rt: HostRuntime) {
     let alloc = rt.alloc();
-    let handlers = Vec::from_slice(alloc, &[HandlerId(2)])?;
+    let handlers = Vec::from_slice(alloc, &[HandlerId(2)]).expect(&rt, "no memory");
     let mut keeper = JournaledKeeper::new(
         alloc,
-        kept(alloc)?,
+        kept(&rt, alloc),
         Storage::File,
         Vec::new(alloc),
         1,
         handlers,
     );
-    assert_eq!(rt;
+    are_equal(
+        &rt,
         keeper.note_finished(HandlerId(2)),
-        Err(KeeperError::Refused)
+        Err(KeeperError::Refused),
     );
-    Ok(())
 }
 
 // One write for the life's first lines, one for what is heard first, and one for what is heard next with the runs before it.
 #[test]
-fn runs_over_a_keeper_in_memory_wait_for_what_is_heard_next(rt: HostRuntime) -> Result<(), Fail> {
+fn runs_over_a_keeper_in_memory_wait_for_what_is_heard_next(rt: HostRuntime) {
     let alloc = rt.alloc();
     let mut text = Vec::new(alloc);
-    let mut keeper = journaled(alloc, &mut text, 3)?;
-    keeper.note_heard(&HELLO, &GREETED)?;
-    keeper.note_finished(ONE)?;
-    keeper.note_finished(ONE)?;
-    keeper.note_heard(&HELLO, &GREETED)?;
+    let mut keeper = journaled(&rt, alloc, &mut text, 3);
+    keeper.note_heard(&HELLO, &GREETED).expect(&rt, "refused");
+    keeper.note_finished(ONE).expect(&rt, "refused");
+    keeper.note_finished(ONE).expect(&rt, "refused");
+    keeper.note_heard(&HELLO, &GREETED).expect(&rt, "refused");
     let _kept = keeper.into_inner();
-    let whole = format!(in alloc; "{FIRST}{HEARD}{RUN}{RUN}{HEARD}")?;
-    assert_eq!(rt; text.as_slice(), whole.as_bytes());
-    Ok(())
+    let whole = format!(in alloc; "{FIRST}{HEARD}{RUN}{RUN}{HEARD}").expect(&rt, "no memory");
+    are_equal(&rt, text.as_slice(), whole.as_bytes());
 }
 
 #[test]
-fn runs_that_wait_are_written_at_the_end(rt: HostRuntime) -> Result<(), Fail> {
+fn runs_that_wait_are_written_at_the_end(rt: HostRuntime) {
     let alloc = rt.alloc();
-    let whole = format!(in alloc; "{FIRST}{RUN}")?;
+    let whole = format!(in alloc; "{FIRST}{RUN}").expect(&rt, "no memory");
     let mut text = Vec::new(alloc);
-    let mut keeper = journaled(alloc, &mut text, 2)?;
-    keeper.note_finished(ONE)?;
+    let mut keeper = journaled(&rt, alloc, &mut text, 2);
+    keeper.note_finished(ONE).expect(&rt, "refused");
     let _kept = keeper.into_inner();
-    assert_eq!(rt; text.as_slice(), whole.as_bytes());
+    are_equal(&rt, text.as_slice(), whole.as_bytes());
     text.clear();
-    let mut keeper = journaled(alloc, &mut text, 2)?;
-    keeper.note_finished(ONE)?;
+    let mut keeper = journaled(&rt, alloc, &mut text, 2);
+    keeper.note_finished(ONE).expect(&rt, "refused");
     drop(keeper);
-    assert_eq!(rt; text.as_slice(), whole.as_bytes());
-    Ok(())
+    are_equal(&rt, text.as_slice(), whole.as_bytes());
 }
 
 #[test]
-fn a_run_after_a_failed_write_is_refused(rt: HostRuntime) -> Result<(), Fail> {
+fn a_run_after_a_failed_write_is_refused(rt: HostRuntime) {
     let alloc = rt.alloc();
     let mut text = Vec::new(alloc);
-    let mut keeper = journaled(alloc, &mut text, 1)?;
-    keeper.note_finished(ONE)?;
-    assert_eq!(rt;
+    let mut keeper = journaled(&rt, alloc, &mut text, 1);
+    keeper.note_finished(ONE).expect(&rt, "refused");
+    are_equal(
+        &rt,
         keeper.note_heard(&HELLO, &GREETED),
-        Err(KeeperError::Refused)
+        Err(KeeperError::Refused),
     );
-    assert_eq!(rt; keeper.note_finished(ONE), Err(KeeperError::Refused));
+    are_equal(&rt, keeper.note_finished(ONE), Err(KeeperError::Refused));
     let _kept = keeper.into_inner();
-    assert_eq!(rt; text.as_slice(), FIRST.as_bytes());
-    Ok(())
+    are_equal(&rt, text.as_slice(), FIRST.as_bytes());
 }

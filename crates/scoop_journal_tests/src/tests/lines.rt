@@ -1,5 +1,6 @@
 //! The lines of a journal.
 
+use crate::tests::are_equal;
 use scoop_frame::Version;
 use scoop_journal::{Arrival, Line, LineFault, read, write};
 use scoop_message::{ClientId, HandlerId, Message};
@@ -71,8 +72,8 @@ const FAULTS: [(&str, LineFault); 24] = [
 fn is_written_back(rt: &impl Abort, alloc: Global, text: &str) -> Result<(), Fail> {
     let mut out = Vec::new(alloc);
     write_back(text, &mut out)?;
-    assert_eq!(rt; out.pop(), Some(b'\n'));
-    assert_eq!(rt; out.as_slice(), text.as_bytes());
+    are_equal(rt, out.pop(), Some(b'\n'));
+    are_equal(rt, out.as_slice(), text.as_bytes());
     Ok(())
 }
 
@@ -129,6 +130,6 @@ fn lines_are_what_their_texts_say(rt: HostRuntime) {
 #[test]
 fn faults_are_told(rt: HostRuntime) -> Result<(), Fail> {
     let text = format!(in rt.alloc(); "{}", LineFault::NotHex)?;
-    assert_eq!(rt; text.as_str(), "not hex");
+    are_equal(&rt, text.as_str(), "not hex");
     Ok(())
 }

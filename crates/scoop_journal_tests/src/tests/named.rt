@@ -1,5 +1,6 @@
 //! Keepers whose file loses its name, and client stores that begin above an incarnation.
 
+use crate::tests::are_equal;
 use scoop_files::{
     FileError, FiledStore, NamedKeeper, StoreName, adopt_for, close, close_named, create_after,
 };
@@ -73,12 +74,12 @@ fn first_put(rt: &HostRuntime, changed: Change) -> Result<(Result<(), KeeperErro
 
 #[test]
 fn the_first_put_looks_at_the_name(rt: HostRuntime) -> Result<(), Fail> {
-    assert_eq!(rt; first_put(&rt, Change::Nothing)?, (Ok(()), false));
-    assert_eq!(rt; first_put(&rt, Change::Grown)?, (Ok(()), false));
-    assert_eq!(rt; first_put(&rt, Change::Cut)?, (REFUSED, true));
-    assert_eq!(rt; first_put(&rt, Change::Moved)?, (REFUSED, true));
-    assert_eq!(rt; first_put(&rt, Change::Replaced)?, (REFUSED, true));
-    assert_eq!(rt; first_put(&rt, Change::LogDeleted)?, (REFUSED, true));
+    are_equal(&rt, first_put(&rt, Change::Nothing)?, (Ok(()), false));
+    are_equal(&rt, first_put(&rt, Change::Grown)?, (Ok(()), false));
+    are_equal(&rt, first_put(&rt, Change::Cut)?, (REFUSED, true));
+    are_equal(&rt, first_put(&rt, Change::Moved)?, (REFUSED, true));
+    are_equal(&rt, first_put(&rt, Change::Replaced)?, (REFUSED, true));
+    are_equal(&rt, first_put(&rt, Change::LogDeleted)?, (REFUSED, true));
     Ok(())
 }
 
@@ -98,17 +99,17 @@ fn puts(
 fn a_deleted_file_is_noticed_at_the_64th_put_after_a_look(rt: HostRuntime) -> Result<(), Fail> {
     let alloc = rt.alloc();
     let path = path_of(&rt, "deleted")?;
-    let path = path.to_str().ok_or("a path")?;
-    fs::write(&rt, path, "a store")?;
+    let path = path.to_str().expect(&rt, "a path");
+    fs::write(&rt, path, "a store").expect(&rt, "failed");
     let name = StoreName::new(alloc, path)?;
-    let state = read_image(alloc, ONE, &IMAGE, &[])?;
+    let state = read_image(alloc, ONE, &IMAGE, &[]).expect(&rt, "failed");
     let mut keeper = NamedKeeper::new(&rt, MemoryKeeper::new(alloc), &name);
-    puts(&mut keeper, &state, 1)?;
-    fs::remove_file(&rt, path)?;
-    puts(&mut keeper, &state, 63)?;
+    puts(&mut keeper, &state, 1).expect(&rt, "failed");
+    fs::remove_file(&rt, path).expect(&rt, "failed");
+    puts(&mut keeper, &state, 63).expect(&rt, "failed");
     assert!(rt; !name.is_lost());
-    assert_eq!(rt; keeper.put_handler(&state), REFUSED);
-    assert_eq!(rt; keeper.put_handler(&state), REFUSED);
+    are_equal(&rt, keeper.put_handler(&state), REFUSED);
+    are_equal(&rt, keeper.put_handler(&state), REFUSED);
     assert!(rt; name.is_lost());
     Ok(())
 }
@@ -134,9 +135,9 @@ fn first_two(rt: &HostRuntime, last: u32) -> Result<(u32, Option<u32>), Fail> {
 
 #[test]
 fn a_new_store_begins_above_the_incarnation(rt: HostRuntime) -> Result<(), Fail> {
-    assert_eq!(rt; first_two(&rt, 0)?, (1, Some(2)));
-    assert_eq!(rt; first_two(&rt, 41)?, (42, Some(43)));
-    assert_eq!(rt; first_two(&rt, 4_294_967_294)?, (4_294_967_295, None));
+    are_equal(&rt, first_two(&rt, 0)?, (1, Some(2)));
+    are_equal(&rt, first_two(&rt, 41)?, (42, Some(43)));
+    are_equal(&rt, first_two(&rt, 4_294_967_294)?, (4_294_967_295, None));
     Ok(())
 }
 
@@ -167,8 +168,12 @@ fn closed_after(rt: &HostRuntime, changed: Change) -> Result<(bool, Option<u32>)
 
 #[test]
 fn the_end_looks_at_the_file_and_copies_a_deleted_log(rt: HostRuntime) -> Result<(), Fail> {
-    assert_eq!(rt; closed_after(&rt, Change::Nothing)?, (false, Some(42)));
-    assert_eq!(rt; closed_after(&rt, Change::LogDeleted)?, (false, Some(42)));
-    assert_eq!(rt; closed_after(&rt, Change::Moved)?, (true, None));
+    are_equal(&rt, closed_after(&rt, Change::Nothing)?, (false, Some(42)));
+    are_equal(
+        &rt,
+        closed_after(&rt, Change::LogDeleted)?,
+        (false, Some(42)),
+    );
+    are_equal(&rt, closed_after(&rt, Change::Moved)?, (true, None));
     Ok(())
 }

@@ -3,6 +3,7 @@
 use super::accounts::book;
 use super::loops::Looped;
 use super::{ONE, SEVEN, client};
+use crate::tests::are_equal;
 use scoop_book::Book;
 use scoop_client::ClientNote;
 use scoop_driver::Driver;
@@ -21,16 +22,16 @@ fn answers(rt: &impl Abort, book: &mut Book<Table, MemoryKeeper>) -> Result<(), 
     let hello = b"SQ\x01\x01\0\0\0\x01\0\0\0\x07\0\0\0\x01\0\0\0\0\0\0\0\0\0\0";
     let mut reply = [0; BUFFER_LEN];
     let answered = answer_datagram(book, 0, hello, &mut reply)?;
-    assert_eq!(rt; answered, Answered::Reply(26, Note::Greeted));
+    are_equal(rt, answered, Answered::Reply(26, Note::Greeted));
     // what is no frame is told as such, and nothing has happened
     let cut = answer_datagram(book, 0, &hello[..25], &mut reply)?;
-    assert_eq!(rt; cut, Answered::RefusedFrame(FrameError::Short));
+    are_equal(rt, cut, Answered::RefusedFrame(FrameError::Short));
     Ok(())
 }
 
 fn reaches(rt: &impl Abort, driver: &mut Looped) -> Result<(), Fail> {
     // its first turn greets the handler, and then it reserves
-    assert_eq!(rt; driver.turn()?, Some(ClientNote::Welcomed(ONE)));
+    are_equal(rt, driver.turn()?, Some(ClientNote::Welcomed(ONE)));
     driver.reserve(&[ONE])?;
     Ok(())
 }

@@ -3,6 +3,7 @@
 use super::frames::{FIRST, deposit, first_messages, sends, tape};
 use super::loops::{Passes, balance, closes, opened, turns};
 use super::{EIGHT, ONE, SEVEN, TWO, client};
+use crate::tests::are_equal;
 use scoop_book::{Node, Pass, Reply};
 use scoop_driver::{Driver, DriverError};
 use scoop_free_ports::free_ports;
@@ -153,9 +154,9 @@ where
         || both_ask(rt, alloc, first, second, gate, &stop),
     );
     assert!(rt; node.close(rt, passes).is_ok());
-    assert_eq!(rt; end, ServeEnd::Stopped);
-    assert_eq!(rt; one, Ok(Answer::Value(0)));
-    assert_eq!(rt; two, Ok(Answer::Value(0)));
+    are_equal(rt, end, ServeEnd::Stopped);
+    are_equal(rt, one, Ok(Answer::Value(0)));
+    are_equal(rt, two, Ok(Answer::Value(0)));
 }
 
 #[test]
@@ -296,8 +297,8 @@ fn has_run(rt: &impl Abort, pass: &Pass) {
     let Some((_, _, begun)) = entries.next_entry() else {
         panic!(rt; "no entry");
     };
-    assert_eq!(rt; begun, Reply::Began(Some((FIRST, 1))));
-    assert_eq!(rt; pass.events().len(), 3);
+    are_equal(rt, begun, Reply::Began(Some((FIRST, 1))));
+    are_equal(rt, pass.events().len(), 3);
 }
 
 #[test]

@@ -4,6 +4,7 @@ ghost use Rattle.std.specs.Prelude.{◌≤◌, vec_len};
 
 use super::accounts::{BALANCE, node};
 use super::{SEVEN, client, request};
+use crate::tests::are_equal;
 use scoop_book::{Book, Node, Pass};
 use scoop_driver::{Driver, DriverError};
 use scoop_keeper::{Keeper, MemoryKeeper};
@@ -59,7 +60,7 @@ where
 {
     let count = passes.list.len();
     let (end, list) = serve(rt, alloc, node, link, passes.list, gate, stop, turns);
-    assert_eq!(rt; end, wanted);
+    are_equal(rt, end, wanted);
     assert!(rt; list.len() == count);
     Passes { list }
 }

@@ -2,6 +2,7 @@
 
 use super::accounts::{SET, book};
 use super::{EIGHT, ONE, SEVEN, TWO, request};
+use crate::tests::are_equal;
 use scoop_book::Book;
 use scoop_client::{Client, Phase};
 use scoop_driver::{Driver, DriverError};
@@ -80,7 +81,7 @@ const OVER: Result<(), DriverError> = Err(DriverError::TurnsOver);
 impl Painter {
     fn sets(&mut self, rt: &impl Abort, handler: HandlerId) {
         let painted = self.driver.call(handler, request(rt, SET, self.colour));
-        assert_eq!(rt; painted, Ok(()));
+        are_equal(rt, painted, Ok(()));
     }
 
     // The next call of the driver: what its block asks for, and else a turn.
@@ -88,12 +89,12 @@ impl Painter {
         match self.driver.phase() {
             Phase::Idle if self.left > 0 => {
                 self.left -= 1;
-                assert_eq!(rt; self.driver.reserve(&[ONE, TWO]), OVER);
+                are_equal(rt, self.driver.reserve(&[ONE, TWO]), OVER);
             }
             Phase::Running => {
                 self.sets(rt, ONE);
                 self.sets(rt, TWO);
-                assert_eq!(rt; self.driver.end(), OVER);
+                are_equal(rt, self.driver.end(), OVER);
             }
             _ => assert!(rt; self.driver.turn().is_ok()),
         }
@@ -121,7 +122,7 @@ fn paint(rt: &impl Abort, book: &mut Painted, one: &mut Painter, other: &mut Pai
 fn has_one_colour(rt: &impl Abort, book: &Painted) {
     let colour = book.words(ONE).and_then(|words| words.get(0));
     assert!(rt; colour == Some(1) || colour == Some(2));
-    assert_eq!(rt; book.words(TWO), book.words(ONE));
+    are_equal(rt, book.words(TWO), book.words(ONE));
 }
 
 #[test]

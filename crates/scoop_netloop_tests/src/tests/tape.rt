@@ -3,6 +3,7 @@
 use super::frames::{FIRST, HELLO, LOCK, sends, tape};
 use super::loops::{Passes, closes, opened, turns};
 use super::{ONE, SEVEN};
+use crate::tests::are_equal;
 use scoop_book::Node;
 use scoop_frame::{Version, decode};
 use scoop_keeper::{FailingKeeper, MemoryKeeper};
@@ -24,8 +25,8 @@ const EARLY: [Message; 3] = [LOCK, HELLO, LOCK];
 fn has_sent(rt: &impl Abort, link: &TapeLink, i: usize, message: Message) {
     match link.sent(i) {
         Some((to, bytes)) => {
-            assert_eq!(rt; to, Party::Client(SEVEN));
-            assert_eq!(rt; decode(bytes), Ok((Version::One, message)));
+            are_equal(rt, to, Party::Client(SEVEN));
+            are_equal(rt, decode(bytes), Ok((Version::One, message)));
         }
         None => panic!(rt; "nothing was sent"),
     }
@@ -46,7 +47,7 @@ where
     L: Link,
 {
     let passes = turns(rt, alloc, node, link, passes, &OpenGate, stop, 10, wanted);
-    assert_eq!(rt; passes.list[0].events().len(), 3);
+    are_equal(rt, passes.list[0].events().len(), 3);
     passes
 }
 

@@ -3,6 +3,7 @@
 use super::accounts::{BALANCE, DEPOSIT, WITHDRAW, book};
 use super::loops::{Looped, balance, looped};
 use super::{ONE, request};
+use crate::tests::are_equal;
 use scoop_client::{ClientError, ClientNote};
 use scoop_driver::{Condition, DriverError};
 use scoop_message::{Answer, HandlerId};
@@ -39,7 +40,7 @@ fn does(rt: &impl Abort, driver: &mut Looped, step: Step) -> Result<u32, DriverE
 
 // Borrows the driver, so that no early return has to drop it.
 fn waits(rt: &impl Abort, driver: &mut Looped) {
-    assert_eq!(rt; driver.turn(), Ok(Some(ClientNote::Welcomed(ONE))));
+    are_equal(rt, driver.turn(), Ok(Some(ClientNote::Welcomed(ONE))));
     for (op, amount, handler, least, tries, told, left) in [
         (WITHDRAW, 100, ONE, 100, 2, FAILED, 0),
         (DEPOSIT, 150, ONE, 0, 1, Ok(1), 150),
@@ -54,8 +55,8 @@ fn waits(rt: &impl Abort, driver: &mut Looped) {
             least,
             tries,
         };
-        assert_eq!(rt; does(rt, driver, step), told);
-        assert_eq!(rt; balance(rt, driver, ONE), Ok(Answer::Value(left)));
+        are_equal(rt, does(rt, driver, step), told);
+        are_equal(rt, balance(rt, driver, ONE), Ok(Answer::Value(left)));
     }
 }
 

@@ -2,6 +2,7 @@
 
 ghost use Rattle.std.specs.Prelude.{◌≤◌};
 
+use crate::tests::{are_equal, are_equal_at};
 use scoop_client::{BeginError, Client, ClientError, ClientNote, Command, HandlerList, Phase};
 use scoop_message::limits::{MAX_HANDLERS, MAX_UNACKNOWLEDGED};
 use scoop_message::{Answer, Args, Block, ClientId, Entries, Entry, HandlerId, Message, Request};
@@ -88,7 +89,7 @@ fn reserve_refusal(client: &mut Client, handlers: &[HandlerId]) -> Option<Client
 }
 
 fn reserves(rt: &impl Abort, client: &mut Client, handlers: &[HandlerId]) {
-    assert_eq!(rt; reserve_refusal(client, handlers), None);
+    are_equal(rt, reserve_refusal(client, handlers), None);
 }
 
 // A client whose block holds these handlers.
@@ -100,19 +101,19 @@ fn running(rt: &impl Abort, alloc: Global, handlers: &[HandlerId]) -> Client {
 }
 
 fn is_at(rt: &impl Abort, client: &Client, phase: Phase) {
-    assert_eq!(rt; client.phase(), phase);
+    are_equal(rt, client.phase(), phase);
 }
 
 fn has_block(rt: &impl Abort, client: &Client, block: Option<Block>) {
-    assert_eq!(rt; client.block(), block);
+    are_equal(rt, client.block(), block);
 }
 
 fn is_due(rt: &impl Abort, client: &Client, handler: HandlerId, message: Option<Message>) {
-    assert_eq!(rt; client.due(handler), message);
+    are_equal(rt, client.due(handler), message);
 }
 
 fn notes(rt: &impl Abort, client: &mut Client, message: Message, note: ClientNote) {
-    assert_eq!(rt; client.hear(&message), note, "{message:?}");
+    are_equal_at(rt, client.hear(&message), note, message);
 }
 
 /// A program's command to its client.
@@ -150,11 +151,11 @@ fn refusal(client: &mut Client, command: Act) -> Option<ClientError> {
 }
 
 fn does(rt: &impl Abort, client: &mut Client, command: Act) {
-    assert_eq!(rt; refusal(client, command), None);
+    are_equal(rt, refusal(client, command), None);
 }
 
 fn refuses(rt: &impl Abort, client: &mut Client, command: Act, error: ClientError) {
-    assert_eq!(rt; refusal(client, command), Some(error));
+    are_equal(rt, refusal(client, command), Some(error));
 }
 
 fn refuses_all(rt: &impl Abort, client: &mut Client, rows: &[(Act, ClientError)]) {
@@ -169,11 +170,12 @@ fn begin_refusal(alloc: Global, handlers: &[HandlerId]) -> Option<BeginError> {
 }
 
 fn refuses_to_begin(rt: &impl Abort, alloc: Global, handlers: &[HandlerId], refusal: BeginError) {
-    assert_eq!(rt; begin_refusal(alloc, handlers), Some(refusal));
+    are_equal(rt, begin_refusal(alloc, handlers), Some(refusal));
 }
 
 fn has_handlers(rt: &impl Abort, client: &Client, count: usize) {
-    assert_eq!(rt; (client.handlers().len(), client.batch()), (count, 1));
+    are_equal(rt, client.handlers().len(), count);
+    are_equal(rt, client.batch(), 1);
 }
 
 fn greets_all(rt: &impl Abort, alloc: Global, handlers: &[HandlerId]) {
@@ -323,8 +325,8 @@ fn carries_out(rt: &impl Abort, client: &mut Client, command: Option<Command>) {
     let Some(command) = command else {
         panic!(rt; "no command");
     };
-    assert_eq!(rt; client.may_carry_out(&command), Ok(()));
-    assert_eq!(rt; client.carry_out(&command), Ok(()));
+    are_equal(rt, client.may_carry_out(&command), Ok(()));
+    are_equal(rt, client.carry_out(&command), Ok(()));
 }
 
 #[test]
@@ -449,7 +451,7 @@ fn refuses_to_reserve(
     refusal: ReserveError,
 ) {
     let found = reserve_refusal(client, named);
-    assert_eq!(rt; found, Some(ClientError::Reserve(refusal)));
+    are_equal(rt, found, Some(ClientError::Reserve(refusal)));
     is_at(rt, client, Phase::Idle);
 }
 
@@ -514,7 +516,7 @@ fn goes_on(rt: &impl Abort, alloc: Global, last: u32, refusal: Option<ClientErro
     };
     settle(&mut client);
     let found = reserve_refusal(&mut client, &[ONE]);
-    assert_eq!(rt; found, refusal, "after {last}");
+    are_equal_at(rt, found, refusal, last);
 }
 
 #[test]
@@ -549,7 +551,7 @@ fn batched(rt: &impl Abort, alloc: Global, batch: u8) -> Client
     let Some(mut client) = begun_batched(alloc, batch) else {
         panic!(rt; "no client");
     };
-    assert_eq!(rt; client.batch(), batch);
+    are_equal(rt, client.batch(), batch);
     calls_four_times(rt, &mut client);
     client
 }
@@ -607,9 +609,10 @@ fn refusals_are_printed(rt: HostRuntime) -> Result<(), Fail> {
         ClientError::Reserve(ReserveError::Unknown(FIVE)),
         ClientError::Spent
     )?;
-    assert_eq!(rt;
+    are_equal(
+        &rt,
         text.as_str(),
-        "Repeated 2 NotGreeted WindowFull 1 Unknown 5 Spent"
+        "Repeated 2 NotGreeted WindowFull 1 Unknown 5 Spent",
     );
     Ok(())
 }
@@ -619,10 +622,10 @@ fn refusals_are_printed(rt: HostRuntime) -> Result<(), Fail> {
 fn a_query_is_answered(rt: HostRuntime) -> Result<(), Fail> {
     let alloc = rt.alloc();
     let mut client = Client::begin(alloc, SEVEN, 1, &[ONE])?;
-    assert_eq!(rt; client.due(ONE), Some(Message::Hello(ONE, SEVEN, 1)));
+    are_equal(&rt, client.due(ONE), Some(Message::Hello(ONE, SEVEN, 1)));
     client.hear(&Message::Welcome(ONE, SEVEN, 1));
     client.reserve(&[ONE])?;
-    assert_eq!(rt; client.due(ONE), Some(Message::Lock(ONE, BLOCK)));
+    are_equal(&rt, client.due(ONE), Some(Message::Lock(ONE, BLOCK)));
     client.hear(&Message::Locked(ONE, BLOCK));
     client.hear(&Message::Opened(ONE, BLOCK));
     client.hear(&Message::Unlocked(ONE, BLOCK));
@@ -631,6 +634,6 @@ fn a_query_is_answered(rt: HostRuntime) -> Result<(), Fail> {
     // a Log with the query, until its answer has come
     assert!(rt; client.due(ONE).is_some());
     let heard = client.hear(&Message::Answer(ONE, BLOCK, 1, Answer::Value(6)));
-    assert_eq!(rt; heard, ClientNote::Accepted(ONE, 1, Answer::Value(6)));
+    are_equal(&rt, heard, ClientNote::Accepted(ONE, 1, Answer::Value(6)));
     Ok(())
 }

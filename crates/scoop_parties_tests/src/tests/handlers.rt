@@ -4,6 +4,7 @@ mod hearing;
 mod keeping;
 mod running;
 
+use crate::tests::{are_equal, are_equal_at};
 use scoop_handler::{Handler, HandlerState, Heard, Job, Note, Reason};
 use scoop_message::{
     Answer, Args, Block, ClientId, Entries, Entry, HandlerId, Message, Request, Words,
@@ -200,7 +201,7 @@ fn heard(act: Act, from: Block, said: Said) -> Heard {
 
 /// The handler hears a message, and replies like this.
 fn answers(rt: &impl Abort, handler: &mut Handler<Table>, message: &Message, answer: Heard) {
-    assert_eq!(rt; handler.hear(message), Ok(answer), "to {message:?}");
+    are_equal_at(rt, handler.hear(message), Ok(answer), message);
 }
 
 /// The handler hears the message of a row, and replies like this.
@@ -256,7 +257,7 @@ fn runs_one(
         Some(value) => Some(Answer::Value(value)),
         None => None,
     };
-    assert_eq!(rt; ran(handler), Some((from, number, answer)));
+    are_equal(rt, ran(handler), Some((from, number, answer)));
 }
 
 /// The handler runs entries of the client's first block, with these numbers and answers.
@@ -274,7 +275,7 @@ fn runs(
 /// The handler's object has this word.
 fn has_word(rt: &impl Abort, handler: &Handler<Table>, word: u64) {
     let words = handler.words();
-    assert_eq!(rt; words.as_slice(), [word].as_slice());
+    are_equal(rt, words.as_slice(), [word].as_slice());
 }
 
 /// Whether the handler's state is this one, if there is memory to test it.
@@ -285,7 +286,7 @@ fn has_state(handler: &Handler<Table>, state: &HandlerState) -> Option<bool> {
 
 /// The handler has nothing to run, and its object has this word.
 fn rests(rt: &impl Abort, handler: &mut Handler<Table>, word: u64) {
-    assert_eq!(rt; ran(handler), None);
+    are_equal(rt, ran(handler), None);
     has_word(rt, handler, word);
 }
 
@@ -335,7 +336,11 @@ fn a_query_is_run(rt: HostRuntime) -> Result<(), Fail> {
 // The example goes on: a client greets, and its block opens.
 fn opens_anew(rt: &impl Abort, handler: &mut Handler<Table>, block: Block) -> Result<(), Fail> {
     let greeted = handler.hear(&Message::Hello(HERE, ClientId(7), 1))?;
-    assert_eq!(rt; greeted.reply, Some(Message::Welcome(HERE, ClientId(7), 1)));
+    are_equal(
+        rt,
+        greeted.reply,
+        Some(Message::Welcome(HERE, ClientId(7), 1)),
+    );
     handler.hear(&Message::Lock(HERE, block))?;
     handler.hear(&Message::Open(HERE, block))?;
     handler.hear(&Message::Unlock(HERE, block))?;
@@ -347,8 +352,8 @@ fn queries(rt: &impl Abort, handler: &mut Handler<Table>, block: Block) -> Resul
     let args = Args::of(&[5])?;
     let query = Entries::of(&[Entry::Query(Request { op: ADD, args })])?;
     let logged = handler.hear(&Message::Log(HERE, block, 1, query))?;
-    assert_eq!(rt; logged.note, Note::Took(1));
+    are_equal(rt, logged.note, Note::Took(1));
     let ran = handler.run().ok_or("nothing to run")?;
-    assert_eq!(rt; ran.answer, Some(Answer::Value(5)));
+    are_equal(rt, ran.answer, Some(Answer::Value(5)));
     Ok(())
 }

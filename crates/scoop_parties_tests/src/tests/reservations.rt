@@ -1,5 +1,6 @@
 //! Reservations of handlers.
 
+use crate::tests::{are_equal, are_equal_at};
 use scoop_message::{Block, ClientId, HandlerId, Message};
 use scoop_reserve::{Reservation, ReserveError, Stage, Step, TooLate, first_repeated, has};
 use std::process::Abort;
@@ -35,7 +36,7 @@ fn is_refused(
     known: &[HandlerId],
     wanted: Option<ReserveError>,
 ) {
-    assert_eq!(rt; refusal(handlers, known), wanted);
+    are_equal(rt, refusal(handlers, known), wanted);
 }
 
 #[test]
@@ -67,7 +68,7 @@ fn starting_is_refused_in_order(rt: HostRuntime) {
 }
 
 fn is_due(rt: &impl Abort, reservation: &Reservation, handler: HandlerId, wanted: Option<Message>) {
-    assert_eq!(rt; reservation.due(handler), wanted);
+    are_equal(rt, reservation.due(handler), wanted);
 }
 
 // While it locks, a Lock is due to handler 1, or to handler 2 after it.
@@ -83,11 +84,11 @@ fn locks_in_order(rt: &impl Abort, reservation: &Reservation) {
 }
 
 fn hears(rt: &impl Abort, reservation: &mut Reservation, message: &Message, step: Step) {
-    assert_eq!(rt; reservation.hear(message), step, "{message:?}");
+    are_equal_at(rt, reservation.hear(message), step, message);
 }
 
 fn is_at(rt: &impl Abort, reservation: &Reservation, stage: Stage) {
-    assert_eq!(rt; reservation.stage(), stage);
+    are_equal(rt, reservation.stage(), stage);
 }
 
 // Handler 1 of the open reservation is released, and handler 2 is not.
@@ -100,7 +101,7 @@ fn is_half_released(rt: &impl Abort, reservation: &Reservation) {
 }
 
 fn gives_up(rt: &impl Abort, reservation: &mut Reservation, wanted: Result<(), TooLate>) {
-    assert_eq!(rt; reservation.give_up(), wanted);
+    are_equal(rt, reservation.give_up(), wanted);
 }
 
 // A reservation of handlers that are all known.
@@ -112,8 +113,8 @@ fn started(rt: &impl Abort, handlers: &[HandlerId]) -> Reservation {
 }
 
 fn names(rt: &impl Abort, reservation: &Reservation, handlers: &[HandlerId]) {
-    assert_eq!(rt; reservation.handlers(), handlers);
-    assert_eq!(rt; reservation.block(), BLOCK);
+    are_equal(rt, reservation.handlers(), handlers);
+    are_equal(rt, reservation.block(), BLOCK);
 }
 
 const STEPS: [(Message, Step, Stage); 11] = [
@@ -170,7 +171,7 @@ fn it_locks_all_then_opens_all_then_unlocks(rt: HostRuntime) {
 #[test]
 fn lists_of_handlers_are_searched(rt: HostRuntime) {
     assert!(rt; has(&[TWO, ONE], ONE) && !has(&[TWO, ONE], THREE));
-    assert_eq!(rt; first_repeated(&[ONE, TWO, TWO, ONE]), Some(TWO));
+    are_equal(&rt, first_repeated(&[ONE, TWO, TWO, ONE]), Some(TWO));
 }
 
 // Handlers 1 and 2 have to be unlocked, and are unlocked in turn.
@@ -221,9 +222,10 @@ fn refusals_are_printed(rt: HostRuntime) -> Result<(), Fail> {
         ReserveError::OutOfMemory,
         TooLate
     )?;
-    assert_eq!(rt;
+    are_equal(
+        &rt,
         text.as_str(),
-        "Empty TooMany Repeated 2 Unknown 5 out of memory TooLate"
+        "Empty TooMany Repeated 2 Unknown 5 out of memory TooLate",
     );
     Ok(())
 }
@@ -232,15 +234,15 @@ fn refusals_are_printed(rt: HostRuntime) -> Result<(), Fail> {
 #[test]
 fn two_handlers_are_reserved(rt: HostRuntime) -> Result<(), Fail> {
     let mut reservation = Reservation::start(BLOCK, &[TWO, ONE], &[ONE, TWO])?;
-    assert_eq!(rt; reservation.due(ONE), Some(Message::Lock(ONE, BLOCK)));
-    assert_eq!(rt; reservation.due(TWO), None);
+    are_equal(&rt, reservation.due(ONE), Some(Message::Lock(ONE, BLOCK)));
+    are_equal(&rt, reservation.due(TWO), None);
     reservation.hear(&Message::Locked(ONE, BLOCK));
-    assert_eq!(rt; reservation.due(TWO), Some(Message::Lock(TWO, BLOCK)));
+    are_equal(&rt, reservation.due(TWO), Some(Message::Lock(TWO, BLOCK)));
     reservation.hear(&Message::Locked(TWO, BLOCK));
-    assert_eq!(rt; reservation.due(ONE), Some(Message::Open(ONE, BLOCK)));
+    are_equal(&rt, reservation.due(ONE), Some(Message::Open(ONE, BLOCK)));
     reservation.hear(&Message::Opened(ONE, BLOCK));
     reservation.hear(&Message::Opened(TWO, BLOCK));
     assert!(rt; reservation.is_open());
-    assert_eq!(rt; reservation.due(TWO), Some(Message::Unlock(TWO, BLOCK)));
+    are_equal(&rt, reservation.due(TWO), Some(Message::Unlock(TWO, BLOCK)));
     Ok(())
 }

@@ -1,6 +1,7 @@
 //! Ends of clients whose link gives nothing, or only a welcome.
 
 use super::text_lines::TextLines;
+use crate::tests::are_equal;
 use scoop_driver::NoPause;
 use scoop_journal::Journal;
 use scoop_keeper::MemoryKeeper;
@@ -92,11 +93,11 @@ fn strict_plan_in(system: &System) -> Option<ClientPlan<'_>> {
 #[test]
 fn a_client_that_nobody_welcomes_names_the_handler(rt: HostRuntime) -> Result<(), Fail> {
     let alloc = rt.alloc();
-    let system = System::read(alloc, CELL)?;
+    let system = System::read(alloc, CELL).expect(&rt, "failed");
     let Some(plan) = plan_in(&system) else {
         return Err(Fail::from("no plan"));
     };
-    let (ended, output) = ask_planned(alloc, &plan, &[], b"reserve 1\n").ok_or("no client")?;
+    let (ended, output) = ask_planned(alloc, &plan, &[], b"reserve 1\n").expect(&rt, "no client");
     let progress = Progress {
         is_ready: false,
         answered: None,
@@ -104,7 +105,7 @@ fn a_client_that_nobody_welcomes_names_the_handler(rt: HostRuntime) -> Result<()
         unended: Unended::Nothing,
     };
     let error = RuntimeError::NotWelcomed(HandlerId(1));
-    assert_eq!(rt; ended, Err(ClientStop { error, progress }));
+    are_equal(&rt, ended, Err(ClientStop { error, progress }));
     assert!(rt; output.is_empty());
     Ok(())
 }
@@ -112,11 +113,14 @@ fn a_client_that_nobody_welcomes_names_the_handler(rt: HostRuntime) -> Result<()
 #[test]
 fn a_client_that_nobody_answers_names_the_handler(rt: HostRuntime) -> Result<(), Fail> {
     let alloc = rt.alloc();
-    let system = System::read(alloc, CELL)?;
+    let system = System::read(alloc, CELL).expect(&rt, "failed");
     let Some(plan) = plan_in(&system) else {
         return Err(Fail::from("no plan"));
     };
-    let (ended, output) = ask_planned(alloc, &plan, &[WELCOME], b"reserve 1\n").ok_or("no client")?;
+    let (ended, output) = ask_planned(alloc, &plan, &[WELCOME], b"reserve 1\n").expect(
+        &rt,
+        "no client",
+    );
     let progress = Progress {
         is_ready: true,
         answered: None,
@@ -124,7 +128,7 @@ fn a_client_that_nobody_answers_names_the_handler(rt: HostRuntime) -> Result<(),
         unended: Unended::Held(BLOCK),
     };
     let error = RuntimeError::NotAnswered(HandlerId(1));
-    assert_eq!(rt; ended, Err(ClientStop { error, progress }));
+    are_equal(&rt, ended, Err(ClientStop { error, progress }));
     assert!(rt; output.is_empty());
     Ok(())
 }
@@ -132,12 +136,12 @@ fn a_client_that_nobody_answers_names_the_handler(rt: HostRuntime) -> Result<(),
 #[test]
 fn a_strict_client_ends_after_its_first_refusal(rt: HostRuntime) -> Result<(), Fail> {
     let alloc = rt.alloc();
-    let system = System::read(alloc, CELL)?;
+    let system = System::read(alloc, CELL).expect(&rt, "failed");
     let Some(plan) = plan_in(&system) else {
         return Err(Fail::from("no plan"));
     };
     let lines = b"# two ends\nend\nend\n";
-    let (ended, output) = ask_planned(alloc, &plan, &[WELCOME], lines).ok_or("no client")?;
+    let (ended, output) = ask_planned(alloc, &plan, &[WELCOME], lines).expect(&rt, "no client");
     let mut progress = Progress {
         is_ready: true,
         answered: Some(3),
@@ -145,15 +149,15 @@ fn a_strict_client_ends_after_its_first_refusal(rt: HostRuntime) -> Result<(), F
         unended: Unended::Nothing,
     };
     let error = RuntimeError::SomeRefused(2, 2);
-    assert_eq!(rt; ended, Err(ClientStop { error, progress }));
+    are_equal(&rt, ended, Err(ClientStop { error, progress }));
     assert!(rt; output.as_slice() == "refused NoBlock\nrefused NoBlock\n".as_bytes());
     let Some(strict) = strict_plan_in(&system) else {
         return Err(Fail::from("no plan"));
     };
-    let (ended, output) = ask_planned(alloc, &strict, &[WELCOME], lines).ok_or("no client")?;
+    let (ended, output) = ask_planned(alloc, &strict, &[WELCOME], lines).expect(&rt, "no client");
     progress.answered = Some(2);
     let error = RuntimeError::Refused(2);
-    assert_eq!(rt; ended, Err(ClientStop { error, progress }));
+    are_equal(&rt, ended, Err(ClientStop { error, progress }));
     assert!(rt; output.as_slice() == "refused NoBlock\n".as_bytes());
     Ok(())
 }

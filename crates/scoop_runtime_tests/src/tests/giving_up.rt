@@ -5,6 +5,7 @@ ghost use Rattle.std.specs.Prelude.{⊤};
 use super::pausing::serve_node;
 use super::text_lines::TextLines;
 use super::{TURNS, Told, ask_lines, client_link, node_link, with_ports};
+use crate::tests::are_equal;
 use scoop_client::{Client, Phase};
 use scoop_driver::{Driver, DriverError, Interrupt};
 use scoop_free_ports::free_ports;
@@ -124,15 +125,18 @@ fn plays<R: Threads + Wait + Clock + Net + Sync + Abort>(
     alloc: Global,
     system: &System,
     driver: &mut Driver<UdpLink>,
-) -> Result<(), Fail> {
-    let link = client_link(rt, alloc, system, 8).ok_or("no client")??;
-    let node = node_link(rt, alloc, system, 1).ok_or("no node")??;
+) {
+    let link = client_link(rt, alloc, system, 8)
+        .expect(rt, "no client")
+        .expect(rt, "failed");
+    let node = node_link(rt, alloc, system, 1)
+        .expect(rt, "no node")
+        .expect(rt, "failed");
     let (told, ended) = run_beside(rt, alloc, system, node, driver, link);
-    let told = told.ok_or("no client")?;
+    let told = told.expect(rt, "no client");
     assert!(rt; told.output.as_slice() == "given up\n".as_bytes());
-    assert_eq!(rt; told.ended, Ok(()));
-    assert_eq!(rt; ended, Ok(()));
-    Ok(())
+    are_equal(rt, told.ended, Ok(()));
+    are_equal(rt, ended, Ok(()));
 }
 
 #[test]
@@ -140,13 +144,16 @@ fn a_reservation_is_given_up_while_another_client_holds_the_handler(
     rt: HostRuntime,
 ) -> Result<(), Fail> {
     let alloc = rt.alloc();
-    let ports = free_ports::<_, 3>(&rt)?;
+    let ports = free_ports::<_, 3>(&rt).expect(&rt, "failed");
     let text = with_ports(alloc, CELL, &["NODE", "SEVEN", "EIGHT"], &ports)?;
-    let system = System::read(alloc, &text).ok().ok_or("no system")?;
-    let link = client_link(&rt, alloc, &system, 7).ok_or("no link")??;
+    let system = System::read(alloc, &text).ok().expect(&rt, "no system");
+    let link = client_link(&rt, alloc, &system, 7)
+        .expect(&rt, "no link")
+        .expect(&rt, "failed");
     let client = Client::begin(alloc, ClientId(7), 1, &[ONE])
         .ok()
-        .ok_or("no client")?;
+        .expect(&rt, "no client");
     let mut driver = Driver::new(client, link, TURNS);
-    plays(&rt, alloc, &system, &mut driver)
+    plays(&rt, alloc, &system, &mut driver);
+    Ok(())
 }

@@ -1,6 +1,7 @@
 //! The record that a node finds, and the record that it leaves.
 
 use super::emptied_keeper::EmptiedKeeper;
+use crate::tests::are_equal;
 use scoop_keeper::{Keeper, KeeperError, MemoryKeeper};
 use scoop_link::TapeLink;
 use scoop_message::HandlerId;
@@ -9,7 +10,6 @@ use scoop_system::System;
 use std::alloc::Global;
 use std::process::Abort;
 use std::sync::Wait;
-use std::test::Fail;
 use std::thread::Threads;
 use std::time::Clock;
 
@@ -68,18 +68,21 @@ fn goes_on<R: Threads + Wait + Clock + Sync + Abort>(
     one: &NodePlan,
     two: &NodePlan,
     serving: Serving,
-) -> Result<(), Fail> {
+) {
     let new = MemoryKeeper::new(alloc);
-    let (ended, _) = serve(rt, alloc, one, serving, new).ok_or("no link")?;
-    let mut keeper = ended?;
-    assert_eq!(rt; stored(&mut keeper, ONE), Ok(Some(4)));
-    let (ended, _) = serve(rt, alloc, one, serving.going_on(), keeper).ok_or("no link")?;
-    let (ended, _) = serve(rt, alloc, two, serving, ended?).ok_or("no link")?;
-    let mut keeper = ended?;
-    assert_eq!(rt; stored(&mut keeper, TWO), Ok(Some(5)));
-    let (ended, has_written) = serve(rt, alloc, two, serving.going_on(), keeper).ok_or("no link")?;
+    let (ended, _) = serve(rt, alloc, one, serving, new).expect(rt, "no link");
+    let mut keeper = ended.expect(rt, "failed");
+    are_equal(rt, stored(&mut keeper, ONE), Ok(Some(4)));
+    let (ended, _) = serve(rt, alloc, one, serving.going_on(), keeper).expect(rt, "no link");
+    let (ended, _) = serve(rt, alloc, two, serving, ended.expect(rt, "failed")).expect(
+        rt, "no link",
+    );
+    let mut keeper = ended.expect(rt, "failed");
+    are_equal(rt, stored(&mut keeper, TWO), Ok(Some(5)));
+    let (ended, has_written) = serve(rt, alloc, two, serving.going_on(), keeper).expect(
+        rt, "no link",
+    );
     assert!(rt; ended.is_ok() && has_written);
-    Ok(())
 }
 
 // A node of two handlers doesn't go on over the record of a node of one.
@@ -89,43 +92,48 @@ fn refuses<R: Threads + Wait + Clock + Sync + Abort>(
     one: &NodePlan,
     two: &NodePlan,
     serving: Serving,
-) -> Result<(), Fail> {
+) {
     let new = MemoryKeeper::new(alloc);
-    let (ended, _) = serve(rt, alloc, one, serving, new).ok_or("no link")?;
-    let (ended, has_written) = serve(rt, alloc, two, serving.going_on(), ended?).ok_or("no link")?;
-    assert_eq!(rt; ended.err(), Some(RuntimeError::NoHandler(TWO)));
+    let (ended, _) = serve(rt, alloc, one, serving, new).expect(rt, "no link");
+    let (ended, has_written) = serve(
+        rt,
+        alloc,
+        two,
+        serving.going_on(),
+        ended.expect(rt, "failed"),
+    )
+    .expect(rt, "no link");
+    are_equal(rt, ended.err(), Some(RuntimeError::NoHandler(TWO)));
     assert!(rt; !has_written);
     let new = MemoryKeeper::new(alloc);
-    let (ended, _) = serve(rt, alloc, two, serving.going_on(), new).ok_or("no link")?;
-    assert_eq!(rt; ended.err(), Some(RuntimeError::NoHandler(ONE)));
-    Ok(())
+    let (ended, _) = serve(rt, alloc, two, serving.going_on(), new).expect(rt, "no link");
+    are_equal(rt, ended.err(), Some(RuntimeError::NoHandler(ONE)));
 }
 
 #[test]
-fn a_node_goes_on_over_its_own_record_alone(rt: HostRuntime) -> Result<(), Fail> {
+fn a_node_goes_on_over_its_own_record_alone(rt: HostRuntime) {
     let alloc = rt.alloc();
-    let two = node_of(alloc, NODE).ok_or("no node")?;
-    let (front, _) = NODE.rsplit_once("[[handler]]").ok_or("one handler")?;
-    let one = node_of(alloc, front).ok_or("no node")?;
-    let serving = Serving::new(1, 1_000, 1)?;
-    goes_on(&rt, alloc, &one, &two, serving)?;
-    refuses(&rt, alloc, &one, &two, serving)
+    let two = node_of(alloc, NODE).expect(&rt, "no node");
+    let (front, _) = NODE.rsplit_once("[[handler]]").expect(&rt, "one handler");
+    let one = node_of(alloc, front).expect(&rt, "no node");
+    let serving = Serving::new(1, 1_000, 1).expect(&rt, "failed");
+    goes_on(&rt, alloc, &one, &two, serving);
+    refuses(&rt, alloc, &one, &two, serving);
 }
 
 // The node stores its handler after the first load, opens with the second, and opens again with the third.
 #[test]
-fn a_node_refuses_a_store_that_was_emptied(rt: HostRuntime) -> Result<(), Fail> {
+fn a_node_refuses_a_store_that_was_emptied(rt: HostRuntime) {
     let alloc = rt.alloc();
-    let (front, _) = NODE.rsplit_once("[[handler]]").ok_or("one handler")?;
-    let one = node_of(alloc, front).ok_or("no node")?;
-    let serving = Serving::new(1, 1_000, 1)?;
-    let (ended, _) = serve(&rt, alloc, &one, serving, EmptiedKeeper::new(alloc, 2)).ok_or(
-        "no link",
-    )?;
-    assert_eq!(rt; ended.err(), Some(RuntimeError::OtherStates));
-    let (ended, _) = serve(&rt, alloc, &one, serving, EmptiedKeeper::new(alloc, 3)).ok_or(
-        "no link",
-    )?;
+    let (front, _) = NODE.rsplit_once("[[handler]]").expect(&rt, "one handler");
+    let one = node_of(alloc, front).expect(&rt, "no node");
+    let serving = Serving::new(1, 1_000, 1).expect(&rt, "failed");
+    let (ended, _) = serve(&rt, alloc, &one, serving, EmptiedKeeper::new(alloc, 2)).expect(
+        &rt, "no link",
+    );
+    are_equal(&rt, ended.err(), Some(RuntimeError::OtherStates));
+    let (ended, _) = serve(&rt, alloc, &one, serving, EmptiedKeeper::new(alloc, 3)).expect(
+        &rt, "no link",
+    );
     assert!(rt; ended.is_ok());
-    Ok(())
 }

@@ -1,6 +1,7 @@
 //! The journal of a client: when it is written, and a writer that fails.
 
 use super::text_lines::TextLines;
+use crate::tests::{are_equal, are_equal_at};
 use scoop_driver::NoPause;
 use scoop_errors::PartyError;
 use scoop_frame::{Version, encode};
@@ -205,17 +206,16 @@ fn lines_of(text: &[u8], start: &[u8]) -> usize {
 // of five rounds (Lock, Lock, Open, Unlock, Log), and one before it is told as ended. Its lines are four commands and eight
 // turns.
 #[test]
-fn a_joint_block_takes_six_writes(rt: HostRuntime) -> Result<(), Fail> {
+fn a_joint_block_takes_six_writes(rt: HostRuntime) {
     let alloc = rt.alloc();
-    let system = System::read(alloc, ACCOUNTS)?;
+    let system = System::read(alloc, ACCOUNTS).expect(&rt, "failed");
     let written = Written::up_to(100, [b"do ", b"turn 53"]);
-    let (ended, output) = ask(alloc, &system, JOINT, &TO_JOINT, &written).ok_or("no client")?;
-    assert_eq!(rt; ended, Ok(()));
+    let (ended, output) = ask(alloc, &system, JOINT, &TO_JOINT, &written).expect(&rt, "no client");
+    are_equal(&rt, ended, Ok(()));
     let replies = "reserved 7.1.1\nlogged 1 1\nlogged 2 1\nended\n";
     assert!(rt; output.as_slice() == replies.as_bytes());
-    assert_eq!(rt; written.lines(), [4, 10]);
-    assert_eq!(rt; written.count(), 2 + 6);
-    Ok(())
+    are_equal(&rt, written.lines(), [4, 10]);
+    are_equal(&rt, written.count(), 2 + 6);
 }
 
 // After this number of writes the writer fails, and the client prints this before it ends.
@@ -226,50 +226,50 @@ fn fails_after(
     replies: &[Message],
     limit: u32,
     prints: &str,
-) -> Result<(), Fail> {
-    let system = System::read(alloc, ACCOUNTS)?;
+) {
+    let system = System::read(alloc, ACCOUNTS).expect(rt, "failed");
     let written = Written::up_to(limit, [b"do ", b"turn 53"]);
-    let (ended, output) = ask(alloc, &system, lines, replies, &written).ok_or("no client")?;
-    assert_eq!(rt;
+    let (ended, output) = ask(alloc, &system, lines, replies, &written).expect(rt, "no client");
+    are_equal_at(
+        rt,
         ended.err().map(|stop| stop.error),
         Some(UNWRITTEN),
-        "{limit}"
+        limit,
     );
     assert!(rt; output.as_slice() == prints.as_bytes(), "{limit}");
-    assert_eq!(rt; written.count(), limit);
-    Ok(())
+    are_equal(rt, written.count(), limit);
 }
 
 #[test]
-fn a_client_answers_nothing_that_its_journal_lacks(rt: HostRuntime) -> Result<(), Fail> {
+fn a_client_answers_nothing_that_its_journal_lacks(rt: HostRuntime) {
     let alloc = rt.alloc();
     for limit in 0..6 {
-        fails_after(&rt, alloc, JOINT, &TO_JOINT, limit, "")?;
+        fails_after(&rt, alloc, JOINT, &TO_JOINT, limit, "");
     }
     let logged = "reserved 7.1.1\nlogged 1 1\nlogged 2 1\n";
-    fails_after(&rt, alloc, JOINT, &TO_JOINT, 6, logged)?;
-    fails_after(&rt, alloc, JOINT, &TO_JOINT, 7, logged)?;
+    fails_after(&rt, alloc, JOINT, &TO_JOINT, 6, logged);
+    fails_after(&rt, alloc, JOINT, &TO_JOINT, 7, logged);
     let reserved = "reserved 7.1.1\n";
-    fails_after(&rt, alloc, ASKS, &TO_ASKS, 5, reserved)?;
-    fails_after(&rt, alloc, ASKS, &TO_ASKS, 6, reserved)
+    fails_after(&rt, alloc, ASKS, &TO_ASKS, 5, reserved);
+    fails_after(&rt, alloc, ASKS, &TO_ASKS, 6, reserved);
 }
 
 // The call's line waits for the next new message. The client is let go before that, and cuts its block then.
 #[test]
-fn lines_that_wait_are_written_at_the_end(rt: HostRuntime) -> Result<(), Fail> {
+fn lines_that_wait_are_written_at_the_end(rt: HostRuntime) {
     let alloc = rt.alloc();
-    let system = System::read(alloc, ACCOUNTS)?;
+    let system = System::read(alloc, ACCOUNTS).expect(&rt, "failed");
     let lines = b"reserve 1 2\ncall 1 deposit 5\n";
     let written = Written::up_to(100, [b"do call 1 1 5", b"scoop journal 1 client 7 2 4"]);
     let replies = &TO_JOINT[..6];
-    let (ended, output) = ask(alloc, &system, lines, replies, &written).ok_or("no client")?;
-    assert_eq!(rt;
+    let (ended, output) = ask(alloc, &system, lines, replies, &written).expect(&rt, "no client");
+    are_equal(
+        &rt,
         ended.err().map(|stop| stop.error),
-        Some(RuntimeError::InsideBlock)
+        Some(RuntimeError::InsideBlock),
     );
     assert!(rt; output.as_slice() == b"reserved 7.1.1\nlogged 1 1\n".as_slice());
-    assert_eq!(rt; written.lines(), [1, 1]);
-    Ok(())
+    are_equal(&rt, written.lines(), [1, 1]);
 }
 
 // Greets with client 7 to cut its blocks. Returns its end and its output.
@@ -306,14 +306,14 @@ fn cut(
 #[test]
 fn a_cut_is_told_once_the_journal_has_it(rt: HostRuntime) -> Result<(), Fail> {
     let alloc = rt.alloc();
-    let system = System::read(alloc, ACCOUNTS)?;
+    let system = System::read(alloc, ACCOUNTS).expect(&rt, "failed");
     let written = Written::up_to(1, [b"do ", b"turn 53"]);
-    let (ended, output) = cut(alloc, &system, &written).ok_or("no client")?;
-    assert_eq!(rt; ended, Err(UNWRITTEN));
+    let (ended, output) = cut(alloc, &system, &written).expect(&rt, "no client");
+    are_equal(&rt, ended, Err(UNWRITTEN));
     assert!(rt; output.is_empty());
     let written = Written::up_to(2, [b"do ", b"turn 53"]);
-    let (ended, output) = cut(alloc, &system, &written).ok_or("no client")?;
-    assert_eq!(rt; ended, Ok(()));
+    let (ended, output) = cut(alloc, &system, &written).expect(&rt, "no client");
+    are_equal(&rt, ended, Ok(()));
     assert!(rt; output.as_slice() == b"cut client 7 at handlers 1 2\n".as_slice());
     Ok(())
 }

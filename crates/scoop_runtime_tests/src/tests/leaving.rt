@@ -3,6 +3,7 @@
 use super::deaf_link::{Asked, DeafLink, Gap};
 use super::text_lines::TextLines;
 use super::{Told, ask_planned, client_link, node_link, serve, with_ports};
+use crate::tests::are_equal;
 use scoop_free_ports::free_ports;
 use scoop_journal::Journal;
 use scoop_keeper::MemoryKeeper;
@@ -213,9 +214,16 @@ fn run_pair<R: Threads + Wait + Clock + Net + Sync + Abort>(
     run: &Run,
 ) -> Result<Pair, Fail> {
     let words = ["NODE", "SEVEN", "EIGHT"];
-    let text = with_ports(alloc, ACCOUNTS, &words, &free_ports::<_, 3>(rt)?)?;
-    let system = System::read(alloc, &text)?;
-    let node = node_link(rt, alloc, &system, 1).ok_or("no node")??;
+    let text = with_ports(
+        alloc,
+        ACCOUNTS,
+        &words,
+        &free_ports::<_, 3>(rt).expect(rt, "failed"),
+    )?;
+    let system = System::read(alloc, &text).expect(rt, "failed");
+    let node = node_link(rt, alloc, &system, 1)
+        .expect(rt, "no node")
+        .expect(rt, "failed");
     let mut pair = Pair::open(rt, alloc, &system)?;
     assert!(rt; live_beside(rt, alloc, &system, node, &mut pair, run));
     Ok(pair)
@@ -228,18 +236,17 @@ fn ended(
     end: Result<(), RuntimeError>,
     unended: Unended,
     text: &str,
-) -> Result<(), Fail> {
-    let told = told.ok_or("no client")?;
-    assert_eq!(rt; told.ended, end);
+) {
+    let told = told.expect(rt, "no client");
+    are_equal(rt, told.ended, end);
     let left = told.progress.map(|progress| progress.unended);
-    assert_eq!(rt; left.unwrap_or(Unended::Nothing), unended);
+    are_equal(rt, left.unwrap_or(Unended::Nothing), unended);
     assert!(rt; told.output.as_slice() == text.as_bytes());
-    Ok(())
 }
 
 // The second client was served at once, and saw this.
-fn goes_on(rt: &impl Abort, pair: &Pair, text: &str) -> Result<(), Fail> {
-    ended(rt, pair.second.as_ref(), Ok(()), Unended::Nothing, text)
+fn goes_on(rt: &impl Abort, pair: &Pair, text: &str) {
+    ended(rt, pair.second.as_ref(), Ok(()), Unended::Nothing, text);
 }
 
 const UNTOUCHED: &str = "reserved 8.1.1\nanswer 100\nanswer 0\nended\n";
@@ -253,8 +260,9 @@ fn a_fault_in_a_line_leaves_no_block(rt: HostRuntime) -> Result<(), Fail> {
         LineFault::NoSuchOperation(HandlerId(2), ShownWord::of(b"balanc")),
     ));
     let text = "reserved 7.1.1\nanswer 70\ncut 7.1.1\n";
-    ended(&rt, pair.first.as_ref(), fault, Unended::Cut(BLOCK), text)?;
-    goes_on(&rt, &pair, "reserved 8.1.1\nanswer 70\nanswer 0\nended\n")
+    ended(&rt, pair.first.as_ref(), fault, Unended::Cut(BLOCK), text);
+    goes_on(&rt, &pair, "reserved 8.1.1\nanswer 70\nanswer 0\nended\n");
+    Ok(())
 }
 
 // A call that no other line follows was never sent.
@@ -264,8 +272,9 @@ fn the_end_of_the_input_leaves_no_block(rt: HostRuntime) -> Result<(), Fail> {
     let pair = run_pair(&rt, rt.alloc(), &run)?;
     let inside = Err(RuntimeError::InsideBlock);
     let text = "reserved 7.1.1\nlogged 1 1\ncut 7.1.1\n";
-    ended(&rt, pair.first.as_ref(), inside, Unended::Cut(BLOCK), text)?;
-    goes_on(&rt, &pair, UNTOUCHED)
+    ended(&rt, pair.first.as_ref(), inside, Unended::Cut(BLOCK), text);
+    goes_on(&rt, &pair, UNTOUCHED);
+    Ok(())
 }
 
 #[test]
@@ -275,8 +284,9 @@ fn a_strict_client_ends_at_an_answer_refused(rt: HostRuntime) -> Result<(), Fail
     let pair = run_pair(&rt, rt.alloc(), &run)?;
     let refused = Err(RuntimeError::Refused(2));
     let text = "reserved 7.1.1\nanswer refused\ncut 7.1.1\n";
-    ended(&rt, pair.first.as_ref(), refused, Unended::Cut(BLOCK), text)?;
-    goes_on(&rt, &pair, UNTOUCHED)
+    ended(&rt, pair.first.as_ref(), refused, Unended::Cut(BLOCK), text);
+    goes_on(&rt, &pair, UNTOUCHED);
+    Ok(())
 }
 
 #[test]
@@ -291,8 +301,9 @@ fn turns_that_are_over_while_locking_leave_no_lock(rt: HostRuntime) -> Result<()
         over,
         Unended::GivenUp(BLOCK),
         text,
-    )?;
-    goes_on(&rt, &pair, UNTOUCHED)
+    );
+    goes_on(&rt, &pair, UNTOUCHED);
+    Ok(())
 }
 
 #[test]
@@ -301,8 +312,9 @@ fn turns_that_are_over_while_opening_leave_no_block(rt: HostRuntime) -> Result<(
     let pair = run_pair(&rt, rt.alloc(), &run)?;
     let over = Err(RuntimeError::NotAnswered(HandlerId(2)));
     let text = "cut 7.1.1\n";
-    ended(&rt, pair.first.as_ref(), over, Unended::Cut(BLOCK), text)?;
-    goes_on(&rt, &pair, UNTOUCHED)
+    ended(&rt, pair.first.as_ref(), over, Unended::Cut(BLOCK), text);
+    goes_on(&rt, &pair, UNTOUCHED);
+    Ok(())
 }
 
 #[test]
@@ -311,8 +323,9 @@ fn turns_that_are_over_while_logging_leave_no_block(rt: HostRuntime) -> Result<(
     let pair = run_pair(&rt, rt.alloc(), &run)?;
     let over = Err(RuntimeError::NotAnswered(HandlerId(2)));
     let text = "reserved 7.1.1\nlogged 2 1\ncut 7.1.1\n";
-    ended(&rt, pair.first.as_ref(), over, Unended::Cut(BLOCK), text)?;
-    goes_on(&rt, &pair, UNTOUCHED)
+    ended(&rt, pair.first.as_ref(), over, Unended::Cut(BLOCK), text);
+    goes_on(&rt, &pair, UNTOUCHED);
+    Ok(())
 }
 
 #[test]
@@ -327,8 +340,9 @@ fn a_link_that_fails_for_a_while_ends_no_client(rt: HostRuntime) -> Result<(), F
     };
     let pair = run_pair(&rt, rt.alloc(), &run)?;
     let text = "reserved 7.1.1\nlogged 2 1\nended\n";
-    ended(&rt, pair.first.as_ref(), Ok(()), Unended::Nothing, text)?;
-    goes_on(&rt, &pair, "reserved 8.1.1\nanswer 100\nanswer 5\nended\n")
+    ended(&rt, pair.first.as_ref(), Ok(()), Unended::Nothing, text);
+    goes_on(&rt, &pair, "reserved 8.1.1\nanswer 100\nanswer 5\nended\n");
+    Ok(())
 }
 
 #[test]
@@ -338,8 +352,9 @@ fn a_waiting_block_that_is_given_up_does_nothing(rt: HostRuntime) -> Result<(), 
     );
     let pair = run_pair(&rt, rt.alloc(), &run)?;
     let text = "noted\nnoted\ngiven up\nreserved 7.1.1\nended\n";
-    ended(&rt, pair.first.as_ref(), Ok(()), Unended::Nothing, text)?;
-    goes_on(&rt, &pair, UNTOUCHED)
+    ended(&rt, pair.first.as_ref(), Ok(()), Unended::Nothing, text);
+    goes_on(&rt, &pair, UNTOUCHED);
+    Ok(())
 }
 
 // Two greetings, and then a Lock, an Open, an Unlock and a Log at each handler. The locks come one after another and all
@@ -349,9 +364,10 @@ fn a_block_of_two_calls_takes_five_round_trips(rt: HostRuntime) -> Result<(), Fa
     let run = Run::of(b"reserve 1 2\ncall 1 withdraw 30\ncall 2 deposit 30\nend\n");
     let pair = run_pair(&rt, rt.alloc(), &run)?;
     let text = "reserved 7.1.1\nlogged 1 1\nlogged 2 1\nended\n";
-    ended(&rt, pair.first.as_ref(), Ok(()), Unended::Nothing, text)?;
-    assert_eq!(rt; pair.asked.count, 2 + 4 * 2);
-    goes_on(&rt, &pair, "reserved 8.1.1\nanswer 70\nanswer 30\nended\n")
+    ended(&rt, pair.first.as_ref(), Ok(()), Unended::Nothing, text);
+    are_equal(&rt, pair.asked.count, 2 + 4 * 2);
+    goes_on(&rt, &pair, "reserved 8.1.1\nanswer 70\nanswer 30\nended\n");
+    Ok(())
 }
 
 const HELD: &[u8] = b"\
@@ -369,9 +385,10 @@ fn a_block_that_is_held_is_named_and_cut_later(rt: HostRuntime) -> Result<(), Fa
     let pair = run_pair(&rt, rt.alloc(), &run)?;
     let inside = Err(RuntimeError::InsideBlock);
     let text = "reserved 7.1.1\n";
-    ended(&rt, pair.first.as_ref(), inside, Unended::Held(BLOCK), text)?;
-    let first = pair.first.as_ref().ok_or("no client")?;
+    ended(&rt, pair.first.as_ref(), inside, Unended::Held(BLOCK), text);
+    let first = pair.first.as_ref().expect(&rt, "no client");
     assert!(rt; first.notes.as_slice() == HELD);
     assert!(rt; pair.cut.as_slice() == "cut client 7 at handlers 1 2\n".as_bytes());
-    goes_on(&rt, &pair, UNTOUCHED)
+    goes_on(&rt, &pair, UNTOUCHED);
+    Ok(())
 }

@@ -1,6 +1,7 @@
 //! A node and a client beside it.
 
 use super::{Told, ask, client_link, node_link, serve, with_ports};
+use crate::tests::are_equal;
 use scoop_errors::PartyError;
 use scoop_free_ports::free_ports;
 use scoop_keeper::MemoryKeeper;
@@ -248,10 +249,10 @@ fn answers<R: Threads + Wait + Clock + Net + Sync + Abort>(
     node: &mut Beside,
     history: usize,
 ) -> Result<(), Fail> {
-    let told = run_beside(rt, alloc, system, node, history, LINES, false).ok_or("no client")?;
+    let told = run_beside(rt, alloc, system, node, history, LINES, false).expect(rt, "no client");
     assert!(rt; is(&told.output, REPLIES));
-    assert_eq!(rt; told.ended, Err(RuntimeError::SomeRefused(7, 7)));
-    assert_eq!(rt; told.progress, Some(answered_to(19, Unended::Nothing)));
+    are_equal(rt, told.ended, Err(RuntimeError::SomeRefused(7, 7)));
+    are_equal(rt, told.progress, Some(answered_to(19, Unended::Nothing)));
     Ok(())
 }
 
@@ -262,7 +263,7 @@ fn a_client_gets_a_reply_to_each_line(rt: HostRuntime) -> Result<(), Fail> {
     let mut node = Beside::new(alloc, None);
     answers(&rt, alloc, &system, &mut node, 1_000)?;
     let ready = ready_line(alloc, &system)?;
-    let wrote = format!(in alloc; "{ready}node 1 closed\n")?;
+    let wrote = format!(in alloc; "{ready}node 1 closed\n").expect(&rt, "failed");
     assert!(rt; is(&node.output, &wrote));
     Ok(())
 }
@@ -274,7 +275,9 @@ fn a_sealed_node_goes_on_after_its_history_is_full(rt: HostRuntime) -> Result<()
     let mut node = Beside::new(alloc, Some(Key::new([7; 32])));
     answers(&rt, alloc, &system, &mut node, 6)?;
     let ready = ready_line(alloc, &system)?;
-    let begins = format!(in alloc; "{ready}node 1 reopened\nnode 1 reopened\n")?;
+    let begins = format!(in alloc; "{ready}node 1 reopened\nnode 1 reopened\n").expect(
+        &rt, "failed",
+    );
     assert!(rt; node.output.starts_with(begins.as_bytes()));
     assert!(rt; node.output.ends_with(b"node 1 reopened\nnode 1 closed\n"));
     Ok(())
@@ -306,7 +309,7 @@ fn ended<R: Threads + Wait + Clock + Net + Sync>(
 fn a_user_who_types_hears_of_a_line_that_cannot_be_read(rt: HostRuntime) -> Result<(), Fail> {
     let alloc = rt.alloc();
     let system = accounts(&rt, alloc)?;
-    let told = ended(&rt, alloc, &system, MISREAD, true).ok_or("no client")?;
+    let told = ended(&rt, alloc, &system, MISREAD, true).expect(&rt, "no client");
     assert!(rt;
         is(
             &told.output,
@@ -314,8 +317,12 @@ fn a_user_who_types_hears_of_a_line_that_cannot_be_read(rt: HostRuntime) -> Resu
         )
     );
     assert!(rt; is(&told.notes, NOTES));
-    assert_eq!(rt; told.ended, Err(RuntimeError::InsideBlock));
-    assert_eq!(rt; told.progress, Some(answered_to(4, Unended::Cut(BLOCK))));
+    are_equal(&rt, told.ended, Err(RuntimeError::InsideBlock));
+    are_equal(
+        &rt,
+        told.progress,
+        Some(answered_to(4, Unended::Cut(BLOCK))),
+    );
     Ok(())
 }
 
@@ -333,14 +340,18 @@ fn answered_to(line: u32, unended: Unended) -> Progress {
 fn a_line_that_cannot_be_read_ends_a_client(rt: HostRuntime) -> Result<(), Fail> {
     let alloc = rt.alloc();
     let system = accounts(&rt, alloc)?;
-    let told = ended(&rt, alloc, &system, MISREAD, false).ok_or("no client")?;
+    let told = ended(&rt, alloc, &system, MISREAD, false).expect(&rt, "no client");
     assert!(rt; told.notes.is_empty());
     let fault = RuntimeError::Line(
         3,
         LineFault::NoSuchOperation(HandlerId(1), ShownWord::of(b"balanc")),
     );
-    assert_eq!(rt; told.ended, Err(fault));
-    assert_eq!(rt; told.progress, Some(answered_to(2, Unended::Cut(BLOCK))));
+    are_equal(&rt, told.ended, Err(fault));
+    are_equal(
+        &rt,
+        told.progress,
+        Some(answered_to(2, Unended::Cut(BLOCK))),
+    );
     Ok(())
 }
 
@@ -349,10 +360,10 @@ fn nothing_is_done_of_a_block_that_waits_before_its_end(rt: HostRuntime) -> Resu
     let alloc = rt.alloc();
     let system = accounts(&rt, alloc)?;
     let lines = b"reserve 1 when 1 balance least 0 tries 1\ncall 1 deposit 5\n";
-    let told = ended(&rt, alloc, &system, lines, false).ok_or("no client")?;
+    let told = ended(&rt, alloc, &system, lines, false).expect(&rt, "no client");
     assert!(rt; is(&told.output, "noted\nnoted\n"));
-    assert_eq!(rt; told.ended, Err(RuntimeError::InsideWhen));
-    assert_eq!(rt; told.progress, Some(answered_to(2, Unended::When)));
+    are_equal(&rt, told.ended, Err(RuntimeError::InsideWhen));
+    are_equal(&rt, told.progress, Some(answered_to(2, Unended::When)));
     Ok(())
 }
 
@@ -375,15 +386,15 @@ ended 12
 fn a_user_who_types_hears_how_many_tries_failed(rt: HostRuntime) -> Result<(), Fail> {
     let alloc = rt.alloc();
     let system = accounts(&rt, alloc)?;
-    let told = ended(&rt, alloc, &system, TRIES, true).ok_or("no client")?;
+    let told = ended(&rt, alloc, &system, TRIES, true).expect(&rt, "no client");
     assert!(rt; is(&told.output, TRIED));
     let tried = b"scoop: the condition failed in 10 tries, and the client tries again\n";
     assert!(rt; told.notes.ends_with(tried));
-    assert_eq!(rt; told.ended, Ok(()));
-    let told = ended(&rt, alloc, &system, TRIES, false).ok_or("no client")?;
+    are_equal(&rt, told.ended, Ok(()));
+    let told = ended(&rt, alloc, &system, TRIES, false).expect(&rt, "no client");
     assert!(rt; is(&told.output, TRIED));
     assert!(rt; told.notes.is_empty());
-    assert_eq!(rt; told.ended, Err(RuntimeError::SomeRefused(2, 1)));
+    are_equal(&rt, told.ended, Err(RuntimeError::SomeRefused(2, 1)));
     Ok(())
 }
 
@@ -422,27 +433,31 @@ refused NotReserved 2
 fn a_block_waits_for_all_its_conditions(rt: HostRuntime) -> Result<(), Fail> {
     let alloc = rt.alloc();
     let system = accounts(&rt, alloc)?;
-    let told = ended(&rt, alloc, &system, CONDITIONS, false).ok_or("no client")?;
+    let told = ended(&rt, alloc, &system, CONDITIONS, false).expect(&rt, "no client");
     assert!(rt; is(&told.output, CONDITIONS_TOLD));
-    assert_eq!(rt; told.ended, Err(RuntimeError::SomeRefused(5, 3)));
+    are_equal(&rt, told.ended, Err(RuntimeError::SomeRefused(5, 3)));
     Ok(())
 }
 
 // Each link opens once, and not again.
-fn opens_once<R: Net + Abort>(rt: &R, alloc: Global, system: &System) -> Result<(), Fail> {
+fn opens_once<R: Net + Abort>(rt: &R, alloc: Global, system: &System) {
     let refused = Some(RuntimeError::Ended(PartyError::NoLink));
-    let _node = node_link(rt, alloc, system, 1).ok_or("no node")??;
-    let again = node_link(rt, alloc, system, 1).ok_or("no node")?;
-    assert_eq!(rt; again.err(), refused);
-    let _client = client_link(rt, alloc, system, 7).ok_or("no client")??;
-    let again = client_link(rt, alloc, system, 7).ok_or("no client")?;
-    assert_eq!(rt; again.err(), refused);
-    Ok(())
+    let _node = node_link(rt, alloc, system, 1)
+        .expect(rt, "no node")
+        .expect(rt, "failed");
+    let again = node_link(rt, alloc, system, 1).expect(rt, "no node");
+    are_equal(rt, again.err(), refused);
+    let _client = client_link(rt, alloc, system, 7)
+        .expect(rt, "no client")
+        .expect(rt, "failed");
+    let again = client_link(rt, alloc, system, 7).expect(rt, "no client");
+    are_equal(rt, again.err(), refused);
 }
 
 #[test]
 fn a_port_in_use_is_reported(rt: HostRuntime) -> Result<(), Fail> {
     let alloc = rt.alloc();
     let system = accounts(&rt, alloc)?;
-    opens_once(&rt, alloc, &system)
+    opens_once(&rt, alloc, &system);
+    Ok(())
 }

@@ -1,5 +1,6 @@
 //! A node whose objects a program makes.
 
+use crate::tests::are_equal;
 use scoop_classes::CellObject;
 use scoop_errors::PartyError;
 use scoop_keeper::{Keeper, MemoryKeeper};
@@ -78,16 +79,15 @@ fn stored(keeper: &mut MemoryKeeper) -> Option<u64> {
 
 #[test]
 fn a_node_serves_the_objects_that_a_program_makes(rt: HostRuntime) -> Result<(), Fail> {
-    let served = serve(&rt, rt.alloc(), CELL).ok_or("no node")?;
+    let served = serve(&rt, rt.alloc(), CELL).expect(&rt, "no node");
     let mut keeper = served?;
-    assert_eq!(rt; stored(&mut keeper), Some(4));
+    are_equal(&rt, stored(&mut keeper), Some(4));
     Ok(())
 }
 
 #[test]
-fn a_node_refuses_an_object_of_another_class(rt: HostRuntime) -> Result<(), Fail> {
-    let served = serve(&rt, rt.alloc(), COUNTER).ok_or("no node")?;
+fn a_node_refuses_an_object_of_another_class(rt: HostRuntime) {
+    let served = serve(&rt, rt.alloc(), COUNTER).expect(&rt, "no node");
     let error = RuntimeError::Ended(PartyError::WrongClass(ONE));
-    assert_eq!(rt; served.err(), Some(error));
-    Ok(())
+    are_equal(&rt, served.err(), Some(error));
 }

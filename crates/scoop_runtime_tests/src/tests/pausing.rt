@@ -4,6 +4,7 @@ ghost use Rattle.std.specs.Prelude.{⊤};
 
 use super::text_lines::TextLines;
 use super::{Told, ask, ask_lines, client_link, node_link, serve, with_ports};
+use crate::tests::are_equal;
 use scoop_driver::Interrupt;
 use scoop_free_ports::free_ports;
 use scoop_keeper::MemoryKeeper;
@@ -127,17 +128,22 @@ fn plays<R: Threads + Wait + Clock + Net + Sync + Abort>(
     alloc: Global,
     system: &System,
     lines: &mut PausingLines<'_>,
-) -> Result<(), Fail> {
-    lines.other = client_link(rt, alloc, system, 8).ok_or("no client")?.ok();
-    let link = client_link(rt, alloc, system, 7).ok_or("no client")??;
-    let node = node_link(rt, alloc, system, 1).ok_or("no node")??;
-    let first = run_beside(rt, alloc, system, node, link, lines).ok_or("no client")?;
+) {
+    lines.other = client_link(rt, alloc, system, 8)
+        .expect(rt, "no client")
+        .ok();
+    let link = client_link(rt, alloc, system, 7)
+        .expect(rt, "no client")
+        .expect(rt, "failed");
+    let node = node_link(rt, alloc, system, 1)
+        .expect(rt, "no node")
+        .expect(rt, "failed");
+    let first = run_beside(rt, alloc, system, node, link, lines).expect(rt, "no client");
     assert!(rt; first.output.as_slice() == "reserved 7.1.1\nended\n".as_bytes());
-    assert_eq!(rt; first.ended, Ok(()));
-    let second = lines.told.as_ref().ok_or("no pause")?;
+    are_equal(rt, first.ended, Ok(()));
+    let second = lines.told.as_ref().expect(rt, "no pause");
     assert!(rt; second.output.as_slice() == "reserved 8.1.1\nended\n".as_bytes());
-    assert_eq!(rt; second.ended, Ok(()));
-    Ok(())
+    are_equal(rt, second.ended, Ok(()));
 }
 
 #[test]
@@ -147,9 +153,9 @@ fn a_client_that_pauses_in_its_block_keeps_no_lock(rt: HostRuntime) -> Result<()
         alloc,
         CELLS,
         &["NODE", "SEVEN", "EIGHT"],
-        &free_ports::<_, 3>(&rt)?,
+        &free_ports::<_, 3>(&rt).expect(&rt, "failed"),
     )?;
-    let system = System::read(alloc, &text).ok().ok_or("no system")?;
+    let system = System::read(alloc, &text).ok().expect(&rt, "no system");
     let mut lines = PausingLines {
         alloc,
         system: &system,
@@ -158,5 +164,6 @@ fn a_client_that_pauses_in_its_block_keeps_no_lock(rt: HostRuntime) -> Result<()
         other: None,
         told: None,
     };
-    plays(&rt, alloc, &system, &mut lines)
+    plays(&rt, alloc, &system, &mut lines);
+    Ok(())
 }

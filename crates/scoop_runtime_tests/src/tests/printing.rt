@@ -1,5 +1,6 @@
 //! The texts of a client.
 
+use crate::tests::are_equal;
 use scoop_client::{BeginError, ClientError};
 use scoop_driver::DriverError;
 use scoop_errors::PartyError;
@@ -14,7 +15,6 @@ use scoop_runtime::{
 use scoop_system::{LineFault, ShownWord};
 use std::alloc::Global;
 use std::process::Abort;
-use std::test::Fail;
 
 const BLOCK: Block = Block {
     client: ClientId(7),
@@ -23,45 +23,44 @@ const BLOCK: Block = Block {
 };
 
 // The reply is this line.
-fn prints(rt: &impl Abort, alloc: Global, reply: Reply, text: &str) -> Result<(), Fail> {
+fn prints(rt: &impl Abort, alloc: Global, reply: Reply, text: &str) {
     let mut output = Vec::new(alloc);
-    print_reply(&reply, &mut output)?;
+    print_reply(&reply, &mut output).expect(rt, "failed");
     assert!(rt; output.as_slice() == text.as_bytes());
-    Ok(())
 }
 
 #[test]
-fn replies_are_lines(rt: HostRuntime) -> Result<(), Fail> {
+fn replies_are_lines(rt: HostRuntime) {
     let alloc = rt.alloc();
-    prints(&rt, alloc, Reply::Reserved(BLOCK), "reserved 7.1.2\n")?;
-    prints(&rt, alloc, Reply::Logged(HandlerId(3), 2), "logged 3 2\n")?;
+    prints(&rt, alloc, Reply::Reserved(BLOCK), "reserved 7.1.2\n");
+    prints(&rt, alloc, Reply::Logged(HandlerId(3), 2), "logged 3 2\n");
     prints(
         &rt,
         alloc,
         Reply::Answered(Answer::Value(150)),
         "answer 150\n",
-    )?;
+    );
     prints(
         &rt,
         alloc,
         Reply::Answered(Answer::Refused),
         "answer refused\n",
-    )?;
-    prints(&rt, alloc, Reply::Ended, "ended\n")?;
-    prints(&rt, alloc, Reply::Noted, "noted\n")?;
-    prints(&rt, alloc, Reply::EndedAt(3), "ended 3\n")?;
+    );
+    prints(&rt, alloc, Reply::Ended, "ended\n");
+    prints(&rt, alloc, Reply::Noted, "noted\n");
+    prints(&rt, alloc, Reply::EndedAt(3), "ended 3\n");
     prints(
         &rt,
         alloc,
         Reply::ConditionFailed(10),
         "condition failed 10\n",
-    )?;
-    prints(&rt, alloc, Reply::GivenUp, "given up\n")?;
-    prints(&rt, alloc, Reply::NotInWhen, "refused NotInWhen\n")
+    );
+    prints(&rt, alloc, Reply::GivenUp, "given up\n");
+    prints(&rt, alloc, Reply::NotInWhen, "refused NotInWhen\n");
 }
 
 #[test]
-fn refusals_are_names(rt: HostRuntime) -> Result<(), Fail> {
+fn refusals_are_names(rt: HostRuntime) {
     let alloc = rt.alloc();
     let three = HandlerId(3);
     let refused = |error| Reply::Refused(error);
@@ -70,39 +69,32 @@ fn refusals_are_names(rt: HostRuntime) -> Result<(), Fail> {
         alloc,
         refused(ClientError::NotReserved(three)),
         "refused NotReserved 3\n",
-    )?;
+    );
     prints(
         &rt,
         alloc,
         refused(ClientError::NotIdle),
         "refused NotIdle\n",
-    )?;
+    );
     let unknown = ClientError::Reserve(ReserveError::Unknown(three));
-    prints(&rt, alloc, refused(unknown), "refused Unknown 3\n")?;
+    prints(&rt, alloc, refused(unknown), "refused Unknown 3\n");
     let empty = ClientError::Reserve(ReserveError::Empty);
-    prints(&rt, alloc, refused(empty), "refused Empty\n")
+    prints(&rt, alloc, refused(empty), "refused Empty\n");
 }
 
-fn reads(
-    rt: &impl Abort,
-    alloc: Global,
-    error: RuntimeError,
-    text: &str,
-    status: u8,
-) -> Result<(), Fail> {
-    let printed = format!(in alloc; "{error}")?;
-    assert_eq!(rt; printed.as_str(), text);
-    assert_eq!(rt; error.status(), status);
-    Ok(())
+fn reads(rt: &impl Abort, alloc: Global, error: RuntimeError, text: &str, status: u8) {
+    let printed = format!(in alloc; "{error}").expect(rt, "failed");
+    are_equal(rt, printed.as_str(), text);
+    are_equal(rt, error.status(), status);
 }
 
 #[test]
-fn errors_are_told(rt: HostRuntime) -> Result<(), Fail> {
+fn errors_are_told(rt: HostRuntime) {
     let alloc = rt.alloc();
     let inside = "the input ended inside a block";
-    reads(&rt, alloc, RuntimeError::InsideBlock, inside, 1)?;
+    reads(&rt, alloc, RuntimeError::InsideBlock, inside, 1);
     let noted = "the input ended inside a waiting block, and nothing of it is done";
-    reads(&rt, alloc, RuntimeError::InsideWhen, noted, 1)?;
+    reads(&rt, alloc, RuntimeError::InsideWhen, noted, 1);
     let long = SourceError {
         line: 4,
         fault: SourceFault::LineTooLong,
@@ -113,32 +105,32 @@ fn errors_are_told(rt: HostRuntime) -> Result<(), Fail> {
         RuntimeError::Input(long),
         "line 4: line too long",
         1,
-    )?;
+    );
     reads(
         &rt,
         alloc,
         RuntimeError::Ended(PartyError::NoLink),
         "link: Fault",
         3,
-    )?;
+    );
     let none = RuntimeError::Handlers(BeginError::NoHandlers);
-    reads(&rt, alloc, none, "handlers: NoHandlers", 3)?;
+    reads(&rt, alloc, none, "handlers: NoHandlers", 3);
     let twice = RuntimeError::Handlers(BeginError::Repeated(HandlerId(3)));
-    reads(&rt, alloc, twice, "handlers: Repeated 3", 3)?;
+    reads(&rt, alloc, twice, "handlers: Repeated 3", 3);
     let missing = RuntimeError::NoHandler(HandlerId(2));
-    reads(&rt, alloc, missing, "store: NoHandler 2", 3)?;
+    reads(&rt, alloc, missing, "store: NoHandler 2", 3);
     let unwelcome = RuntimeError::NotWelcomed(HandlerId(2));
-    reads(&rt, alloc, unwelcome, "link: TurnsOver", 3)?;
+    reads(&rt, alloc, unwelcome, "link: TurnsOver", 3);
     let unanswered = RuntimeError::NotAnswered(HandlerId(2));
-    reads(&rt, alloc, unanswered, "link: TurnsOver", 3)?;
+    reads(&rt, alloc, unanswered, "link: TurnsOver", 3);
     let some = RuntimeError::SomeRefused(4, 2);
-    reads(&rt, alloc, some, "line 4: refused, the first of 2", 1)?;
-    reads(&rt, alloc, RuntimeError::Refused(4), "line 4: refused", 1)
+    reads(&rt, alloc, some, "line 4: refused, the first of 2", 1);
+    reads(&rt, alloc, RuntimeError::Refused(4), "line 4: refused", 1);
 }
 
 // Checks that the error's advice is about this, and has these words.
 fn advises(rt: &impl Abort, error: RuntimeError, about: About, words: &str) {
-    assert_eq!(rt; error.about(), about);
+    are_equal(rt, error.about(), about);
     assert!(rt; error.advice().contains(words));
 }
 
@@ -206,42 +198,34 @@ fn a_clients_errors_name_what_they_are_about(rt: HostRuntime) {
 }
 
 // Checks that the range is printed in these words.
-fn ranges(
-    rt: &impl Abort,
-    alloc: Global,
-    refused: Option<OutOfRange>,
-    text: &str,
-) -> Result<(), Fail> {
-    let range = refused.ok_or("it is taken")?;
-    let printed = format!(in alloc; "{range}")?;
-    assert_eq!(rt; printed.as_str(), text);
-    Ok(())
+fn ranges(rt: &impl Abort, alloc: Global, refused: Option<OutOfRange>, text: &str) {
+    let range = refused.expect(rt, "it is taken");
+    let printed = format!(in alloc; "{range}").expect(rt, "failed");
+    are_equal(rt, printed.as_str(), text);
 }
 
 #[test]
-fn numbers_out_of_range_are_told(rt: HostRuntime) -> Result<(), Fail> {
+fn numbers_out_of_range_are_told(rt: HostRuntime) {
     let alloc = rt.alloc();
     let refused = |executors, history, turns| Serving::new(executors, history, turns).err();
     let executors = "--executors must be a whole number from 1 to 64";
-    ranges(&rt, alloc, refused(0, 1, 0), executors)?;
-    ranges(&rt, alloc, refused(65, 2, 1), executors)?;
+    ranges(&rt, alloc, refused(0, 1, 0), executors);
+    ranges(&rt, alloc, refused(65, 2, 1), executors);
     let history = "--history must be a whole number from 2 to 1000000";
-    ranges(&rt, alloc, refused(64, 1, 0), history)?;
-    ranges(&rt, alloc, refused(1, 1_000_001, 1), history)?;
+    ranges(&rt, alloc, refused(64, 1, 0), history);
+    ranges(&rt, alloc, refused(1, 1_000_001, 1), history);
     let turns = "--turns must be a whole number from 1 to 18446744073709551615";
-    ranges(&rt, alloc, refused(1, 2, 0), turns)?;
+    ranges(&rt, alloc, refused(1, 2, 0), turns);
     assert!(rt; Serving::new(64, 1_000_000, u64::MAX).is_ok());
-    Ok(())
 }
 
-fn says(rt: &impl Abort, alloc: Global, progress: Progress, text: &str) -> Result<(), Fail> {
-    let printed = format!(in alloc; "{progress}")?;
-    assert_eq!(rt; printed.as_str(), text);
-    Ok(())
+fn says(rt: &impl Abort, alloc: Global, progress: Progress, text: &str) {
+    let printed = format!(in alloc; "{progress}").expect(rt, "failed");
+    are_equal(rt, printed.as_str(), text);
 }
 
 #[test]
-fn progress_is_told(rt: HostRuntime) -> Result<(), Fail> {
+fn progress_is_told(rt: HostRuntime) {
     let alloc = rt.alloc();
     let unready =
         "the client was not ready, and no line was read: resume with --store, or with the store of an earlier run if there is one";
@@ -251,7 +235,7 @@ fn progress_is_told(rt: HostRuntime) -> Result<(), Fail> {
         has_begun: false,
         unended: Unended::Nothing,
     };
-    says(&rt, alloc, greeting, unready)?;
+    says(&rt, alloc, greeting, unready);
     let none = Progress {
         is_ready: true,
         answered: None,
@@ -263,7 +247,7 @@ fn progress_is_told(rt: HostRuntime) -> Result<(), Fail> {
         alloc,
         none,
         "no line was answered: resume with --store",
-    )?;
+    );
     let inside = Progress {
         is_ready: true,
         answered: Some(3),
@@ -272,21 +256,21 @@ fn progress_is_told(rt: HostRuntime) -> Result<(), Fail> {
     };
     let text =
         "the lines up to line 3 were answered, the next one may be done, and block 7.1.2 is cut: resume with --store, and begin with reserve";
-    says(&rt, alloc, inside, text)?;
+    says(&rt, alloc, inside, text);
     let held = Progress {
         unended: Unended::Held(BLOCK),
         ..none
     };
     let text =
         "no line was answered, and block 7.1.2 may be open still: run the client with --store and --cut";
-    says(&rt, alloc, held, text)?;
+    says(&rt, alloc, held, text);
     let given_up = Progress {
         unended: Unended::GivenUp(BLOCK),
         ..none
     };
     let text =
         "no line was answered, and block 7.1.2 is given up: resume with --store, and begin with its reserve";
-    says(&rt, alloc, given_up, text)?;
+    says(&rt, alloc, given_up, text);
     let waiting = Progress {
         is_ready: true,
         answered: Some(2),
@@ -295,5 +279,5 @@ fn progress_is_told(rt: HostRuntime) -> Result<(), Fail> {
     };
     let text =
         "the lines up to line 2 were answered, and nothing of the waiting block is done: resume with --store, and begin with its reserve";
-    says(&rt, alloc, waiting, text)
+    says(&rt, alloc, waiting, text);
 }

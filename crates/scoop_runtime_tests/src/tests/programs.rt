@@ -2,6 +2,7 @@
 
 use super::leaving::ACCOUNTS;
 use super::{TURNS, client_link, node_link, serve, with_ports};
+use crate::tests::are_equal;
 use scoop_client::ClientError;
 use scoop_driver::{DriverError, NoPause};
 use scoop_errors::PartyError;
@@ -172,18 +173,27 @@ fn runs<R: Threads + Wait + Clock + Net + Sync + Abort>(
     notes: &str,
 ) -> Result<(), Fail> {
     let words = ["NODE", "SEVEN", "EIGHT"];
-    let text = with_ports(alloc, ACCOUNTS, &words, &free_ports::<_, 3>(rt)?)?;
-    let system = System::read(alloc, &text)?;
-    let node = node_link(rt, alloc, &system, 1).ok_or("no node")??;
-    let link = client_link(rt, alloc, &system, 7).ok_or("no client")??;
+    let text = with_ports(
+        alloc,
+        ACCOUNTS,
+        &words,
+        &free_ports::<_, 3>(rt).expect(rt, "failed"),
+    )?;
+    let system = System::read(alloc, &text).expect(rt, "failed");
+    let node = node_link(rt, alloc, &system, 1)
+        .expect(rt, "no node")
+        .expect(rt, "failed");
+    let link = client_link(rt, alloc, &system, 7)
+        .expect(rt, "no client")
+        .expect(rt, "failed");
     let mut payer = Payer {
         then,
         balance: None,
     };
-    let told = run_beside(rt, alloc, &system, node, link, &mut payer).ok_or("it didn't run")?;
-    assert_eq!(rt; told.end, end);
+    let told = run_beside(rt, alloc, &system, node, link, &mut payer).expect(rt, "it didn't run");
+    are_equal(rt, told.end, end);
     assert!(rt; told.notes.as_slice() == notes.as_bytes());
-    assert_eq!(rt; payer.balance, Some(Answer::Value(100)));
+    are_equal(rt, payer.balance, Some(Answer::Value(100)));
     Ok(())
 }
 

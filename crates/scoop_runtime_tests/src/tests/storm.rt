@@ -7,6 +7,7 @@ use super::lossy_link::LossyLink;
 use super::moments::Moments;
 use super::replay::{Purse, replay};
 use super::{ask, client_link, node_link, serve, with_ports};
+use crate::tests::are_equal;
 use scoop_free_ports::free_ports;
 use scoop_keeper::{Keeper, MemoryKeeper};
 use scoop_link::UdpLink;
@@ -326,12 +327,11 @@ fn storm<R: Threads + Wait + Clock + Sync>(
 }
 
 // Gathers the deals of the clients, none of which failed.
-fn gather(rt: &impl Abort, guests: &[Guest], deals: &mut Vec<Deal>) -> Result<(), Fail> {
+fn gather(rt: &impl Abort, guests: &[Guest], deals: &mut Vec<Deal>) {
     for guest in guests {
         assert!(rt; !guest.failed);
-        deals.extend_from_slice(&guest.deals)?;
+        deals.extend_from_slice(&guest.deals).expect(rt, "failed");
     }
-    Ok(())
 }
 
 // The deals replay to the purses that the nodes stored. The only money gone was withdrawn and not deposited.
@@ -346,10 +346,10 @@ fn comes_out_even(rt: &impl Abort, parties: &mut Parties, deals: &mut Vec<Deal>)
     }; 3];
     assert!(rt; replay(deals, &mut purses));
     for (handler, purse) in (1u32..).zip(purses.iter()) {
-        assert_eq!(rt; parties.stored(HandlerId(handler)), Some(*purse));
+        are_equal(rt, parties.stored(HandlerId(handler)), Some(*purse));
         money = money.wrapping_add(purse.money);
     }
-    assert_eq!(rt; money, 3_000);
+    are_equal(rt, money, 3_000);
 }
 
 // Runs all rounds, and checks their deals.
@@ -358,24 +358,29 @@ fn plays<R: Threads + Wait + Clock + Net + Sync + Abort>(
     alloc: Global,
     system: &System,
     parties: &mut Parties,
-) -> Result<(), Fail> {
+) {
     for _ in 0..ROUNDS {
         assert!(rt; parties.open(rt, alloc, system));
         assert!(rt; storm(rt, alloc, system, parties));
     }
     let mut deals = Vec::new(alloc);
-    gather(rt, &parties.guests, &mut deals)?;
-    assert_eq!(rt; deals.len(), 22);
+    gather(rt, &parties.guests, &mut deals);
+    are_equal(rt, deals.len(), 22);
     comes_out_even(rt, parties, &mut deals);
-    Ok(())
 }
 
 #[test]
 fn blocks_keep_one_order_through_a_storm(rt: HostRuntime) -> Result<(), Fail> {
     let alloc = rt.alloc();
     let words = ["ONE", "TWO", "SEVEN", "EIGHT", "NINE"];
-    let text = with_ports(alloc, PURSES, &words, &free_ports::<_, 5>(&rt)?)?;
-    let system = System::read(alloc, &text).ok().ok_or("no system")?;
+    let text = with_ports(
+        alloc,
+        PURSES,
+        &words,
+        &free_ports::<_, 5>(&rt).expect(&rt, "failed"),
+    )?;
+    let system = System::read(alloc, &text).ok().expect(&rt, "no system");
     let mut parties = Parties::new(alloc);
-    plays(&rt, alloc, &system, &mut parties)
+    plays(&rt, alloc, &system, &mut parties);
+    Ok(())
 }

@@ -6,6 +6,7 @@ mod lines;
 mod names;
 mod using;
 
+use crate::tests::are_equal;
 use scoop_classes::DemoClass;
 use scoop_message::{ClientId, HandlerId};
 use scoop_system::{HandlerClass, Name, System, is_name, print_system};
@@ -116,81 +117,98 @@ node = [{number = 4, address = [\"10.0.0.1:9\", \"10.0.0.2:9\"], status = \"127.
 }
 
 // The system is borrowed, so that no early return has to drop it. The tests below do the same.
-fn has_parts(rt: &impl Abort, system: &System) -> Result<(), Fail> {
-    assert_eq!(rt; system.classes().len(), 1);
-    assert_eq!(rt; system.nodes().len(), 2);
-    assert_eq!(rt; system.handlers().len(), 2);
-    assert_eq!(rt; system.clients().len(), 2);
-    assert_eq!(rt; system.node(2).ok_or("node 2")?.address.port(), 47102);
+fn has_parts(rt: &impl Abort, system: &System) {
+    are_equal(rt, system.classes().len(), 1);
+    are_equal(rt, system.nodes().len(), 2);
+    are_equal(rt, system.handlers().len(), 2);
+    are_equal(rt, system.clients().len(), 2);
+    are_equal(
+        rt,
+        system.node(2).expect(rt, "node 2").address.port(),
+        47102,
+    );
     assert!(rt; system.node(3).is_none());
-    assert_eq!(rt; system.client(ClientId(7)).ok_or("client 7")?.batch, 4);
+    are_equal(
+        rt,
+        system.client(ClientId(7)).expect(rt, "client 7").batch,
+        4,
+    );
     assert!(rt; system.client(ClientId(9)).is_none());
-    let stock = system.handler(HandlerId(1)).ok_or("handler 1")?;
-    assert_eq!(rt; stock.node, 1);
+    let stock = system.handler(HandlerId(1)).expect(rt, "handler 1");
+    are_equal(rt, stock.node, 1);
     assert!(rt; stock.class == HandlerClass::Own(Name::told("stock")));
-    let account = system.handler(HandlerId(3)).ok_or("handler 3")?;
+    let account = system.handler(HandlerId(3)).expect(rt, "handler 3");
     assert!(rt; account.class == HandlerClass::Known(DemoClass::Account));
     assert!(rt; system.handler(HandlerId(2)).is_none());
-    Ok(())
 }
 
 #[test]
-fn parts_are_looked_up(rt: HostRuntime) -> Result<(), Fail> {
-    let system = System::read(rt.alloc(), SYSTEM)?;
-    has_parts(&rt, &system)
+fn parts_are_looked_up(rt: HostRuntime) {
+    let system = System::read(rt.alloc(), SYSTEM).expect(&rt, "failed");
+    has_parts(&rt, &system);
 }
 
 fn has_stock(rt: &impl Abort, alloc: Global, system: &System) -> Result<(), Fail> {
     let own = HandlerClass::Own(Name::told("stock"));
-    let stock = system.class_of(alloc, own)?.ok_or("stock")?;
-    assert_eq!(rt; stock.words(), 2);
-    assert_eq!(rt; stock.rows().len(), 2);
+    let stock = system
+        .class_of(alloc, own)
+        .expect(rt, "failed")
+        .expect(rt, "stock");
+    are_equal(rt, stock.words(), 2);
+    are_equal(rt, stock.rows().len(), 2);
     let [class] = system.classes() else {
         return Err(Fail::from("one class"));
     };
-    assert_eq!(rt; class.name(), Name::told("stock"));
+    are_equal(rt, class.name(), Name::told("stock"));
     assert!(rt; class.class().same(&stock));
     let [_, left] = class.operations() else {
         return Err(Fail::from("two operations"));
     };
-    assert_eq!(rt; left.number, 2);
-    assert_eq!(rt; left.name, Name::told("left"));
+    are_equal(rt, left.number, 2);
+    are_equal(rt, left.name, Name::told("left"));
     Ok(())
 }
 
-fn has_known_classes(rt: &impl Abort, alloc: Global, system: &System) -> Result<(), Fail> {
+fn has_known_classes(rt: &impl Abort, alloc: Global, system: &System) {
     let known = HandlerClass::Known(DemoClass::Exchange);
-    let exchange = system.class_of(alloc, known)?.ok_or("exchange")?;
-    assert!(rt; exchange.same(&DemoClass::Exchange.class(alloc)?));
+    let exchange = system
+        .class_of(alloc, known)
+        .expect(rt, "failed")
+        .expect(rt, "exchange");
+    assert!(rt; exchange.same(&DemoClass::Exchange.class(alloc).expect(rt, "failed")));
     let stranger = HandlerClass::Own(Name::told("stok"));
-    assert!(rt; system.class_of(alloc, stranger)?.is_none());
-    Ok(())
+    assert!(rt;
+        system
+            .class_of(alloc, stranger)
+            .expect(rt, "failed")
+            .is_none()
+    );
 }
 
 #[test]
 fn classes_are_those_of_the_handlers(rt: HostRuntime) -> Result<(), Fail> {
-    let system = System::read(rt.alloc(), SYSTEM)?;
+    let system = System::read(rt.alloc(), SYSTEM).expect(&rt, "failed");
     has_stock(&rt, rt.alloc(), &system)?;
-    has_known_classes(&rt, rt.alloc(), &system)
-}
-
-#[test]
-fn operations_are_looked_up_by_name(rt: HostRuntime) -> Result<(), Fail> {
-    let system = System::read(rt.alloc(), SYSTEM)?;
-    assert_eq!(rt; system.operation(HandlerId(1), b"left"), Some(2));
-    assert_eq!(rt; system.operation(HandlerId(1), b"balance"), None);
-    assert_eq!(rt; system.operation(HandlerId(3), b"balance"), Some(3));
-    assert_eq!(rt; system.operation(HandlerId(3), b"withdraw"), Some(2));
-    assert_eq!(rt; system.operation(HandlerId(2), b"left"), None);
-    assert_eq!(rt; system.arguments(HandlerId(1), 1), Some(1));
-    assert_eq!(rt; system.arguments(HandlerId(1), 3), None);
-    assert_eq!(rt; system.arguments(HandlerId(3), 3), Some(0));
-    assert_eq!(rt; system.arguments(HandlerId(2), 1), None);
+    has_known_classes(&rt, rt.alloc(), &system);
     Ok(())
 }
 
 #[test]
-fn names_are_letters_and_digits(rt: HostRuntime) -> Result<(), Fail> {
+fn operations_are_looked_up_by_name(rt: HostRuntime) {
+    let system = System::read(rt.alloc(), SYSTEM).expect(&rt, "failed");
+    are_equal(&rt, system.operation(HandlerId(1), b"left"), Some(2));
+    are_equal(&rt, system.operation(HandlerId(1), b"balance"), None);
+    are_equal(&rt, system.operation(HandlerId(3), b"balance"), Some(3));
+    are_equal(&rt, system.operation(HandlerId(3), b"withdraw"), Some(2));
+    are_equal(&rt, system.operation(HandlerId(2), b"left"), None);
+    are_equal(&rt, system.arguments(HandlerId(1), 1), Some(1));
+    are_equal(&rt, system.arguments(HandlerId(1), 3), None);
+    are_equal(&rt, system.arguments(HandlerId(3), 3), Some(0));
+    are_equal(&rt, system.arguments(HandlerId(2), 1), None);
+}
+
+#[test]
+fn names_are_letters_and_digits(rt: HostRuntime) {
     for name in [
         "a",
         "stock",
@@ -211,11 +229,11 @@ fn names_are_letters_and_digits(rt: HostRuntime) -> Result<(), Fail> {
         assert!(rt; !is_name(text));
     }
     assert!(rt; Name::told("a\u{e9}\n").as_str() == "a???");
-    assert_eq!(rt;
+    are_equal(
+        &rt,
         Name::told("abcdefghijklmnopqrstuvwxyz0123456")
             .as_bytes()
             .len(),
-        32
+        32,
     );
-    Ok(())
 }

@@ -56,31 +56,33 @@ fn about<'a>(system: &'a System, place: &NodePlace, started: Timestamp) -> About
 }
 
 // Sends these bytes, and turns the server until the connection ends. Returns what came back, and after how long.
-fn ask<R: Wait + Clock>(
+fn ask<R: Wait + Clock + Abort>(
     rt: &R,
     alloc: Global,
     served: &mut Served,
     pages: &mut Pages<'_, R>,
     mut stream: TcpStream,
     bytes: &[u8],
-) -> Result<(Vec<u8>, Duration), Fail> {
-    let start = Instant::now(rt)?;
-    stream.write_all(bytes)?;
-    stream.set_nonblocking(true)?;
+) -> (Vec<u8>, Duration) {
+    let start = Instant::now(rt).expect(rt, "no time");
+    stream.write_all(bytes).expect(rt, "not sent");
+    stream.set_nonblocking(true).expect(rt, "it waits");
     let mut back = Vec::new(alloc);
     let mut buffer = [0; 4096];
     for _ in 0..1_000 {
         served.server.turn(rt, pages);
         match stream.read(&mut buffer) {
             Ok(0) => break,
-            Ok(len) => back.extend_from_slice(&buffer[..len])?,
+            Ok(len) => back
+                .extend_from_slice(&buffer[..len])
+                .expect(rt, "no memory"),
             Err(error) if error.kind() == ErrorKind::WouldBlock => {
                 thread::sleep(rt, Duration::from_millis(5));
             }
             Err(_) => break,
         }
     }
-    Ok((back, start.elapsed(rt)?))
+    (back, start.elapsed(rt).expect(rt, "no time"))
 }
 
 // Each of these gets an answer that begins so, and ends the connection within two seconds.
@@ -118,16 +120,16 @@ const CASES: [(&[u8], &str); 9] = [
     (b"GET / HTTP/1.1\r\nHost: h\r\n", ""),
 ];
 
-// These functions borrow what a test owns, so that no early return has to drop it.
+// A failure stops the test at once, so that no early return has to drop what the test owns.
 fn answers_each<R: Wait + Clock + Abort + Net<Stream = TcpStream>>(
     rt: &R,
     alloc: Global,
     system: &System,
     watch: &Watch,
     served: &mut Served,
-) -> Result<(), Fail> {
-    let place = system.node(1).ok_or("no node")?;
-    let about = about(system, place, Timestamp::now(rt)?);
+) {
+    let place = system.node(1).expect(rt, "no node");
+    let about = about(system, place, Timestamp::now(rt).expect(rt, "no time"));
     let mut pages = Pages {
         rt,
         alloc,
@@ -135,15 +137,16 @@ fn answers_each<R: Wait + Clock + Abort + Net<Stream = TcpStream>>(
         about: &about,
     };
     for (request, wanted) in CASES {
-        let (back, took) = asked(rt, alloc, served, &mut pages, request)?;
+        let (back, took) = asked(rt, alloc, served, &mut pages, request);
         assert!(rt; back.starts_with(wanted.as_bytes()), "{wanted}");
         assert!(rt; took < Duration::from_secs(2), "{wanted}");
     }
-    let mut long = b"GET / HTTP/1.1\r\nHost: h\r\nX: ".to_vec(alloc)?;
-    long.resize(5_000, b'a')?;
-    let (back, _) = asked(rt, alloc, served, &mut pages, &long)?;
+    let mut long = b"GET / HTTP/1.1\r\nHost: h\r\nX: "
+        .to_vec(alloc)
+        .expect(rt, "no memory");
+    long.resize(5_000, b'a').expect(rt, "no memory");
+    let (back, _) = asked(rt, alloc, served, &mut pages, &long);
     assert!(rt; back.starts_with(b"HTTP/1.1 431 "));
-    Ok(())
 }
 
 // The answer to these bytes over a new connection, and the time that it took.
@@ -153,17 +156,18 @@ fn asked<R: Wait + Clock + Abort + Net<Stream = TcpStream>>(
     served: &mut Served,
     pages: &mut Pages<'_, R>,
     bytes: &[u8],
-) -> Result<(Vec<u8>, Duration), Fail> {
-    let stream = TcpStream::connect(rt, served.address)?;
+) -> (Vec<u8>, Duration) {
+    let stream = TcpStream::connect(rt, served.address).expect(rt, "no connection");
     ask(rt, alloc, served, pages, stream, bytes)
 }
 
 #[test]
 fn each_request_gets_its_answer_in_time(rt: HostRuntime) -> Result<(), Fail> {
-    let system = System::read(rt.alloc(), SYSTEM)?;
-    let watch: Watch = watch(rt.alloc(), LogLevel::Off);
     let mut served = serve(&rt)?;
-    answers_each(&rt, rt.alloc(), &system, &watch, &mut served)
+    let system = System::read(rt.alloc(), SYSTEM).expect(&rt, "no system");
+    let watch: Watch = watch(rt.alloc(), LogLevel::Off);
+    answers_each(&rt, rt.alloc(), &system, &watch, &mut served);
+    Ok(())
 }
 
 // Connections that send nothing take all places, until their time is over.
@@ -174,9 +178,9 @@ fn leaves_room<R: Wait + Clock + Abort + Net<Stream = TcpStream>>(
     watch: &Watch,
     served: &mut Served,
     silent: &mut Vec<TcpStream>,
-) -> Result<(), Fail> {
-    let place = system.node(1).ok_or("no node")?;
-    let about = about(system, place, Timestamp::now(rt)?);
+) {
+    let place = system.node(1).expect(rt, "no node");
+    let about = about(system, place, Timestamp::now(rt).expect(rt, "no time"));
     let mut pages = Pages {
         rt,
         alloc,
@@ -184,33 +188,34 @@ fn leaves_room<R: Wait + Clock + Abort + Net<Stream = TcpStream>>(
         about: &about,
     };
     for _ in 0..40 {
-        silent.push(TcpStream::connect(rt, served.address)?)?;
+        let stream = TcpStream::connect(rt, served.address).expect(rt, "no connection");
+        silent.push(stream).expect(rt, "no memory");
     }
-    let start = Instant::now(rt)?;
+    let start = Instant::now(rt).expect(rt, "no time");
     served.server.turn(rt, &mut pages);
     served.server.turn(rt, &mut pages);
     // all places are taken
-    let (back, took) = asked(rt, alloc, served, &mut pages, b"")?;
+    let (back, took) = asked(rt, alloc, served, &mut pages, b"");
     assert!(rt; back.starts_with(b"HTTP/1.1 503 ") && took < Duration::from_secs(1));
     // their time is over
     for _ in 0..400 {
         served.server.turn(rt, &mut pages);
-        if start.elapsed(rt)? > Duration::from_millis(1_600) {
+        if start.elapsed(rt).expect(rt, "no time") > Duration::from_millis(1_600) {
             break;
         }
         thread::sleep(rt, Duration::from_millis(5));
     }
     let request = b"GET /metrics HTTP/1.1\r\nHost: h\r\n\r\n";
-    let (back, _) = asked(rt, alloc, served, &mut pages, request)?;
+    let (back, _) = asked(rt, alloc, served, &mut pages, request);
     assert!(rt; back.starts_with(b"HTTP/1.1 200 OK\r\n"));
-    Ok(())
 }
 
 #[test]
 fn silent_connections_leave_room(rt: HostRuntime) -> Result<(), Fail> {
-    let system = System::read(rt.alloc(), SYSTEM)?;
-    let watch: Watch = watch(rt.alloc(), LogLevel::Off);
     let mut served = serve(&rt)?;
+    let system = System::read(rt.alloc(), SYSTEM).expect(&rt, "no system");
+    let watch: Watch = watch(rt.alloc(), LogLevel::Off);
     let mut silent = Vec::new(rt.alloc());
-    leaves_room(&rt, rt.alloc(), &system, &watch, &mut served, &mut silent)
+    leaves_room(&rt, rt.alloc(), &system, &watch, &mut served, &mut silent);
+    Ok(())
 }

@@ -1,5 +1,6 @@
 //! What is shown of a node, in each of its forms.
 
+use crate::tests::are_equal;
 use jiff::Timestamp;
 use scoop_classes::DemoClass;
 use scoop_handler::{Note, Reason, Stage};
@@ -14,7 +15,7 @@ use scoop_system::{HandlerClass, Name};
 use scoop_watch::{LinkTally, Tally};
 use std::alloc::Global;
 use std::net::SocketAddr;
-use std::test::Fail;
+use std::process::Abort;
 
 const JSON: &str = "{
   \"node\": 1,
@@ -109,7 +110,7 @@ const BLOCK: Block = Block {
 };
 
 // Client 7's block has the lock of handler 3, and an earlier block of it waits there.
-fn handler(alloc: Global) -> Result<HandlerView, Fail> {
+fn handler(rt: &impl Abort, alloc: Global) -> HandlerView {
     let queue = QueueView {
         block: Printed(BLOCK),
         state: StateView(QueueState::Ended),
@@ -124,16 +125,16 @@ fn handler(alloc: Global) -> Result<HandlerView, Fail> {
         received: 0,
         ended: false,
     };
-    Ok(HandlerView {
+    HandlerView {
         handler: 3,
         name: Some(Printed(Name::told("till"))),
         class: Printed(HandlerClass::Known(DemoClass::Account)),
         known: true,
-        words: vec![in alloc; 10, u64::MAX]?,
+        words: vec![in alloc; 10, u64::MAX].expect(rt, "no memory"),
         holder: Some(Printed(Block { num: 2, ..BLOCK })),
-        queues: vec![in alloc; queue]?,
-        marks: vec![in alloc; mark]?,
-    })
+        queues: vec![in alloc; queue].expect(rt, "no memory"),
+        marks: vec![in alloc; mark].expect(rt, "no memory"),
+    }
 }
 
 // Two messages were taken, one of an unknown client was dropped, and two that came late.
@@ -158,43 +159,46 @@ fn counts() -> CountsView {
     }
 }
 
-fn view(alloc: Global) -> Result<NodeView<'static>, Fail> {
+fn view(rt: &impl Abort, alloc: Global) -> NodeView<'static> {
     let client = ClientView {
         client: 7,
         named: true,
         incarnation: 1,
         handlers: 1,
     };
-    Ok(NodeView {
+    let address = "127.0.0.1:47101"
+        .parse::<SocketAddr>()
+        .expect(rt, "no address");
+    let started = Timestamp::from_second(1_795_689_674).expect(rt, "no time");
+    NodeView {
         node: 1,
-        address: Printed("127.0.0.1:47101".parse::<SocketAddr>()?),
+        address: Printed(address),
         open: true,
-        started: Printed(Timestamp::from_second(1_795_689_674)?),
+        started: Printed(started),
         uptime_seconds: 3_725,
         store: Some("/tmp/a \"<b>&.db"),
         sealed: true,
-        handlers: vec![in alloc; handler(alloc)?]?,
-        clients: vec![in alloc; client]?,
+        handlers: vec![in alloc; handler(rt, alloc)].expect(rt, "no memory"),
+        clients: vec![in alloc; client].expect(rt, "no memory"),
         history_entries: 7,
         last_unknown_client: Some(99),
         counts: counts(),
-    })
+    }
 }
 
 #[test]
-fn the_shape_of_the_json(rt: HostRuntime) -> Result<(), Fail> {
-    let view = view(rt.alloc())?;
-    let json = print_json(rt.alloc(), &view).ok_or("no memory")?;
-    assert_eq!(rt; json.as_slice(), JSON.as_bytes());
-    Ok(())
+fn the_shape_of_the_json(rt: HostRuntime) {
+    let view = view(&rt, rt.alloc());
+    let json = print_json(rt.alloc(), &view).expect(&rt, "no memory");
+    are_equal(&rt, json.as_slice(), JSON.as_bytes());
 }
 
 #[test]
-fn the_page_answers_an_operator(rt: HostRuntime) -> Result<(), Fail> {
-    let view = view(rt.alloc())?;
+fn the_page_answers_an_operator(rt: HostRuntime) {
+    let view = view(&rt, rt.alloc());
     let mut page = Vec::new(rt.alloc());
-    print_page(&view, &mut page)?;
-    let page = String::from_utf8(page)?;
+    print_page(&view, &mut page).expect(&rt, "no memory");
+    let page = String::from_utf8(page).expect(&rt, "no text");
     for part in [
         "<h1>Node 1 <span class=\"mark good\">open</span></h1>",
         "up since 2026-11-26T10:41:14Z (1 h 2 min 5 s)",
@@ -212,15 +216,14 @@ fn the_page_answers_an_operator(rt: HostRuntime) -> Result<(), Fail> {
     assert!(rt;
         !page.contains("<script") && !page.contains("http://") && !page.contains("https://")
     );
-    Ok(())
 }
 
 #[test]
-fn the_lines_of_metrics(rt: HostRuntime) -> Result<(), Fail> {
-    let view = view(rt.alloc())?;
+fn the_lines_of_metrics(rt: HostRuntime) {
+    let view = view(&rt, rt.alloc());
     let mut text = Vec::new(rt.alloc());
-    print_metrics(&view, &mut text)?;
-    let text = String::from_utf8(text)?;
+    print_metrics(&view, &mut text).expect(&rt, "no memory");
+    let text = String::from_utf8(text).expect(&rt, "no text");
     for part in [
         "# TYPE scoop_node_info gauge\nscoop_node_info{node=\"1\"} 1\n",
         "# TYPE scoop_seal_refused_total counter\nscoop_seal_refused_total 4\n",
@@ -232,7 +235,6 @@ fn the_lines_of_metrics(rt: HostRuntime) -> Result<(), Fail> {
     ] {
         assert!(rt; text.contains(part), "{part}");
     }
-    Ok(())
 }
 
 #[test]
@@ -247,6 +249,6 @@ fn the_pages_of_requests(rt: HostRuntime) {
         (false, "/", Page::Refused),
     ];
     for (reads, path, page) in cases {
-        assert_eq!(rt; page_of(reads, path), page);
+        are_equal(&rt, page_of(reads, path), page);
     }
 }

@@ -1,6 +1,7 @@
 //! Tests of the watchers: what passes through them, and what they count.
 
 use super::{heard, state, watch};
+use crate::tests::are_equal;
 use scoop_admission::Strangers;
 use scoop_handler::{HandlerState, Note, Reason};
 use scoop_keeper::{FailingKeeper, Keeper, KeeperError, MemoryKeeper};
@@ -16,38 +17,37 @@ use std::alloc::Global;
 use std::io::Write;
 use std::process::Abort;
 use std::sync::Wait;
-use std::test::Fail;
 
 const HANDLER: HandlerId = HandlerId(1);
 
 // The events of the list as they are printed, each with a semicolon after it.
-fn told(alloc: Global, events: &EventList) -> Result<String, Fail> {
+fn told(rt: &impl Abort, alloc: Global, events: &EventList) -> String {
     let mut told = String::new(alloc);
     for place in 0..MAX_EVENTS {
         if let Some(event) = events.get(place) {
-            told.push_str(&format!(in alloc; "{event};")?)?;
+            let event = format!(in alloc; "{event};").expect(rt, "no memory");
+            told.push_str(&event).expect(rt, "no memory");
         }
     }
-    Ok(told)
+    told
 }
 
-// Whether the watch shows this state of the handler. These functions borrow what a test owns, so that no early return has to
-// drop it.
-fn shows<R: Wait>(rt: &R, watch: &Watch, state: &HandlerState) -> Result<bool, Fail> {
-    match watch.state(rt, HANDLER)? {
-        Some(shown) => Ok(shown.same(state)),
-        None => Ok(false),
+// Whether the watch shows this state of the handler.
+fn shows<R: Wait>(rt: &R, watch: &Watch, state: &HandlerState) -> bool {
+    match watch.state(rt, HANDLER) {
+        Ok(Some(shown)) => shown.same(state),
+        Ok(None) | Err(_) => false,
     }
 }
 
-fn shows_nothing<R: Wait>(rt: &R, watch: &Watch, handler: HandlerId) -> Result<bool, Fail> {
-    Ok(watch.state(rt, handler)?.is_none())
+fn shows_nothing<R: Wait>(rt: &R, watch: &Watch, handler: HandlerId) -> bool {
+    matches!(watch.state(rt, handler), Ok(None))
 }
 
-fn keeps(keeper: &mut MemoryKeeper, state: &HandlerState) -> Result<bool, Fail> {
-    match keeper.load_handler(HANDLER)? {
-        Some(kept) => Ok(kept.same(state)),
-        None => Ok(false),
+fn keeps(keeper: &mut MemoryKeeper, state: &HandlerState) -> bool {
+    match keeper.load_handler(HANDLER) {
+        Ok(Some(kept)) => kept.same(state),
+        Ok(None) | Err(_) => false,
     }
 }
 
@@ -57,24 +57,22 @@ fn puts_both<R: Wait + Abort>(
     keeper: &mut WatchedKeeper<'_, MemoryKeeper, R>,
     first: &HandlerState,
     second: &HandlerState,
-) -> Result<(), Fail> {
-    assert!(rt; shows_nothing(rt, watch, HANDLER)?);
-    keeper.put_handler(first)?;
-    keeper.put_handler(second)?;
-    assert!(rt; shows(rt, watch, second)?);
-    assert_eq!(rt; watch.tally(rt).puts, 2);
-    Ok(())
+) {
+    assert!(rt; shows_nothing(rt, watch, HANDLER));
+    keeper.put_handler(first).expect(rt, "refused");
+    keeper.put_handler(second).expect(rt, "refused");
+    assert!(rt; shows(rt, watch, second));
+    are_equal(rt, watch.tally(rt).puts, 2);
 }
 
 #[test]
-fn a_put_is_passed_on_and_shown(rt: HostRuntime) -> Result<(), Fail> {
+fn a_put_is_passed_on_and_shown(rt: HostRuntime) {
     let watch = watch(rt.alloc(), LogLevel::Off);
-    let first = state(rt.alloc(), &[5])?;
-    let second = state(rt.alloc(), &[6])?;
+    let first = state(&rt, rt.alloc(), &[5]);
+    let second = state(&rt, rt.alloc(), &[6]);
     let mut keeper = WatchedKeeper::new(MemoryKeeper::new(rt.alloc()), &rt, &watch);
-    puts_both(&rt, &watch, &mut keeper, &first, &second)?;
-    assert!(rt; keeps(&mut keeper.into_inner(), &second)?);
-    Ok(())
+    puts_both(&rt, &watch, &mut keeper, &first, &second);
+    assert!(rt; keeps(&mut keeper.into_inner(), &second));
 }
 
 fn loads<R: Wait + Abort>(
@@ -82,130 +80,135 @@ fn loads<R: Wait + Abort>(
     watch: &Watch,
     keeper: &mut WatchedKeeper<'_, MemoryKeeper, R>,
     stored: &HandlerState,
-) -> Result<(), Fail> {
-    assert!(rt; keeper.load_handler(HandlerId(2))?.is_none());
-    assert!(rt; keeper.load_handler(HANDLER)?.is_some());
-    assert!(rt; shows(rt, watch, stored)?);
-    assert!(rt; shows_nothing(rt, watch, HandlerId(2))?);
-    assert_eq!(rt; keeper.next_incarnation(ClientId(7)), Ok(1));
-    Ok(())
+) {
+    assert!(rt; matches!(keeper.load_handler(HandlerId(2)), Ok(None)));
+    assert!(rt; matches!(keeper.load_handler(HANDLER), Ok(Some(_))));
+    assert!(rt; shows(rt, watch, stored));
+    assert!(rt; shows_nothing(rt, watch, HandlerId(2)));
+    are_equal(rt, keeper.next_incarnation(ClientId(7)), Ok(1));
 }
 
 #[test]
-fn a_loaded_state_is_shown(rt: HostRuntime) -> Result<(), Fail> {
+fn a_loaded_state_is_shown(rt: HostRuntime) {
     let watch = watch(rt.alloc(), LogLevel::Off);
-    let stored = state(rt.alloc(), &[5])?;
+    let stored = state(&rt, rt.alloc(), &[5]);
     let mut under = MemoryKeeper::new(rt.alloc());
-    under.put_handler(&stored)?;
+    under.put_handler(&stored).expect(&rt, "refused");
     let mut keeper = WatchedKeeper::new(under, &rt, &watch);
-    loads(&rt, &watch, &mut keeper, &stored)
+    loads(&rt, &watch, &mut keeper, &stored);
 }
 
 #[test]
-fn a_refused_put_is_counted_and_not_shown(rt: HostRuntime) -> Result<(), Fail> {
+fn a_refused_put_is_counted_and_not_shown(rt: HostRuntime) {
     let watch = watch(rt.alloc(), LogLevel::Warn);
     let failing = FailingKeeper::new(MemoryKeeper::new(rt.alloc()), 0);
     let mut keeper = WatchedKeeper::new(failing, &rt, &watch);
-    let state = state(rt.alloc(), &[5])?;
-    assert_eq!(rt; keeper.put_handler(&state), Err(KeeperError::Refused));
-    assert!(rt; watch.state(&rt, HANDLER)?.is_none());
+    let state = state(&rt, rt.alloc(), &[5]);
+    are_equal(&rt, keeper.put_handler(&state), Err(KeeperError::Refused));
+    assert!(rt; shows_nothing(&rt, &watch, HANDLER));
     let tally = watch.tally(&rt);
     assert!(rt; tally.puts == 0 && tally.refused_puts == 1);
     let events = watch.take_events(&rt, Level::Warn);
-    let told = told(rt.alloc(), &events)?;
-    assert_eq!(rt; told.as_str(), "store-refused handler=1 error=Refused;");
-    Ok(())
+    let told = told(&rt, rt.alloc(), &events);
+    are_equal(&rt, told.as_str(), "store-refused handler=1 error=Refused;");
 }
 
 #[test]
-fn a_greeting_tells_client_and_cut(rt: HostRuntime) -> Result<(), Fail> {
+fn a_greeting_tells_client_and_cut(rt: HostRuntime) {
     let watch = watch(rt.alloc(), LogLevel::Info);
     let mut keeper = WatchedKeeper::new(MemoryKeeper::new(rt.alloc()), &rt, &watch);
-    keeper.put_handler(&state(rt.alloc(), &[5])?)?;
+    keeper
+        .put_handler(&state(&rt, rt.alloc(), &[5]))
+        .expect(&rt, "refused");
     let hello = Message::Hello(HANDLER, ClientId(7), 2);
-    keeper.note_heard(&hello, &heard(Note::Greeted))?;
+    keeper
+        .note_heard(&hello, &heard(Note::Greeted))
+        .expect(&rt, "refused");
     // the same incarnation at another handler, which has no queue of the client
     let other = Message::Hello(HandlerId(2), ClientId(7), 2);
-    keeper.note_heard(&other, &heard(Note::Greeted))?;
+    keeper
+        .note_heard(&other, &heard(Note::Greeted))
+        .expect(&rt, "refused");
     let events = watch.take_events(&rt, Level::Info);
-    let told = told(rt.alloc(), &events)?;
-    assert_eq!(rt;
+    let told = told(&rt, rt.alloc(), &events);
+    are_equal(
+        &rt,
         told.as_str(),
-        "greeted client=7 incarnation=2 handler=1;cut block=7.1.3 handler=1;"
+        "greeted client=7 incarnation=2 handler=1;cut block=7.1.3 handler=1;",
     );
     let tally = watch.tally(&rt);
     assert!(rt;
         tally.notes[0] == 2 && tally.cuts == 1 && tally.heard() == 2 && tally.strangers == 0
     );
-    Ok(())
 }
 
 #[test]
-fn strangers_drops_and_runs_are_counted(rt: HostRuntime) -> Result<(), Fail> {
+fn strangers_drops_and_runs_are_counted(rt: HostRuntime) {
     let watch = watch(rt.alloc(), LogLevel::Warn);
     let mut keeper = WatchedKeeper::new(MemoryKeeper::new(rt.alloc()), &rt, &watch);
     let mut strangers = WatchedStrangers::new(&rt, &watch);
     strangers.meet(ClientId(99), HANDLER);
     strangers.meet(ClientId(99), HANDLER);
     let hello = Message::Hello(HANDLER, ClientId(7), 1);
-    keeper.note_heard(&hello, &heard(Note::Dropped(Reason::TooManyClients)))?;
-    keeper.note_heard(&hello, &heard(Note::Took(4)))?;
-    keeper.note_finished(HANDLER)?;
+    let dropped = heard(Note::Dropped(Reason::TooManyClients));
+    keeper.note_heard(&hello, &dropped).expect(&rt, "refused");
+    keeper
+        .note_heard(&hello, &heard(Note::Took(4)))
+        .expect(&rt, "refused");
+    keeper.note_finished(HANDLER).expect(&rt, "refused");
     let tally = watch.tally(&rt);
-    assert_eq!(rt; tally.last_stranger, Some((ClientId(99), HANDLER)));
+    are_equal(&rt, tally.last_stranger, Some((ClientId(99), HANDLER)));
     assert!(rt;
         tally.strangers == 2 && tally.dropped[2] == 1 && tally.notes[5] == 1 && tally.ran == 1
     );
     // two messages, a run that finds nothing, and an entry that left and came back
-    assert_eq!(rt; tally.history, 5);
+    are_equal(&rt, tally.history, 5);
     // a log of this level doesn't tell what was dropped
     assert!(rt; watch.take_events(&rt, Level::Debug).get(0).is_none());
-    Ok(())
 }
 
 #[test]
-fn datagrams_are_passed_on_and_counted(rt: HostRuntime) -> Result<(), Fail> {
+fn datagrams_are_passed_on_and_counted(rt: HostRuntime) {
     let watch = watch(rt.alloc(), LogLevel::Off);
-    let mut tape = TapeLink::new(rt.alloc(), 1)?;
-    tape.feed(b"forged")?;
+    let mut tape = TapeLink::new(rt.alloc(), 1).expect(&rt, "no tape");
+    tape.feed(b"forged").expect(&rt, "no memory");
     let sealed = SealedLink::new(tape, Key::new([5; 32]));
     let mut link = WatchedLink::new(sealed, &watch);
     let mut buffer = [0; BUFFER_LEN];
-    assert_eq!(rt; link.receive(&mut buffer), Ok(None));
+    are_equal(&rt, link.receive(&mut buffer), Ok(None));
     let client = Party::Client(ClientId(7));
     assert!(rt; link.send(client, b"reply").is_ok());
     // there was room for one
     assert!(rt; link.send(client, b"reply").is_err());
-    assert_eq!(rt; link.faults(), 1);
+    are_equal(&rt, link.faults(), 1);
     let tally = watch.link_tally();
     assert!(rt; tally.refused == 1 && tally.received == 0 && tally.sent == 1 && tally.faults == 1);
-    Ok(())
 }
 
 #[test]
-fn lines_of_the_output_tell_openings(rt: HostRuntime) -> Result<(), Fail> {
+fn lines_of_the_output_tell_openings(rt: HostRuntime) {
     let watch = watch(rt.alloc(), LogLevel::Info);
     let mut written = Vec::new(rt.alloc());
     let mut output = WatchedOutput::new(&mut written, &rt, &watch);
-    writeln!(output, "node {} at 127.0.0.1:1: handlers 1", 1)?;
+    writeln!(output, "node {} at 127.0.0.1:1: handlers 1", 1).expect(&rt, "not written");
     assert!(rt; !watch.tally(&rt).is_open);
-    output.flush()?;
+    output.flush().expect(&rt, "not written");
     assert!(rt; watch.tally(&rt).is_open);
-    writeln!(output, "node {} reopened", 1)?;
-    output.flush()?;
-    output.flush()?;
-    writeln!(output, "node {} closed", 1)?;
-    output.flush()?;
+    writeln!(output, "node {} reopened", 1).expect(&rt, "not written");
+    output.flush().expect(&rt, "not written");
+    output.flush().expect(&rt, "not written");
+    writeln!(output, "node {} closed", 1).expect(&rt, "not written");
+    output.flush().expect(&rt, "not written");
     let events = watch.take_events(&rt, Level::Info);
-    let told = told(rt.alloc(), &events)?;
-    assert_eq!(rt; told.as_str(), "opened;reopened;closed;");
+    let told = told(&rt, rt.alloc(), &events);
+    are_equal(&rt, told.as_str(), "opened;reopened;closed;");
     let tally = watch.tally(&rt);
     assert!(rt; !tally.is_open && tally.reopened == 1);
-    assert_eq!(rt;
+    are_equal(
+        &rt,
         written.as_slice(),
-        b"node 1 at 127.0.0.1:1: handlers 1\nnode 1 reopened\nnode 1 closed\n".as_slice()
+        b"node 1 at 127.0.0.1:1: handlers 1\nnode 1 reopened\nnode 1 closed\n".as_slice(),
     );
-    Ok(())
 }
 
 #[test]

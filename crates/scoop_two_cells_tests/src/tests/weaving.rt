@@ -3,6 +3,7 @@
 mod diaries;
 mod over_udp;
 
+use crate::tests::are_equal;
 use scoop_message::{Block, ClientId, HandlerId, Message};
 use scoop_weaver::{NoWeave, Party, Traffic, weave};
 use std::alloc::Global;
@@ -61,7 +62,7 @@ fn party(alloc: Global, moves: &[Traffic]) -> Result<Party, Fail> {
 
 // The party did just these moves.
 fn did(rt: &impl Abort, party: &Party, moves: &[Traffic]) {
-    assert_eq!(rt; party.len(), moves.len());
+    are_equal(rt, party.len(), moves.len());
     for (place, expected) in moves.iter().enumerate() {
         let Some(found) = party.get(place) else {
             panic!(rt; "no move");
@@ -71,8 +72,8 @@ fn did(rt: &impl Abort, party: &Party, moves: &[Traffic]) {
 }
 
 fn same(rt: &impl Abort, left: Traffic, right: Traffic) {
-    assert_eq!(rt; left.heard, right.heard);
-    assert_eq!(rt; left.sent, right.sent);
+    are_equal(rt, left.heard, right.heard);
+    are_equal(rt, left.sent, right.sent);
 }
 
 // These moves of a node and of a client have no order, for this cause.
@@ -84,15 +85,19 @@ fn refused(
     cause: NoWeave,
 ) -> Result<(), Fail> {
     let parties = [party(alloc, node)?, party(alloc, client)?];
-    assert_eq!(rt; weave(alloc, &parties).map(|order| order.len()), Err(cause));
+    are_equal(
+        rt,
+        weave(alloc, &parties).map(|order| order.len()),
+        Err(cause),
+    );
     Ok(())
 }
 
 // The order is this one.
 fn is_order(rt: &impl Abort, order: &[(usize, Traffic)], expected: &[(usize, Traffic)]) {
-    assert_eq!(rt; order.len(), expected.len());
+    are_equal(rt, order.len(), expected.len());
     for (found, wanted) in order.iter().zip(expected.iter()) {
-        assert_eq!(rt; found.0, wanted.0);
+        are_equal(rt, found.0, wanted.0);
         same(rt, found.1, wanted.1);
     }
 }
@@ -104,7 +109,7 @@ fn a_greeting_has_one_order(rt: HostRuntime) -> Result<(), Fail> {
     let node = party(alloc, &[answers(GREETS, IS_WELCOME)])?;
     let client = party(alloc, &[sends(GREETS), hears(IS_WELCOME), sends(LOCKS)])?;
     let parties = [node, client];
-    let order = weave(alloc, &parties)?;
+    let order = weave(alloc, &parties).expect(&rt, "failed");
     // each move stands beside the place of its party
     let expected = [
         (1, sends(GREETS)),
@@ -150,7 +155,7 @@ fn a_message_may_be_heard_twice_and_late(rt: HostRuntime) -> Result<(), Fail> {
     let node = party(alloc, &node)?;
     let client = party(alloc, &[sends(GREETS), sends(LOCKS), hears(IS_WELCOME)])?;
     let parties = [node, client];
-    assert_eq!(rt; weave(alloc, &parties).map(|order| order.len()), Ok(6));
+    are_equal(&rt, weave(alloc, &parties).map(|order| order.len()), Ok(6));
     Ok(())
 }
 

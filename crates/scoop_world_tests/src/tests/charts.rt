@@ -1,5 +1,6 @@
 //! Sequence charts. A chart and its picture have one owner; the functions that fill and read them borrow them.
 
+use crate::tests::are_equal;
 use scoop_chart::{Chart, ChartError, MAX_ROWS};
 use scoop_handler::Note;
 use scoop_message::{Block, ClientId, HandlerId};
@@ -29,9 +30,9 @@ fn notes(chart: &mut Chart, row: &Row) -> Result<(), ChartError> {
 
 fn notes_all(rt: &impl Abort, chart: &mut Chart, rows: &[Row]) {
     for row in rows {
-        assert_eq!(rt; notes(chart, row), Ok(()));
+        are_equal(rt, notes(chart, row), Ok(()));
     }
-    assert_eq!(rt; chart.rows(), rows.len());
+    are_equal(rt, chart.rows(), rows.len());
 }
 
 pub(super) fn has_line(picture: &[u8], line: &[u8]) -> bool {
@@ -95,7 +96,7 @@ fn draws_greeting(rt: &impl Abort, alloc: Global) -> Result<(), ChartError> {
     chart.note(&Event::Tick(SEVEN, ONE), &sent, b"sent 1 Hello")?;
     let greeted = Ok(WorldNote::Handler(Note::Greeted, Some(2)));
     chart.note(&Event::Take(1), &greeted, b"Greeted sent 2")?;
-    assert_eq!(rt; chart.rows(), 2);
+    are_equal(rt, chart.rows(), 2);
     // once the run is over the chart is drawn
     let mut picture = Vec::new(alloc);
     assert!(rt; chart.draw(&mut picture).is_ok());
@@ -105,7 +106,7 @@ fn draws_greeting(rt: &impl Abort, alloc: Global) -> Result<(), ChartError> {
 
 #[test]
 fn a_chart_is_filled_and_drawn(rt: HostRuntime) {
-    assert_eq!(rt; draws_greeting(&rt, rt.alloc()), Ok(()));
+    are_equal(&rt, draws_greeting(&rt, rt.alloc()), Ok(()));
 }
 
 const BLOCK: Block = Block {
@@ -183,9 +184,9 @@ const SILENT: Row = (Event::Tick(SEVEN, ONE), Ok(WorldNote::Silent), b"silent");
 
 fn fills_up(rt: &impl Abort, chart: &mut Chart) {
     for _ in 0..MAX_ROWS {
-        assert_eq!(rt; notes(chart, &SILENT), Ok(()));
+        are_equal(rt, notes(chart, &SILENT), Ok(()));
     }
-    assert_eq!(rt; notes(chart, &SILENT), Err(ChartError::TooLong));
+    are_equal(rt, notes(chart, &SILENT), Err(ChartError::TooLong));
 }
 
 #[test]

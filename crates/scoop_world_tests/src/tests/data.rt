@@ -1,5 +1,6 @@
 //! Events, notes and refusals, and the printed forms of refusals.
 
+use crate::tests::{are_equal, are_equal_at};
 use scoop_client::{ClientError, ClientNote};
 use scoop_handler::{Note, Ran, Reason};
 use scoop_message::{Answer, Args, Block, ClientId, Entry, HandlerId, Request};
@@ -32,7 +33,7 @@ fn list(count: usize) -> Result<HandlerList, TooManyHandlers> {
 
 fn has_listed(rt: &impl Abort, count: usize) {
     match list(count) {
-        Ok(list) => assert_eq!(rt; list.as_slice(), &TEN[..count.min(10)]),
+        Ok(list) => are_equal(rt, list.as_slice(), &TEN[..count.min(10)]),
         Err(_) => panic!(rt; "no list of {count}"),
     }
 }
@@ -41,7 +42,7 @@ fn has_listed(rt: &impl Abort, count: usize) {
 fn a_list_names_nine_handlers(rt: HostRuntime) {
     has_listed(&rt, 9);
     has_listed(&rt, 0);
-    assert_eq!(rt; list(10), Err(TooManyHandlers));
+    are_equal(&rt, list(10), Err(TooManyHandlers));
     assert!(rt; list(9) != list(8));
 }
 
@@ -93,7 +94,7 @@ fn events_are_told_apart(rt: &impl Abort) {
     for i in 0..14 {
         for j in 0..14 {
             let is_same = same_event(&event(rt, i), &event(rt, j));
-            assert_eq!(rt; is_same, i == j, "events {i} and {j}");
+            are_equal_at(rt, is_same, i == j, (i, j));
         }
     }
 }
@@ -131,7 +132,7 @@ fn notes_are_told_apart(rt: &impl Abort) {
     for i in 0..14 {
         for j in 0..14 {
             let is_same = same_note(&note(rt, i), &note(rt, j));
-            assert_eq!(rt; is_same, i == j, "notes {i} and {j}");
+            are_equal_at(rt, is_same, i == j, (i, j));
         }
     }
 }
@@ -145,7 +146,7 @@ fn events_and_notes_are_told_apart(rt: HostRuntime) {
 /// The value is printed as this text.
 fn prints<T: Display>(rt: &impl Abort, alloc: Global, value: &T, text: &str) {
     match format!(in alloc; "{value}") {
-        Ok(printed) => assert_eq!(rt; printed.as_str(), text),
+        Ok(printed) => are_equal(rt, printed.as_str(), text),
         Err(_) => panic!(rt; "out of memory"),
     }
 }

@@ -2,6 +2,7 @@
 
 use super::settling::{left, next};
 use super::worlds::cells;
+use crate::tests::are_equal;
 use scoop_calm::Next;
 use scoop_keeper::MemoryKeeper;
 use scoop_message::{ClientId, HandlerId, Message};
@@ -22,7 +23,11 @@ fn events_are_given(rt: HostRuntime) -> Result<(), Fail> {
     assert!(rt; same_event(&reserve, &reserve));
     assert!(rt; !same_event(&reserve, &tick));
     // a command names nine handlers at most
-    assert_eq!(rt; HandlerList::of(&[HandlerId(1); 10]), Err(TooManyHandlers));
+    are_equal(
+        &rt,
+        HandlerList::of(&[HandlerId(1); 10]),
+        Err(TooManyHandlers),
+    );
     // a proof that calls a theorem has it: every world that is reached is safe
     scoop_model::theorems::reached_safe();
     // and over a whole list of events a block that opens was the holder from its grant on
@@ -82,16 +87,16 @@ fn runs_placed(
         Event::Take(1),
         Event::Take(2),
     ];
-    assert_eq!(rt; world.run(&greeting), Ok(3));
+    are_equal(rt, world.run(&greeting), Ok(3));
     let welcome = Message::Welcome(HandlerId(1), ClientId(7), 1);
-    assert_eq!(rt; world.sent(2).copied(), Some(welcome));
+    are_equal(rt, world.sent(2).copied(), Some(welcome));
     Ok(())
 }
 
 #[test]
 fn a_world_runs(rt: HostRuntime) {
     let placements = cells::placements(&rt, rt.alloc(), &[1]);
-    assert_eq!(rt; runs_placed(&rt, rt.alloc(), placements), Ok(()));
+    are_equal(&rt, runs_placed(&rt, rt.alloc(), placements), Ok(()));
 }
 
 /// The client greets the handler, and hears the reply.
@@ -105,23 +110,23 @@ const GREETING: [Event; 3] = [
 fn settles(rt: &impl Abort, world: &mut World<Table>) -> Result<(), TooManyHandlers> {
     // a client that joins is to greet the handler (`next` and `left` are `next_of` and `left_of` where memory isn't refused)
     let asks = Next::Ask(ClientId(7), HandlerId(1));
-    assert_eq!(rt; next(world), Ok(Some(asks)));
-    assert_eq!(rt; left(world), Ok(4));
+    are_equal(rt, next(world), Ok(Some(asks)));
+    are_equal(rt, left(world), Ok(4));
     // it does, and hears the reply: then the world is calm
-    assert_eq!(rt; world.run(&GREETING), Ok(3));
-    assert_eq!(rt; next(world), Ok(None));
-    assert_eq!(rt; left(world), Ok(0));
+    are_equal(rt, world.run(&GREETING), Ok(3));
+    are_equal(rt, next(world), Ok(None));
+    are_equal(rt, left(world), Ok(0));
     // a client that is to reserve the handler asks it for the lock
     let one = HandlerList::of(&[HandlerId(1)])?;
     let reserve = Event::Do(ClientId(7), Command::Reserve(one));
-    assert_eq!(rt; world.step(reserve), Ok(WorldNote::Done));
-    assert_eq!(rt; next(world), Ok(Some(asks)));
-    assert_eq!(rt; left(world), Ok(11));
+    are_equal(rt, world.step(reserve), Ok(WorldNote::Done));
+    are_equal(rt, next(world), Ok(Some(asks)));
+    are_equal(rt, left(world), Ok(11));
     Ok(())
 }
 
 #[test]
 fn a_new_world_settles(rt: HostRuntime) {
     let mut world = cells::world(&rt, rt.alloc(), (&[1], &[7], 0));
-    assert_eq!(rt; settles(&rt, &mut world), Ok(()));
+    are_equal(&rt, settles(&rt, &mut world), Ok(()));
 }

@@ -1,6 +1,7 @@
 //! The example of a transfer.
 
 use super::charts::has_line;
+use crate::tests::are_equal;
 use scoop_message::Answer;
 use std::alloc::Global;
 use std::process::Abort;
@@ -11,8 +12,8 @@ fn pays_and_draws(rt: &impl Abort, alloc: Global) -> Result<(), TransferError> {
     // one account holds 100, the other nothing, and the client has greeted both
     let mut transfer = Transfer::open(alloc, 100, 0)?;
     // the paid amount is the second account's new balance, which the query returns
-    assert_eq!(rt; transfer.pay(30), Ok(Some(Answer::Value(30))));
-    assert_eq!(rt; transfer.pay(20), Ok(Some(Answer::Value(50))));
+    are_equal(rt, transfer.pay(30), Ok(Some(Answer::Value(30))));
+    are_equal(rt, transfer.pay(20), Ok(Some(Answer::Value(50))));
     // the chart of all events, from the first greeting on
     let mut picture = Vec::new(alloc);
     assert!(rt; transfer.draw(&mut picture).is_ok());

@@ -13,6 +13,7 @@ mod runs;
 mod settling;
 
 use super::settling::settles;
+use crate::tests::are_equal;
 use acts::{Row, plays};
 use cells::{Parties, world};
 use looks::{Look, reads};
@@ -41,9 +42,9 @@ fn ran(world: &mut World<Table>, events: &[Event]) -> Result<usize, (usize, Worl
 fn takes(rt: &impl Abort, world: &mut World<Table>, step: Step) {
     match step {
         Step::Plays(rows) => plays(rt, world, rows),
-        Step::Runs(events, end) => assert_eq!(rt; ran(world, events), end),
+        Step::Runs(events, end) => are_equal(rt, ran(world, events), end),
         Step::Reads(looks) => reads(rt, world, looks),
-        Step::Settles => assert_eq!(rt; settles(world), Ok(())),
+        Step::Settles => are_equal(rt, settles(world), Ok(())),
     }
 }
 

@@ -4,6 +4,7 @@ use super::{
     Act, Does, ELSEWHERE, HERE, Row, Said, answers, block, dropped, fresh, hears, opened, rests,
     runs,
 };
+use crate::tests::are_equal;
 use scoop_handler::{Handler, Note, Reason};
 use scoop_message::{Answer, Block, ClientId, Message};
 use scoop_object::Table;
@@ -42,7 +43,7 @@ fn messages_for_others(rt: HostRuntime) {
 }
 
 fn holds(rt: &impl Abort, handler: &Handler<Table>, holder: Block) {
-    assert_eq!(rt; handler.holder(), Some(holder));
+    are_equal(rt, handler.holder(), Some(holder));
 }
 
 const LOCKS: [Row; 18] = [
@@ -249,7 +250,7 @@ fn a_client_starts_anew(rt: HostRuntime) {
 /// The value is printed as this text.
 fn prints<T: Display>(rt: &impl Abort, alloc: Global, value: &T, text: &str) -> Result<(), Fail> {
     let printed = format!(in alloc; "{value}")?;
-    assert_eq!(rt; printed.as_str(), text);
+    are_equal(rt, printed.as_str(), text);
     Ok(())
 }
 

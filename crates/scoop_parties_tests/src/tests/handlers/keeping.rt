@@ -4,6 +4,7 @@ use super::{
     Act, Does, ELSEWHERE, HERE, Row, Said, block, entry, fresh, has_state, has_word, hears,
     hears_one, object, opened, restarted, runs, taken, with_state,
 };
+use crate::tests::{are_equal, are_equal_at};
 use scoop_handler::{Handler, HandlerState, Mark, Reason, Stage, StateError};
 use scoop_message::{Answer, Block, HandlerId, Words};
 use scoop_object::{Behaviour, Class, Table};
@@ -27,7 +28,7 @@ fn same(left: &Handler<Table>, right: &Handler<Table>) -> Option<bool> {
 }
 
 fn are_same(rt: &impl Abort, left: &Handler<Table>, right: &Handler<Table>, wanted: bool) {
-    assert_eq!(rt; same(left, right), Some(wanted));
+    are_equal(rt, same(left, right), Some(wanted));
 }
 
 fn takes<B: Behaviour>(handler: &mut Handler<B>, state: HandlerState) -> bool {
@@ -41,7 +42,7 @@ fn reset(handler: &mut Handler<Table>, other: &Handler<Table>) -> Option<bool> {
 }
 
 fn resets(rt: &impl Abort, handler: &mut Handler<Table>, other: &Handler<Table>, wanted: bool) {
-    assert_eq!(rt; reset(handler, other), Some(wanted));
+    are_equal(rt, reset(handler, other), Some(wanted));
 }
 
 fn takes_back<B: Behaviour>(handler: &mut Handler<B>, object: B, state: HandlerState) -> bool {
@@ -61,7 +62,7 @@ fn recalls(
     other: &Handler<Table>,
     wanted: bool,
 ) {
-    assert_eq!(rt; recall(handler, object, other), Some(wanted));
+    are_equal(rt, recall(handler, object, other), Some(wanted));
 }
 
 #[test]
@@ -134,7 +135,7 @@ fn takes_made(
     let Some(state) = state else {
         panic!(rt; "no state");
     };
-    assert_eq!(rt; takes(handler, state), wanted);
+    are_equal(rt, takes(handler, state), wanted);
 }
 
 #[test]
@@ -155,7 +156,7 @@ fn makes_none(alloc: Global) -> Option<bool> {
 
 #[test]
 fn an_object_of_another_class(rt: HostRuntime) {
-    assert_eq!(rt; makes_none(rt.alloc()), Some(false));
+    are_equal(&rt, makes_none(rt.alloc()), Some(false));
 }
 
 // Whether a handler starts with a state of these words.
@@ -166,8 +167,8 @@ fn starts(alloc: Global, words: &[u64]) -> Option<bool> {
 
 #[test]
 fn words_that_fit_no_object(rt: HostRuntime) {
-    assert_eq!(rt; starts(rt.alloc(), &[1]), Some(true));
-    assert_eq!(rt; starts(rt.alloc(), &[1, 2]), Some(false));
+    are_equal(&rt, starts(rt.alloc(), &[1]), Some(true));
+    are_equal(&rt, starts(rt.alloc(), &[1, 2]), Some(false));
 }
 
 /// A mark of client 7's first block or of client 8's.
@@ -289,7 +290,7 @@ fn refusal(alloc: Global, parts: Parts) -> Option<StateError> {
 
 fn is_bad(rt: &impl Abort, alloc: Global, row: usize, parts: Parts) {
     let refused = refusal(alloc, parts);
-    assert_eq!(rt; refused, Some(StateError::BadState), "row {row}");
+    are_equal_at(rt, refused, Some(StateError::BadState), row);
 }
 
 const BAD: [Parts; 15] = [
@@ -313,7 +314,7 @@ const BAD: [Parts; 15] = [
 #[test]
 fn impossible_states_are_refused(rt: HostRuntime) {
     let good = (Some(8), Marked::Open, Marked::Held, Queued::Open);
-    assert_eq!(rt; refusal(rt.alloc(), good), None);
+    are_equal(&rt, refusal(rt.alloc(), good), None);
     for (row, parts) in BAD.iter().enumerate() {
         is_bad(&rt, rt.alloc(), row, *parts);
     }
@@ -350,8 +351,12 @@ fn marks_refusal(alloc: Global, count: u32) -> Option<StateError> {
 #[test]
 fn a_state_has_64_marks(rt: HostRuntime) {
     let last = fresh_mark(block(63, 1, 0), Stage::Shut);
-    assert_eq!(rt; counted(rt.alloc(), 64), Some((64, Some(last))));
-    assert_eq!(rt; marks_refusal(rt.alloc(), 65), Some(StateError::BadState));
+    are_equal(&rt, counted(rt.alloc(), 64), Some((64, Some(last))));
+    are_equal(
+        &rt,
+        marks_refusal(rt.alloc(), 65),
+        Some(StateError::BadState),
+    );
 }
 
 // A state that has received all numbers of a block except the last.

@@ -4,6 +4,7 @@ use super::{
     Act, Does, HERE, Said, block, fresh, has_state, has_word, hears, hears_one, opened, opens, ran,
     restarted, rests, runs, taken,
 };
+use crate::tests::are_equal;
 use scoop_handler::{AfterError, Done, Handler, HandlerState, Job, Reason, StrangerJob};
 use scoop_message::Answer;
 use scoop_message::limits::{MAX_MARKS, MAX_QUEUES};
@@ -29,7 +30,7 @@ fn has_job<B: Behaviour>(handler: &mut Handler<B>) -> bool {
 }
 
 fn runs_nothing(rt: &impl Abort, handler: &mut Handler<Table>) {
-    assert_eq!(rt; ran(handler), None);
+    are_equal(rt, ran(handler), None);
     assert!(rt; !has_job(handler));
 }
 
@@ -60,7 +61,7 @@ fn greets_as_many_clients_as_there_may_be(rt: HostRuntime) {
         (Act::Hello, 63, 1, 0, Said::Known),
     ];
     hears(&rt, &mut handler, &rows);
-    assert_eq!(rt; MAX_MARKS, 64);
+    are_equal(&rt, MAX_MARKS, 64);
 }
 
 /// There is room for a private queue again once one has run to its End.
@@ -80,7 +81,7 @@ fn opens_as_many_queues_as_there_may_be(rt: HostRuntime) {
     hears(&rt, &mut handler, &rows);
     runs(&rt, &mut handler, 7, &[(1, None)]);
     hears_one(&rt, &mut handler, (Act::Open, 7, 1, 65, Said::Opened));
-    assert_eq!(rt; MAX_QUEUES, 64);
+    are_equal(&rt, MAX_QUEUES, 64);
 }
 
 // The handler returns a job that is a stranger to it.
@@ -95,9 +96,10 @@ fn is_strange(rt: &impl Abort, handler: &mut Handler<Table>, done: Done<Table>) 
     let Some(done) = stranger(handler, done) else {
         panic!(rt; "took a stranger");
     };
-    assert_eq!(rt;
+    are_equal(
+        rt,
         handler.after_finish(&done).err(),
-        Some(AfterError::Stranger)
+        Some(AfterError::Stranger),
     );
 }
 
@@ -114,7 +116,7 @@ fn finished<B: Behaviour>(
 
 fn finishes(rt: &impl Abort, handler: &mut Handler<Table>, done: Done<Table>, value: u64) {
     let answer = Some(Answer::Value(value));
-    assert_eq!(rt; finished(handler, done), Some((1, answer)));
+    are_equal(rt, finished(handler, done), Some((1, answer)));
 }
 
 // The handler's next job, which has run.
@@ -147,10 +149,9 @@ fn work_aside<R: Threads + Sync>(rt: &R, job: Job<Table>) -> Done<Table> {
 
 // The job is of client 7's first entry.
 fn is_first(rt: &impl Abort, job: &Job<Table>) {
-    assert_eq!(rt;
-        (job.handler(), job.block(), job.number()),
-        (HERE, block(7, 1, 1), 1)
-    );
+    are_equal(rt, job.handler(), HERE);
+    are_equal(rt, job.block(), block(7, 1, 1));
+    are_equal(rt, job.number(), 1);
 }
 
 // The handler's job, which has run in another thread.
@@ -172,7 +173,7 @@ fn finishes_as_told(rt: &impl Abort, handler: &mut Handler<Table>, done: Done<Ta
         panic!(rt; "no state is told");
     };
     finishes(rt, handler, done, 1);
-    assert_eq!(rt; has_state(handler, &told), Some(true));
+    are_equal(rt, has_state(handler, &told), Some(true));
 }
 
 /// The handler hears while its object is away.

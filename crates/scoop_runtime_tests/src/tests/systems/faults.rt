@@ -1,5 +1,6 @@
 //! The first fault of a text.
 
+use crate::tests::are_equal;
 use scoop_system::{System, SystemError};
 use std::alloc::Global;
 use std::test::Fail;
@@ -244,7 +245,7 @@ fn the_first_fault_is_told(rt: HostRuntime) -> Result<(), Fail> {
     let alloc = rt.alloc();
     for (text, wanted) in FAULTS.iter().chain(&NO_TOML) {
         let told = told(alloc, text)?;
-        assert_eq!(rt; told.as_str(), *wanted);
+        are_equal(&rt, told.as_str(), *wanted);
     }
     Ok(())
 }
@@ -254,7 +255,7 @@ fn what_is_not_toml_is_told_with_its_place(rt: HostRuntime) -> Result<(), Fail> 
     let Err(SystemError::Toml(fault)) = System::read(rt.alloc(), "[[node]]\nnumber = = 1\n") else {
         return Err("no fault of TOML".into());
     };
-    assert_eq!(rt; fault.line, 2);
-    assert_eq!(rt; fault.column, 10);
+    are_equal(&rt, fault.line, 2);
+    are_equal(&rt, fault.column, 10);
     Ok(())
 }

@@ -7,12 +7,14 @@ use std::test::Fail;
 fn a_formula_means_its_list(rt: HostRuntime) -> Result<(), Fail> {
     let alloc = rt.alloc();
     let text = SYSTEM
-        .replace(alloc, "[\"a0\", \"w0\"]", "\"a0 <= w0\"")?
+        .replace(alloc, "[\"a0\", \"w0\"]", "\"a0 <= w0\"")
+        .expect(&rt, "failed")
         .replace(
             alloc,
             "[[\"w0\", \"w0\", \"0\", \"a0\"], [\"w1\", \"w1\", \"a0\", \"0\"]]",
             "[\"w0 = w0 - a0\", \"w1 = w1 + a0\"]",
-        )?;
+        )
+        .expect(&rt, "failed");
     assert!(rt; text.contains("w1 = w1 + a0"));
     let output = printed(alloc, &text)?;
     assert!(rt; output.as_slice() == PRINTED.as_bytes());

@@ -1,6 +1,7 @@
 //! Lines of a client.
 
 use super::SYSTEM;
+use crate::tests::are_equal;
 use scoop_message::{Args, HandlerId, Request};
 use scoop_system::{
     ClientLine, NamedCondition, NamedConditions, NamedHandlers, System, Test, TooManyNamed,
@@ -55,71 +56,88 @@ fn told(alloc: Global, system: &System, line: &[u8]) -> Result<String, Fail> {
     }
 }
 
-fn asks_a_client(rt: &impl Abort, system: &System) -> Result<(), Fail> {
-    let handlers = NamedHandlers::of(&[HandlerId(3), HandlerId(1)])?;
-    let reserve = read_line(system, b"reserve 3  1\r")?;
-    assert_eq!(rt; reserve, ClientLine::Reserve(handlers));
+fn asks_a_client(rt: &impl Abort, system: &System) {
+    let handlers = NamedHandlers::of(&[HandlerId(3), HandlerId(1)]).expect(rt, "failed");
+    let reserve = read_line(system, b"reserve 3  1\r").expect(rt, "failed");
+    are_equal(rt, reserve, ClientLine::Reserve(handlers));
     let request = Request {
         op: 1,
-        args: Args::of(&[5])?,
+        args: Args::of(&[5]).expect(rt, "failed"),
     };
-    let call = read_line(system, b" call 1 order 5 ")?;
-    assert_eq!(rt; call, ClientLine::Call(HandlerId(1), request));
-    let query = read_line(system, b"query 2 1 5")?;
-    assert_eq!(rt; query, ClientLine::Query(HandlerId(2), request));
-    assert_eq!(rt; read_line(system, b"end")?, ClientLine::End);
+    let call = read_line(system, b" call 1 order 5 ").expect(rt, "failed");
+    are_equal(rt, call, ClientLine::Call(HandlerId(1), request));
+    let query = read_line(system, b"query 2 1 5").expect(rt, "failed");
+    are_equal(rt, query, ClientLine::Query(HandlerId(2), request));
+    are_equal(
+        rt,
+        read_line(system, b"end").expect(rt, "failed"),
+        ClientLine::End,
+    );
     for blank in [&b""[..], b"\r", b"  ", b"# call 1"] {
-        assert_eq!(rt; read_line(system, blank)?, ClientLine::Blank);
+        are_equal(
+            rt,
+            read_line(system, blank).expect(rt, "failed"),
+            ClientLine::Blank,
+        );
     }
-    Ok(())
 }
 
 #[test]
-fn lines_ask_a_client(rt: HostRuntime) -> Result<(), Fail> {
-    let system = System::read(rt.alloc(), SYSTEM)?;
-    asks_a_client(&rt, &system)
+fn lines_ask_a_client(rt: HostRuntime) {
+    let system = System::read(rt.alloc(), SYSTEM).expect(&rt, "failed");
+    asks_a_client(&rt, &system);
 }
 
-fn waits_for_a_balance(rt: &impl Abort, system: &System) -> Result<(), Fail> {
-    let line = read_line(system, b"reserve 3 1 when 3 balance least 40 tries 9")?;
+fn waits_for_a_balance(rt: &impl Abort, system: &System) {
+    let line = read_line(system, b"reserve 3 1 when 3 balance least 40 tries 9").expect(
+        rt, "failed",
+    );
     let request = Request {
         op: 3,
-        args: Args::of(&[])?,
+        args: Args::of(&[]).expect(rt, "failed"),
     };
     let wanted = ClientLine::ReserveWhen {
-        handlers: NamedHandlers::of(&[HandlerId(3), HandlerId(1)])?,
+        handlers: NamedHandlers::of(&[HandlerId(3), HandlerId(1)]).expect(rt, "failed"),
         conditions: NamedConditions::of(&[NamedCondition {
             asked: HandlerId(3),
             request,
             test: Test::Least(40),
-        }])?,
+        }])
+        .expect(rt, "failed"),
         tries: 9,
     };
-    assert_eq!(rt; line, wanted);
-    Ok(())
+    are_equal(rt, line, wanted);
 }
 
 #[test]
-fn a_condition_stands_after_when(rt: HostRuntime) -> Result<(), Fail> {
-    let system = System::read(rt.alloc(), SYSTEM)?;
-    waits_for_a_balance(&rt, &system)
+fn a_condition_stands_after_when(rt: HostRuntime) {
+    let system = System::read(rt.alloc(), SYSTEM).expect(&rt, "failed");
+    waits_for_a_balance(&rt, &system);
 }
 
 #[test]
 fn each_fault_of_a_line(rt: HostRuntime) -> Result<(), Fail> {
-    let system = System::read(rt.alloc(), SYSTEM)?;
+    let system = System::read(rt.alloc(), SYSTEM).expect(&rt, "failed");
     for (line, fault) in &FAULTS {
-        assert_eq!(rt; told(rt.alloc(), &system, line)?.as_str(), *fault);
+        are_equal(&rt, told(rt.alloc(), &system, line)?.as_str(), *fault);
     }
     Ok(())
 }
 
 #[test]
 fn more_handlers_than_a_system_has_are_too_many(rt: HostRuntime) -> Result<(), Fail> {
-    assert_eq!(rt; NamedHandlers::of(&[HandlerId(1); 65]), Err(TooManyNamed));
-    assert_eq!(rt;
-        NamedHandlers::of(&[HandlerId(1); 64])?.as_slice().len(),
-        64
+    are_equal(
+        &rt,
+        NamedHandlers::of(&[HandlerId(1); 65]),
+        Err(TooManyNamed),
+    );
+    are_equal(
+        &rt,
+        NamedHandlers::of(&[HandlerId(1); 64])
+            .expect(&rt, "failed")
+            .as_slice()
+            .len(),
+        64,
     );
     Ok(())
 }

@@ -1,6 +1,7 @@
 //! Names of handlers, conditions of lines, and status addresses.
 
 use super::printed;
+use crate::tests::are_equal;
 use scoop_message::{Args, HandlerId, Request};
 use scoop_system::{
     ClientLine, LineFaultIn, NamedCondition, NamedConditions, NamedHandlers, System, Test,
@@ -31,11 +32,11 @@ node 1 127.0.0.1:1 status 127.0.0.1:2
     Ok(())
 }
 
-fn has_names(rt: &impl Abort, system: &System) -> Result<(), Fail> {
-    assert_eq!(rt; system.handler_by_name(b"till"), Some(HandlerId(1)));
-    assert_eq!(rt; system.handler_by_name(b"1"), None);
-    let node = system.node(1).ok_or("node 1")?;
-    assert_eq!(rt; node.status.ok_or("no status")?.port(), 2);
+fn has_names(rt: &impl Abort, system: &System) {
+    are_equal(rt, system.handler_by_name(b"till"), Some(HandlerId(1)));
+    are_equal(rt, system.handler_by_name(b"1"), None);
+    let node = system.node(1).expect(rt, "node 1");
+    are_equal(rt, node.status.expect(rt, "no status").port(), 2);
     for (named, numbered) in [
         (&b"reserve 2 till"[..], &b"reserve 2 1"[..]),
         (b"call till deposit 4", b"call 1 1 4"),
@@ -45,16 +46,15 @@ fn has_names(rt: &impl Abort, system: &System) -> Result<(), Fail> {
             b"reserve 1 when 1 3 is 5 tries 1",
         ),
     ] {
-        let line = read_line(system, named)?;
-        assert_eq!(rt; line, read_line(system, numbered)?);
+        let line = read_line(system, named).expect(rt, "failed");
+        are_equal(rt, line, read_line(system, numbered).expect(rt, "failed"));
     }
-    Ok(())
 }
 
 #[test]
-fn a_name_stands_for_its_handler(rt: HostRuntime) -> Result<(), Fail> {
-    let system = System::read(rt.alloc(), SYSTEM)?;
-    has_names(&rt, &system)
+fn a_name_stands_for_its_handler(rt: HostRuntime) {
+    let system = System::read(rt.alloc(), SYSTEM).expect(&rt, "failed");
+    has_names(&rt, &system);
 }
 
 fn condition(asked: u32, op: u16, test: Test) -> Result<NamedCondition, Fail> {
@@ -74,27 +74,34 @@ fn has_conditions(rt: &impl Abort, system: &System) -> Result<(), Fail> {
         condition(1, 3, Test::Is(5))?,
     ];
     let wanted = ClientLine::ReserveWhen {
-        handlers: NamedHandlers::of(&[HandlerId(1), HandlerId(2)])?,
-        conditions: NamedConditions::of(&conditions)?,
+        handlers: NamedHandlers::of(&[HandlerId(1), HandlerId(2)]).expect(rt, "failed"),
+        conditions: NamedConditions::of(&conditions).expect(rt, "failed"),
         tries: 7,
     };
-    assert_eq!(rt; read_line(system, line)?, wanted);
+    are_equal(rt, read_line(system, line).expect(rt, "failed"), wanted);
     Ok(())
 }
 
 #[test]
 fn a_line_has_several_conditions(rt: HostRuntime) -> Result<(), Fail> {
-    let system = System::read(rt.alloc(), SYSTEM)?;
+    let system = System::read(rt.alloc(), SYSTEM).expect(&rt, "failed");
     has_conditions(&rt, &system)?;
     let nine = [condition(1, 3, Test::Is(5))?; 9];
-    assert_eq!(rt; NamedConditions::of(&nine), Err(TooManyConditions));
-    assert_eq!(rt; NamedConditions::of(&nine[..8])?.as_slice().len(), 8);
+    are_equal(&rt, NamedConditions::of(&nine), Err(TooManyConditions));
+    are_equal(
+        &rt,
+        NamedConditions::of(&nine[..8])
+            .expect(&rt, "failed")
+            .as_slice()
+            .len(),
+        8,
+    );
     Ok(())
 }
 
 #[test]
-fn single_words_are_lines(rt: HostRuntime) -> Result<(), Fail> {
-    let system = System::read(rt.alloc(), SYSTEM)?;
+fn single_words_are_lines(rt: HostRuntime) {
+    let system = System::read(rt.alloc(), SYSTEM).expect(&rt, "failed");
     for (line, wanted) in [
         (&b"giveup"[..], ClientLine::GiveUp),
         (b"help", ClientLine::Help),
@@ -102,7 +109,6 @@ fn single_words_are_lines(rt: HostRuntime) -> Result<(), Fail> {
     ] {
         assert!(rt; read_line(&system, line) == Ok(wanted));
     }
-    Ok(())
 }
 
 // The text of the fault of a line to this system.
@@ -145,9 +151,9 @@ const FAULTS: [(&[u8], &str); 9] = [
 
 #[test]
 fn a_fault_names_what_the_system_has(rt: HostRuntime) -> Result<(), Fail> {
-    let system = System::read(rt.alloc(), SYSTEM)?;
+    let system = System::read(rt.alloc(), SYSTEM).expect(&rt, "failed");
     for (line, wanted) in &FAULTS {
-        assert_eq!(rt; told(rt.alloc(), &system, line)?.as_str(), *wanted);
+        are_equal(&rt, told(rt.alloc(), &system, line)?.as_str(), *wanted);
     }
     Ok(())
 }

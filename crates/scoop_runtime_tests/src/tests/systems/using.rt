@@ -1,12 +1,12 @@
 //! Clients that use some of the handlers.
 
+use crate::tests::are_equal;
 use crate::tests::text_lines::TextLines;
 use scoop_message::{ClientId, HandlerId};
 use scoop_runtime::check_script;
 use scoop_system::System;
 use std::alloc::Global;
 use std::process::Abort;
-use std::test::Fail;
 
 // Two nodes with an account each. Client 7 uses the second one, client 8 both.
 const SYSTEM: &str = "\
@@ -34,46 +34,32 @@ scoop: line 4: this client doesn't use handler 1
 hint: name a handler that scoop check shows after the client, or add this one to the client's handlers in the system's file
 ";
 
-fn knows(
-    rt: &impl Abort,
-    alloc: Global,
-    system: &System,
-    number: u32,
-    wanted: &[HandlerId],
-) -> Result<(), Fail> {
-    let place = system.client(ClientId(number)).ok_or("no such client")?;
-    let known = system.known_to(alloc, place)?;
+fn knows(rt: &impl Abort, alloc: Global, system: &System, number: u32, wanted: &[HandlerId]) {
+    let place = system.client(ClientId(number)).expect(rt, "no such client");
+    let known = system.known_to(alloc, place).expect(rt, "failed");
     assert!(rt; known.as_slice() == wanted);
-    Ok(())
 }
 
 #[test]
-fn a_client_knows_the_handlers_that_it_uses(rt: HostRuntime) -> Result<(), Fail> {
-    let system = System::read(rt.alloc(), SYSTEM)?;
-    knows(&rt, rt.alloc(), &system, 7, ONE)?;
-    knows(&rt, rt.alloc(), &system, 8, BOTH)
+fn a_client_knows_the_handlers_that_it_uses(rt: HostRuntime) {
+    let system = System::read(rt.alloc(), SYSTEM).expect(&rt, "failed");
+    knows(&rt, rt.alloc(), &system, 7, ONE);
+    knows(&rt, rt.alloc(), &system, 8, BOTH);
 }
 
 // The script of this client has these faults.
-fn has_faults(
-    rt: &impl Abort,
-    alloc: Global,
-    system: &System,
-    number: u32,
-    faults: &str,
-) -> Result<(), Fail> {
+fn has_faults(rt: &impl Abort, alloc: Global, system: &System, number: u32, faults: &str) {
     let mut notes = Vec::new(alloc);
     let mut lines = TextLines::new(SCRIPT);
     let client = system.client(ClientId(number));
-    let is_right = check_script(system, client, &mut lines, &mut notes)?;
-    assert_eq!(rt; is_right, faults.is_empty());
+    let is_right = check_script(system, client, &mut lines, &mut notes).expect(rt, "failed");
+    are_equal(rt, is_right, faults.is_empty());
     assert!(rt; notes.as_slice() == faults.as_bytes());
-    Ok(())
 }
 
 #[test]
-fn a_script_names_handlers_that_its_client_uses(rt: HostRuntime) -> Result<(), Fail> {
-    let system = System::read(rt.alloc(), SYSTEM)?;
-    has_faults(&rt, rt.alloc(), &system, 7, FAULTS)?;
-    has_faults(&rt, rt.alloc(), &system, 8, "")
+fn a_script_names_handlers_that_its_client_uses(rt: HostRuntime) {
+    let system = System::read(rt.alloc(), SYSTEM).expect(&rt, "failed");
+    has_faults(&rt, rt.alloc(), &system, 7, FAULTS);
+    has_faults(&rt, rt.alloc(), &system, 8, "");
 }

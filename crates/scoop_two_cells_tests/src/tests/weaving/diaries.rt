@@ -10,7 +10,6 @@ use scoop_message::{ClientId, Message};
 use scoop_weaver::{Party, Traffic};
 use std::alloc::Global;
 use std::process::Abort;
-use std::test::Fail;
 
 // A client that knows the one handler.
 fn client(rt: &impl Abort, alloc: Global, inc: u32) -> Client {
@@ -35,26 +34,31 @@ fn greeting() -> Traffic {
 }
 
 #[test]
-fn a_history_is_what_was_heard_and_replied(rt: HostRuntime) -> Result<(), Fail> {
+fn a_history_is_what_was_heard_and_replied(rt: HostRuntime) {
     let alloc = rt.alloc();
     let history = [greeted(), (1, Event::Begin(ONE), Reply::Began(None))];
-    let mut party = Party::of_node(alloc, &history)?;
+    let mut party = Party::of_node(alloc, &history).expect(&rt, "failed");
     did(&rt, &party, &[greeting(), SILENT]);
-    let next = Party::of_node(alloc, &[greeted()])?;
-    party.begin_anew(&next)?;
+    let next = Party::of_node(alloc, &[greeted()]).expect(&rt, "failed");
+    party.begin_anew(&next).expect(&rt, "failed");
     did(&rt, &party, &[greeting(), SILENT, SILENT, greeting()]);
-    Ok(())
 }
 
 #[test]
-fn a_diary_is_what_was_due_and_heard(rt: HostRuntime) -> Result<(), Fail> {
+fn a_diary_is_what_was_due_and_heard(rt: HostRuntime) {
     let alloc = rt.alloc();
     let mut steps = Vec::new(alloc);
-    steps.push(Step::Turned(Received::Frame(Version::One, IS_WELCOME)))?;
-    steps.push(Step::Gave(Command::Reserve(HandlerList::of(&[ONE])?)))?;
-    steps.push(Step::Turned(Received::Nothing))?;
-    steps.push(Step::Broke(0))?;
-    let mut party = Party::of_client(alloc, client(&rt, alloc, 1), &steps)?;
+    steps
+        .push(Step::Turned(Received::Frame(Version::One, IS_WELCOME)))
+        .expect(&rt, "failed");
+    steps
+        .push(Step::Gave(Command::Reserve(HandlerList::of(&[ONE]).expect(&rt, "failed"))))
+        .expect(&rt, "failed");
+    steps
+        .push(Step::Turned(Received::Nothing))
+        .expect(&rt, "failed");
+    steps.push(Step::Broke(0)).expect(&rt, "failed");
+    let mut party = Party::of_client(alloc, client(&rt, alloc, 1), &steps).expect(&rt, "failed");
     let first = [
         sends(GREETS),
         hears(IS_WELCOME),
@@ -67,12 +71,12 @@ fn a_diary_is_what_was_due_and_heard(rt: HostRuntime) -> Result<(), Fail> {
         alloc,
         client(&rt, alloc, 2),
         &[Step::Turned(Received::Fault)],
-    )?;
-    party.begin_anew(&restarted)?;
+    )
+    .expect(&rt, "failed");
+    party.begin_anew(&restarted).expect(&rt, "failed");
     let again = sends(Message::Hello(ONE, ClientId(7), 2));
     let all = [
         first[0], first[1], first[2], first[3], first[4], SILENT, again,
     ];
     did(&rt, &party, &all);
-    Ok(())
 }

@@ -1,6 +1,6 @@
 //! Nodes and clients that run, over UDP.
 
-use crate::tests::{cells, plan};
+use crate::tests::{are_equal, cells, plan};
 use scoop_keeper::MemoryKeeper;
 use scoop_message::{ClientId, Message};
 use scoop_two_cells::show_parties;
@@ -82,12 +82,20 @@ fn what_ran_over_udp_has_an_order_until_a_message_is_altered(rt: HostRuntime) ->
     assert!(rt; parties.len() == 5);
     let moves = count(&parties);
     assert!(rt; moves > 100);
-    assert_eq!(rt; weave(alloc, &parties).map(|order| order.len()), Ok(moves));
+    are_equal(
+        &rt,
+        weave(alloc, &parties).map(|order| order.len()),
+        Ok(moves),
+    );
     let Some(place) = first_heard(&parties[0]) else {
         panic!(rt; "nothing heard");
     };
     parties[0] = altered(alloc, &parties[0], place)?;
     let refusal = Err(NoWeave::Unsent(0, place));
-    assert_eq!(rt; weave(alloc, &parties).map(|order| order.len()), refusal);
+    are_equal(
+        &rt,
+        weave(alloc, &parties).map(|order| order.len()),
+        refusal,
+    );
     Ok(())
 }

@@ -5,6 +5,7 @@ use super::counts::{Counts, Thing, of_refusal};
 use super::opening::{CLIENTS, Heap, opens};
 use super::rule::{Rule, Told};
 use super::watch::{Fault, Grown, Watch};
+use crate::tests::are_equal;
 use scoop_client::ClientNote;
 use scoop_handler::{Note, Ran};
 use scoop_message::{Block, ClientId, Entry, HandlerId, Message, Request};
@@ -255,8 +256,8 @@ enum End {
 
 fn ends(rt: &impl Abort, run: &mut Run, end: End) {
     match end {
-        End::IsFull => assert_eq!(rt; run.counts.missing(), None),
-        End::Settles => assert_eq!(rt; settles(&mut run.world), Ok(())),
+        End::IsFull => are_equal(rt, run.counts.missing(), None),
+        End::Settles => are_equal(rt, settles(&mut run.world), Ok(())),
     }
 }
 

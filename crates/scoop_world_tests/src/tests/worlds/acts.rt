@@ -1,6 +1,7 @@
 //! Acts in a world of cells, with their outcomes, as rows.
 
 use super::cells::{GET, SET};
+use crate::tests::are_equal_at;
 use scoop_client::ClientNote;
 use scoop_handler::{Note, Ran, Reason};
 use scoop_message::{Answer, Args, Block, ClientId, Entry, HandlerId, Message, Request};
@@ -211,7 +212,7 @@ fn wanted(rt: &impl Abort, told: Told) -> Result<WorldNote, WorldError> {
 /// The acts have these outcomes, one after another.
 pub fn plays(rt: &impl Abort, world: &mut World<Table>, rows: &[Row]) {
     for (number, (act, told)) in rows.iter().enumerate() {
-        assert_eq!(rt; tells(rt, world, *act), wanted(rt, *told), "row {number}");
+        are_equal_at(rt, tells(rt, world, *act), wanted(rt, *told), number);
     }
 }
 

@@ -1,6 +1,7 @@
 //! The opening of worlds, and the reasons not to open.
 
 use super::cells::{Parties, STRANGE, opens};
+use crate::tests::are_equal;
 use scoop_message::{ClientId, HandlerId};
 use scoop_world::WorldOpenError;
 use std::alloc::Global;
@@ -23,8 +24,8 @@ fn refusal(rt: &impl Abort, alloc: Global, parties: Parties) -> Option<WorldOpen
 #[test]
 fn worlds_of_64_handlers_and_clients_open(rt: HostRuntime) {
     let many = &MANY[..64];
-    assert_eq!(rt; refusal(&rt, rt.alloc(), (many, many, 0)), None);
-    assert_eq!(rt; refusal(&rt, rt.alloc(), (&[1], &[], 0)), None);
+    are_equal(&rt, refusal(&rt, rt.alloc(), (many, many, 0)), None);
+    are_equal(&rt, refusal(&rt, rt.alloc(), (&[1], &[], 0)), None);
 }
 
 const LAST: u32 = u32::MAX;
@@ -52,6 +53,6 @@ const REFUSED: [(Parties<'static>, WorldOpenError); 7] = [
 #[test]
 fn refused_worlds(rt: HostRuntime) {
     for (parties, wanted) in &REFUSED {
-        assert_eq!(rt; refusal(&rt, rt.alloc(), *parties), Some(*wanted));
+        are_equal(&rt, refusal(&rt, rt.alloc(), *parties), Some(*wanted));
     }
 }
