@@ -1,4 +1,4 @@
-use Rattle.std.proofs.Common.{ap, ◌∙◌, subst, arith}
+use Rattle.std.proofs.Common.{◌∙◌, subst, arith}
 use Rattle.scoop_keeper.specs.Keeper.{Sets, Stays}
 use Rattle.scoop_record.specs.Gathering.{Over}
 use Rattle.scoop_etcd.specs.Incarnation.{incs_in}

@@ -1,5 +1,5 @@
-use Rattle.std.proofs.Common.{ap, ◌∙◌, ◌<◌, length, subst, sym}
-use Rattle.scoop_keeper.specs.Keeper.{Keeps, Stays, IsSame}
+use Rattle.std.proofs.Common.{◌<◌, length, subst, sym}
+use Rattle.scoop_keeper.specs.Keeper.{Stays}
 use Rattle.scoop_record.specs.Gathering.{Over}
 use Rattle.scoop_record.proofs.GatheringLemmas.{gathered_keeps, gathers_apart}
 use Rattle.scoop_etcd.specs.States.{handlers_in}
