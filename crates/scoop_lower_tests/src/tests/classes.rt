@@ -1,6 +1,7 @@
 //! The demo classes, and their native objects.
 
 use crate::tests::objects::{Step, restored, runs};
+use crate::tests::{are_equal, are_equal_at};
 use scoop_classes::{
     AccountObject, CellObject, CounterObject, DemoClass, ExchangeObject, demo_class,
 };
@@ -65,14 +66,14 @@ fn table(rt: &impl Abort, alloc: Global, name: &str, words: Words) -> Table {
 fn is_of_class<B: Behaviour>(rt: &impl Abort, alloc: Global, object: &B, name: &str) {
     let class = class(rt, alloc, name);
     assert!(rt; object.has_class(&class), "{name}");
-    assert_eq!(rt; class.words(), object.words().len(), "{name}");
+    are_equal_at(rt, class.words(), object.words().len(), name);
 }
 
 /// The object takes its own words, and no other number of words.
 fn takes_back<B: Behaviour>(rt: &impl Abort, object: &mut B, words: Words) {
-    assert_eq!(rt; restored(object, &[1, 2, 3]), Some(Err(WrongWords)));
-    assert_eq!(rt; object.restore(words), Ok(()));
-    assert_eq!(rt; object.words(), words);
+    are_equal(rt, restored(object, &[1, 2, 3]), Some(Err(WrongWords)));
+    are_equal(rt, object.restore(words), Ok(()));
+    are_equal(rt, object.words(), words);
 }
 
 /// A boxed object has the class of that name, runs the steps as a table of a copy of the class does, and takes as
@@ -100,12 +101,12 @@ fn an_account_gives_no_more_than_it_has(rt: HostRuntime) -> Result<(), Fail> {
     assert!(rt; account.has_class(&class));
     let args = Args::of(&[70])?;
     let withdraw = Request { op: 2, args };
-    assert_eq!(rt; account.apply(&withdraw), Answer::Value(30));
-    assert_eq!(rt; account.apply(&withdraw), Answer::Refused);
+    are_equal(&rt, account.apply(&withdraw), Answer::Value(30));
+    are_equal(&rt, account.apply(&withdraw), Answer::Refused);
     // a table interprets the rows of the class, and does the same
     let mut table = Table::new(class, Words::of(&[100])?)?;
-    assert_eq!(rt; table.apply(&withdraw), Answer::Value(30));
-    assert_eq!(rt; table.words(), account.words());
+    are_equal(&rt, table.apply(&withdraw), Answer::Value(30));
+    are_equal(&rt, table.words(), account.words());
     Ok(())
 }
 
@@ -129,7 +130,7 @@ fn has_class<A: Allocator>(alloc: A, name: &str) -> Result<bool, OutOfMemory> {
 }
 
 fn is_no_class(rt: &impl Abort, alloc: Global, name: &str) {
-    assert_eq!(rt; has_class(alloc, name), Ok(false), "{name}");
+    are_equal_at(rt, has_class(alloc, name), Ok(false), name);
 }
 
 fn is_no_cell(rt: &impl Abort, alloc: Global, name: &str) {
@@ -144,9 +145,9 @@ fn classes_have_names(rt: HostRuntime) {
     }
     is_no_cell(&rt, rt.alloc(), "counter");
     let heap = Refusing::new(rt.alloc(), 1);
-    assert_eq!(rt; has_class(&heap, "account"), Err(OutOfMemory));
-    assert_eq!(rt; has_class(&heap, "account"), Ok(true));
-    assert_eq!(rt; has_class(&heap, "bogus"), Ok(false));
+    are_equal(&rt, has_class(&heap, "account"), Err(OutOfMemory));
+    are_equal(&rt, has_class(&heap, "account"), Ok(true));
+    are_equal(&rt, has_class(&heap, "bogus"), Ok(false));
 }
 
 /// The name of the class that has this name.
@@ -158,14 +159,15 @@ fn known(name: &str) -> Option<&'static str> {
 }
 
 fn is_known(rt: &impl Abort, name: &str, wanted: Option<&str>) {
-    assert_eq!(rt; known(name), wanted, "{name}");
+    are_equal_at(rt, known(name), wanted, name);
 }
 
 #[test]
 fn knows_each_class_by_its_name(rt: HostRuntime) {
-    assert_eq!(rt;
+    are_equal(
+        &rt,
         DemoClass::names(),
-        ["cell", "counter", "account", "exchange"]
+        ["cell", "counter", "account", "exchange"],
     );
     for name in DemoClass::names() {
         is_known(&rt, name, Some(name));

@@ -2,7 +2,7 @@
 
 ghost use Rattle.std.specs.Prelude.{◌<◌, ◌≤◌, length};
 
-use crate::tests::prints;
+use crate::tests::{are_equal, prints};
 use scoop_frame::{
     FrameError, MAX_ANSWER, MAX_ENTRY, Version, answer_from, answer_to, decode, encode, entry_from,
     entry_to, reframed, same_frame,
@@ -230,7 +230,7 @@ fn told(bytes: &[u8]) -> Option<FrameError> {
 }
 
 fn is_told(rt: &impl Abort, bytes: &[u8], fault: FrameError) {
-    assert_eq!(rt; told(bytes), Some(fault));
+    are_equal(rt, told(bytes), Some(fault));
 }
 
 fn is_told_of(rt: &impl Abort, frame: [u8; 26], at: usize, byte: u8, fault: FrameError)
@@ -242,7 +242,11 @@ fn is_told_of(rt: &impl Abort, frame: [u8; 26], at: usize, byte: u8, fault: Fram
 #[test]
 fn frames_are_whole(rt: HostRuntime) {
     let locked = decode(&LOCK);
-    assert_eq!(rt; locked, Ok((Version::One, Message::Lock(HANDLER, BLOCK))));
+    are_equal(
+        &rt,
+        locked,
+        Ok((Version::One, Message::Lock(HANDLER, BLOCK))),
+    );
     is_told(&rt, &[], FrameError::Short);
     is_told(&rt, &LOCK[..25], FrameError::Short);
 }
@@ -353,11 +357,9 @@ fn four_entries_are_carried_by_the_second_version(rt: HostRuntime) {
         panic!(rt; "no messages");
     };
     assert!(rt; prefixes_are_refused(Version::Two, &four));
-    assert_eq!(rt;
-        (length(Version::One, &one), length(Version::One, &four)),
-        (Some(62), None)
-    );
-    assert_eq!(rt; length(Version::Two, &four), Some(171));
+    are_equal(&rt, length(Version::One, &one), Some(62));
+    are_equal(&rt, length(Version::One, &four), None);
+    are_equal(&rt, length(Version::Two, &four), Some(171));
     assert!(rt; comes_back(Version::Two, &four));
 }
 
@@ -373,7 +375,7 @@ fn frames_differ(rt: HostRuntime) {
     let (Some(one), Some(four)) = (calls(1), calls(4)) else {
         panic!(rt; "no messages");
     };
-    assert_eq!(rt; have_same_frame(&one, &four), Some(false));
+    are_equal(&rt, have_same_frame(&one, &four), Some(false));
 }
 
 // The first bytes that are written of an entry, and their number.
@@ -396,7 +398,7 @@ fn long_query() -> Option<Entry> {
 }
 
 fn reads_entry(rt: &impl Abort, bytes: &[u8], wanted: Option<(Entry, usize)>) {
-    assert_eq!(rt; entry_from(bytes), wanted);
+    are_equal(rt, entry_from(bytes), wanted);
 }
 
 fn short_call() -> Option<(Entry, usize)> {
@@ -409,10 +411,14 @@ fn entries_are_bytes(rt: HostRuntime) {
     let Some(query) = long_query() else {
         panic!(rt; "no entry");
     };
-    assert_eq!(rt; entry_bytes(&query), ([2, 1, 2, 4, 0], 36));
-    assert_eq!(rt; entry_again(&query, 0), Some((query, 36)));
-    assert_eq!(rt; entry_again(&query, 1), None);
-    assert_eq!(rt; entry_bytes(&Entry::End), ([3, 0xee, 0xee, 0xee, 0xee], 1));
+    are_equal(&rt, entry_bytes(&query), ([2, 1, 2, 4, 0], 36));
+    are_equal(&rt, entry_again(&query, 0), Some((query, 36)));
+    are_equal(&rt, entry_again(&query, 1), None);
+    are_equal(
+        &rt,
+        entry_bytes(&Entry::End),
+        ([3, 0xee, 0xee, 0xee, 0xee], 1),
+    );
     reads_entry(&rt, &[1, 0, 1, 0, 9], short_call());
 }
 
@@ -431,16 +437,16 @@ fn answer_again(answer: &Answer, cut: usize) -> Option<(Answer, usize)> {
 
 // The answer is written as these bytes, and read from them again.
 fn has_bytes(rt: &impl Abort, answer: &Answer, bytes: [u8; 2], len: usize) {
-    assert_eq!(rt; answer_bytes(answer), (bytes, len));
-    assert_eq!(rt; answer_again(answer, 0), Some((*answer, len)));
+    are_equal(rt, answer_bytes(answer), (bytes, len));
+    are_equal(rt, answer_again(answer, 0), Some((*answer, len)));
 }
 
 #[test]
 fn answers_are_bytes(rt: HostRuntime) {
     has_bytes(&rt, &Answer::Refused, [0, 0xee], 1);
     has_bytes(&rt, &Answer::Value(5), [1, 0], 9);
-    assert_eq!(rt; answer_again(&Answer::Value(5), 1), None);
-    assert_eq!(rt; answer_from(&[2]), None);
+    are_equal(&rt, answer_again(&Answer::Value(5), 1), None);
+    are_equal(&rt, answer_from(&[2]), None);
 }
 
 const FAULTS: [(FrameError, &str); 8] = [
@@ -473,9 +479,9 @@ fn a_greeting_is_framed(rt: HostRuntime) -> Result<(), Fail> {
     let mut buffer = [0; BUFFER_LEN];
     let len = encode(Version::Two, &hello, &mut buffer);
     assert_eq!(rt; len, 26);
-    assert_eq!(rt; decode(&buffer[..len]), Ok((Version::Two, hello)));
+    are_equal(&rt, decode(&buffer[..len]), Ok((Version::Two, hello)));
     // what is no frame is refused, and says why
-    assert_eq!(rt; decode(&buffer[..len - 1]), Err(FrameError::Short));
-    assert_eq!(rt; decode(b"no frame"), Err(FrameError::Short));
+    are_equal(&rt, decode(&buffer[..len - 1]), Err(FrameError::Short));
+    are_equal(&rt, decode(b"no frame"), Err(FrameError::Short));
     Ok(())
 }

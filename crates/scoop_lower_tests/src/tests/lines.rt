@@ -1,5 +1,6 @@
 //! The number of reads of an input.
 
+use crate::tests::are_equal;
 use scoop_lines::{LineBytes, Lines, LinesError, MAX_READS, SourceError, SourceFault};
 use std::io;
 use std::io::{ErrorKind, Read};
@@ -28,10 +29,10 @@ fn first_line(interrupted: u32) -> Result<bool, LinesError> {
 
 #[test]
 fn reads_up_to_the_limit(rt: HostRuntime) {
-    assert_eq!(rt; first_line(MAX_READS - 1), Ok(false));
+    are_equal(&rt, first_line(MAX_READS - 1), Ok(false));
     let fault = SourceError {
         line: 1,
         fault: SourceFault::ReadFault,
     };
-    assert_eq!(rt; first_line(MAX_READS), Err(LinesError::Source(fault)));
+    are_equal(&rt, first_line(MAX_READS), Err(LinesError::Source(fault)));
 }

@@ -9,6 +9,7 @@ mod scripts;
 mod sockets;
 mod tapes;
 
+use crate::tests::are_equal;
 use scoop_link::{Datagram, Link, LinkFault, OpenLinkError, Party, Script, ScriptLink, TapeLink};
 use scoop_message::limits::BUFFER_LEN;
 use scoop_message::{ClientId, HandlerId, OutOfMemory};
@@ -35,12 +36,12 @@ pub(crate) fn feeds(rt: &impl Abort, tape: &mut TapeLink, bytes: &[u8]) {
 
 /// The link sends these bytes.
 pub(crate) fn sends<L: Link>(rt: &impl Abort, link: &mut L, to: Party, bytes: &[u8]) {
-    assert_eq!(rt; link.send(to, bytes), Ok(()));
+    are_equal(rt, link.send(to, bytes), Ok(()));
 }
 
 /// The link fails to send.
 pub(crate) fn fails<L: Link>(rt: &impl Abort, link: &mut L, to: Party, bytes: &[u8]) {
-    assert_eq!(rt; link.send(to, bytes), Err(LinkFault));
+    are_equal(rt, link.send(to, bytes), Err(LinkFault));
 }
 
 // The length and the first byte of a datagram that the link receives.
@@ -55,11 +56,11 @@ fn received<L: Link>(link: &mut L) -> Result<Option<(usize, u8)>, LinkFault> {
 
 /// The link receives a datagram of this length that begins with this byte, or none.
 pub(crate) fn gets<L: Link>(rt: &impl Abort, link: &mut L, wanted: Option<(usize, u8)>) {
-    assert_eq!(rt; received(link), Ok(wanted));
+    are_equal(rt, received(link), Ok(wanted));
 }
 
 pub(crate) fn has_faults<L: Link>(rt: &impl Abort, link: &L, faults: u64) {
-    assert_eq!(rt; link.faults(), faults);
+    are_equal(rt, link.faults(), faults);
 }
 
 /// Sends when no further fault can be counted: the send returns `Ok`, and the count stays. No number of calls that
@@ -91,8 +92,8 @@ fn written(bytes: &[u8]) -> (usize, [u8; 4]) {
 #[test]
 fn datagrams_keep_their_first_bytes(rt: HostRuntime) {
     assert!(rt; keeps(&[5; BUFFER_LEN + 1], &[5; 192]));
-    assert_eq!(rt; written(&[5, 5]), (2, [5, 5, 9, 9]));
-    assert_eq!(rt; written(&[]), (0, [9, 9, 9, 9]));
+    are_equal(&rt, written(&[5, 5]), (2, [5, 5, 9, 9]));
+    are_equal(&rt, written(&[]), (0, [9, 9, 9, 9]));
 }
 
 #[test]
@@ -102,7 +103,7 @@ fn faults_are_printed(rt: HostRuntime) -> Result<(), Fail> {
         OpenLinkError::Fault,
         OpenLinkError::OutOfMemory
     )?;
-    assert_eq!(rt; text.as_str(), "LinkFault Fault out of memory");
+    are_equal(&rt, text.as_str(), "LinkFault Fault out of memory");
     Ok(())
 }
 
@@ -127,8 +128,8 @@ fn a_script_drops_and_doubles(rt: HostRuntime) -> Result<(), Fail> {
     }
     let mut buffer = [0; BUFFER_LEN];
     for byte in [1, 2, 2, 4, 4] {
-        assert_eq!(rt; node.receive(&mut buffer), Ok(Some(1)));
-        assert_eq!(rt; buffer[0], byte);
+        are_equal(&rt, node.receive(&mut buffer), Ok(Some(1)));
+        are_equal(&rt, buffer[0], byte);
     }
     Ok(())
 }

@@ -1,6 +1,6 @@
 //! Words, arguments, entries and messages.
 
-use crate::tests::prints;
+use crate::tests::{are_equal, are_equal_at, prints};
 use scoop_message::{
     Answer, Args, BadEntries, Block, ClientId, Entries, Entry, HandlerId, Message, OutOfMemory,
     Request, TooManyArgs, WordCount, Words, same_message, same_words,
@@ -19,23 +19,27 @@ fn block() -> Block {
 #[test]
 fn words_keep_their_limits(rt: HostRuntime) {
     let numbers = [9; 17];
-    assert_eq!(rt; Words::of(&[]).err(), Some(WordCount));
-    assert_eq!(rt; Words::of(&numbers).err(), Some(WordCount));
+    are_equal(&rt, Words::of(&[]).err(), Some(WordCount));
+    are_equal(&rt, Words::of(&numbers).err(), Some(WordCount));
     let Ok(mut words) = Words::of(&numbers[..16]) else {
         panic!(rt; "no words");
     };
-    assert_eq!(rt; (words.len(), words.as_slice().len()), (16, 16));
+    are_equal(&rt, words.len(), 16);
+    are_equal(&rt, words.as_slice().len(), 16);
     words.set(15, 4);
-    assert_eq!(rt; (words.get(15), words.get(16)), (Some(4), None));
+    are_equal(&rt, words.get(15), Some(4));
+    are_equal(&rt, words.get(16), None);
 }
 
 #[test]
 fn arguments_keep_their_limits(rt: HostRuntime) -> Result<(), Fail> {
-    assert_eq!(rt; Args::of(&[9; 5]).err(), Some(TooManyArgs));
+    are_equal(&rt, Args::of(&[9; 5]).err(), Some(TooManyArgs));
     assert!(rt; Args::of(&[])?.is_empty());
     let args = Args::of(&[1, 2, 3, 4])?;
-    assert_eq!(rt; (args.len(), args.get(3), args.get(4)), (4, Some(4), None));
-    assert_eq!(rt; args.as_slice(), [1, 2, 3, 4].as_slice());
+    are_equal(&rt, args.len(), 4);
+    are_equal(&rt, args.get(3), Some(4));
+    are_equal(&rt, args.get(4), None);
+    are_equal(&rt, args.as_slice(), [1, 2, 3, 4].as_slice());
     Ok(())
 }
 
@@ -52,17 +56,16 @@ fn made(rt: &impl Abort, entries: &[Entry]) -> Entries {
 }
 
 fn are_bad(rt: &impl Abort, entries: &[Entry]) {
-    assert_eq!(rt; Entries::of(entries).err(), Some(BadEntries));
+    are_equal(rt, Entries::of(entries).err(), Some(BadEntries));
 }
 
 // The entries are these four.
 fn are_four(rt: &impl Abort, entries: &Entries, four: &[Entry; 4]) {
-    assert_eq!(rt; entries.len(), 4);
-    assert_eq!(rt;
-        (entries.get(0), entries.get(3), entries.get(4)),
-        (Some(four[0]), Some(four[3]), None)
-    );
-    assert_eq!(rt; entries.as_slice(), four.as_slice());
+    are_equal(rt, entries.len(), 4);
+    are_equal(rt, entries.get(0), Some(four[0]));
+    are_equal(rt, entries.get(3), Some(four[3]));
+    are_equal(rt, entries.get(4), None);
+    are_equal(rt, entries.as_slice(), four.as_slice());
 }
 
 #[test]
@@ -92,7 +95,7 @@ fn told(message: &Message) -> (HandlerId, ClientId, u32, bool, bool) {
 
 fn tells(rt: &impl Abort, message: &Message, for_handler: bool) {
     let wanted = (HandlerId(1), ClientId(7), 2, for_handler, true);
-    assert_eq!(rt; told(message), wanted, "{message:?}");
+    are_equal_at(rt, told(message), wanted, message);
     assert!(rt; same_message(message, message), "{message:?}");
 }
 
@@ -185,9 +188,10 @@ fn names_and_answers_are_printed(rt: HostRuntime) -> Result<(), Fail> {
 #[test]
 fn faults_are_printed(rt: HostRuntime) -> Result<(), Fail> {
     let faults = format!(in rt.alloc(); "{TooManyArgs} {WordCount} {BadEntries} {OutOfMemory}")?;
-    assert_eq!(rt;
+    are_equal(
+        &rt,
         faults.as_str(),
-        "TooManyArgs WordCount BadEntries out of memory"
+        "TooManyArgs WordCount BadEntries out of memory",
     );
     Ok(())
 }
@@ -205,9 +209,10 @@ fn a_message_is_made(rt: HostRuntime) -> Result<(), Fail> {
     let get = Entry::Query(Request { op: 2, args });
     let log = Message::Log(HandlerId(1), block, 1, Entries::of(&[get, Entry::End])?);
     assert!(rt; log.for_handler() && log.fits());
-    assert_eq!(rt; (log.client(), log.inc()), (ClientId(7), 2));
+    are_equal(&rt, log.client(), ClientId(7));
+    are_equal(&rt, log.inc(), 2);
     // the limits are kept: a request has four arguments at most, and an End stands only last
-    assert_eq!(rt; Args::of(&[0; 5]), Err(TooManyArgs));
-    assert_eq!(rt; Entries::of(&[Entry::End, get]), Err(BadEntries));
+    are_equal(&rt, Args::of(&[0; 5]), Err(TooManyArgs));
+    are_equal(&rt, Entries::of(&[Entry::End, get]), Err(BadEntries));
     Ok(())
 }

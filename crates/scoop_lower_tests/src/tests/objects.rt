@@ -2,6 +2,7 @@
 
 ghost use Rattle.std.specs.Prelude.{◌≤◌};
 
+use crate::tests::{are_equal, are_equal_at};
 use scoop_message::{Answer, Args, Request, Words};
 use scoop_object::{
     Behaviour, Boxed, Class, ClassError, Object, OpRow, Table, Term, TooManyWrites, Write, Writes,
@@ -105,12 +106,12 @@ fn answer<B: Behaviour>(object: &mut B, op: u16, args: &[u64]) -> Option<Answer>
 
 fn has_words<B: Behaviour>(rt: &impl Abort, object: &B, wanted: &[u64]) {
     let words = object.words();
-    assert_eq!(rt; words.as_slice(), wanted);
+    are_equal(rt, words.as_slice(), wanted);
 }
 
 fn runs_one<B: Behaviour>(rt: &impl Abort, object: &mut B, step: Step) {
     let (op, args, wanted, words) = step;
-    assert_eq!(rt; answer(object, op, args), Some(wanted), "op {op}");
+    are_equal_at(rt, answer(object, op, args), Some(wanted), op);
     has_words(rt, object, words);
 }
 
@@ -200,9 +201,9 @@ pub(crate) fn restored<B: Behaviour>(
 }
 
 fn restores<B: Behaviour>(rt: &impl Abort, object: &mut B) {
-    assert_eq!(rt; restored(object, &[8, 9]), Some(Err(WrongWords)));
+    are_equal(rt, restored(object, &[8, 9]), Some(Err(WrongWords)));
     has_words(rt, object, &[7]);
-    assert_eq!(rt; restored(object, &[8]), Some(Ok(())));
+    are_equal(rt, restored(object, &[8]), Some(Ok(())));
     has_words(rt, object, &[8]);
 }
 
@@ -210,7 +211,7 @@ fn is_of<B: Behaviour>(rt: &impl Abort, object: &B, class: Option<Class>, wanted
     let Some(class) = class else {
         panic!(rt; "no class");
     };
-    assert_eq!(rt; object.has_class(&class), wanted);
+    are_equal(rt, object.has_class(&class), wanted);
 }
 
 fn counters(alloc: Global) -> Option<Class> {
@@ -263,7 +264,7 @@ fn equal_objects_answer_alike(rt: HostRuntime) -> Result<(), Fail> {
         panic!(rt; "no table");
     };
     let answers = apply_both(&mut table, &mut boxed, &request);
-    assert_eq!(rt; answers, (Answer::Refused, Answer::Refused));
+    are_equal(&rt, answers, (Answer::Refused, Answer::Refused));
     Ok(())
 }
 
@@ -339,7 +340,7 @@ const REFUSED: [(&[Kind], ClassError); 10] = [
 ];
 
 fn is_refused(rt: &impl Abort, alloc: Global, kinds: &[Kind], refusal: ClassError) {
-    assert_eq!(rt; class_refusal(alloc, kinds), Some(refusal));
+    are_equal(rt, class_refusal(alloc, kinds), Some(refusal));
 }
 
 #[test]
@@ -365,11 +366,12 @@ fn last_of(writes: &Writes) -> (usize, Option<Write>, Option<Write>) {
 
 #[test]
 fn sixteen_writes_are_most(rt: HostRuntime) -> Result<(), Fail> {
-    assert_eq!(rt; writes_of(17).err(), Some(TooManyWrites));
+    are_equal(&rt, writes_of(17).err(), Some(TooManyWrites));
     let most = writes_of(16)?;
-    assert_eq!(rt;
+    are_equal(
+        &rt,
         last_of(&most),
-        (16, Some(write(15, ZERO, ZERO, ZERO)), None)
+        (16, Some(write(15, ZERO, ZERO, ZERO)), None),
     );
     let none = writes_of(0)?;
     assert!(rt; none.is_empty() && most != none);
@@ -405,20 +407,20 @@ fn size(alloc: Global, words: u8, count: usize) -> Option<Result<(usize, usize),
 fn limits_are_reached(rt: HostRuntime) {
     let few = Some(Err(ClassError::WordOutOfRange));
     let many = Some(Err(ClassError::TooManyOps));
-    assert_eq!(rt; size(rt.alloc(), 16, 32), Some(Ok((16, 32))));
-    assert_eq!(rt; size(rt.alloc(), 15, 32), few);
-    assert_eq!(rt; size(rt.alloc(), 16, 33), many);
+    are_equal(&rt, size(rt.alloc(), 16, 32), Some(Ok((16, 32))));
+    are_equal(&rt, size(rt.alloc(), 15, 32), few);
+    are_equal(&rt, size(rt.alloc(), 16, 33), many);
 }
 
 fn is_same(rt: &impl Abort, class: &Class, other: Option<Class>, wanted: bool) {
     let Some(other) = other else {
         panic!(rt; "no class");
     };
-    assert_eq!(rt; class.same(&other), wanted);
+    are_equal(rt, class.same(&other), wanted);
 }
 
 fn is_class(rt: &impl Abort, class: &Class, words: u8, rows: &[OpRow], wanted: bool) {
-    assert_eq!(rt; class.is(words, rows), wanted);
+    are_equal(rt, class.is(words, rows), wanted);
 }
 
 #[test]
@@ -453,6 +455,10 @@ fn a_counter_adds(rt: HostRuntime) -> Result<(), Fail> {
     let class = Class::build(rt.alloc(), 1, &[add])?;
     let mut counter = Table::new(class, Words::of(&[5])?)?;
     let args = Args::of(&[2])?;
-    assert_eq!(rt; counter.apply(&Request { op: 1, args }), Answer::Value(7));
+    are_equal(
+        &rt,
+        counter.apply(&Request { op: 1, args }),
+        Answer::Value(7),
+    );
     Ok(())
 }

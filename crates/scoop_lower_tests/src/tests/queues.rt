@@ -3,12 +3,12 @@
 ghost use Rattle.std.specs.Prelude.{ℕ, ◌<◌, length, IsTrue, IfSome};
 ghost use Rattle.scoop_queue.specs.Queue.{head_at};
 
+use crate::tests::{are_equal, are_equal_at};
 use scoop_message::limits::{MAX_PENDING, MAX_QUEUES};
 use scoop_message::{Args, Block, ClientId, Entries, Entry, Request};
 use scoop_queue::{AppendError, Head, OpenQueueError, PutError, QueueOfQueues, QueueState};
 use std::alloc::{Allocator, Global};
 use std::process::Abort;
-use std::test::Fail;
 
 fn block(num: u32) -> Block {
     Block {
@@ -108,19 +108,19 @@ fn opens<A: Allocator + Copy>(
     num: u32,
     refusal: Option<OpenQueueError>,
 ) {
-    assert_eq!(rt; open_refusal(queues, num), refusal, "{num}");
+    are_equal_at(rt, open_refusal(queues, num), refusal, num);
 }
 
 fn has_count<A: Allocator>(rt: &impl Abort, queues: &QueueOfQueues<A>, count: usize) {
-    assert_eq!(rt; queues.list_len(), count);
+    are_equal(rt, queues.list_len(), count);
 }
 
 fn is_first(rt: &impl Abort, queues: &QueueOfQueues, wanted: Option<(Block, u32, Entry)>) {
-    assert_eq!(rt; queues.front(), wanted);
+    are_equal(rt, queues.front(), wanted);
 }
 
 fn has_head(rt: &impl Abort, queues: &QueueOfQueues, i: usize, wanted: Option<Head>) {
-    assert_eq!(rt; queues.head(i), wanted);
+    are_equal(rt, queues.head(i), wanted);
 }
 
 // The refusal of a queue without entries.
@@ -136,7 +136,7 @@ fn is_full_with(rt: &impl Abort, queues: &mut QueueOfQueues, last: Block) {
         state: QueueState::Open,
     };
     has_head(rt, queues, 63, Some(fresh));
-    assert_eq!(rt; refusal(queues, fresh), Some(AppendError::QueueFull));
+    are_equal(rt, refusal(queues, fresh), Some(AppendError::QueueFull));
 }
 
 #[test]
@@ -161,12 +161,12 @@ fn opens_64_queues(rt: HostRuntime) {
 type Row = (u32, Given, Option<PutError>, usize);
 
 fn has_pending(rt: &impl Abort, queues: &QueueOfQueues, num: u32, pending: usize) {
-    assert_eq!(rt; queues.pending_len(block(num)), pending, "{num}");
+    are_equal_at(rt, queues.pending_len(block(num)), pending, num);
 }
 
 fn puts_one(rt: &impl Abort, queues: &mut QueueOfQueues, row: Row) {
     let (num, given, refusal, pending) = row;
-    assert_eq!(rt; put_refusal(queues, num, given), refusal, "{num} {pending}");
+    are_equal_at(rt, put_refusal(queues, num, given), refusal, (num, pending));
     has_pending(rt, queues, num, pending);
 }
 
@@ -185,11 +185,11 @@ fn fills(rt: &impl Abort, queues: &mut QueueOfQueues, num: u32) {
 }
 
 fn is_cut(rt: &impl Abort, queues: &mut QueueOfQueues, num: u32, was_open: bool) {
-    assert_eq!(rt; queues.cut(block(num)), was_open, "{num}");
+    are_equal_at(rt, queues.cut(block(num)), was_open, num);
 }
 
 fn is_at(rt: &impl Abort, queues: &QueueOfQueues, i: usize, j: usize, entry: Option<Entry>) {
-    assert_eq!(rt; queues.entry(i, j), entry, "{i} {j}");
+    are_equal_at(rt, queues.entry(i, j), entry, (i, j));
 }
 
 const PUTS: [Row; 6] = [
@@ -242,11 +242,11 @@ enum Step {
 
 fn takes(rt: &impl Abort, queues: &mut QueueOfQueues) {
     let first = queues.front();
-    assert_eq!(rt; queues.advance(), first);
+    are_equal(rt, queues.advance(), first);
 }
 
 fn puts_more(rt: &impl Abort, queues: &mut QueueOfQueues, num: u32, given: Given) {
-    assert_eq!(rt; put_refusal(queues, num, given), None, "{num}");
+    are_equal_at(rt, put_refusal(queues, num, given), None, num);
 }
 
 fn does(rt: &impl Abort, queues: &mut QueueOfQueues, step: Step) {
@@ -273,7 +273,7 @@ type Turn = (Step, Option<(u32, u32)>, usize);
 fn goes_on(rt: &impl Abort, queues: &mut QueueOfQueues, turn: Turn) {
     let (step, wanted, count) = turn;
     does(rt, queues, step);
-    assert_eq!(rt; front(queues), wanted, "{step:?}");
+    are_equal_at(rt, front(queues), wanted, step);
     has_count(rt, queues, count);
 }
 
@@ -344,7 +344,7 @@ fn appends(
     whole: Whole,
     refusal: Option<AppendError>,
 ) {
-    assert_eq!(rt; append_refusal(queues, whole), refusal, "{whole:?}");
+    are_equal_at(rt, append_refusal(queues, whole), refusal, whole);
 }
 
 const BAD: [Whole; 10] = [
@@ -379,7 +379,7 @@ fn next(queues: &mut QueueOfQueues) -> Option<(u32, u32, bool)> {
 }
 
 fn takes_entry(rt: &impl Abort, queues: &mut QueueOfQueues, taken: (u32, u32, bool)) {
-    assert_eq!(rt; next(queues), Some(taken));
+    are_equal(rt, next(queues), Some(taken));
 }
 
 const GOOD: [Whole; 4] = [
@@ -404,8 +404,8 @@ fn appends_whole_queues(rt: HostRuntime) {
 }
 
 fn are_same(rt: &impl Abort, left: &QueueOfQueues, right: &QueueOfQueues, wanted: bool) {
-    assert_eq!(rt; left.same(right), wanted);
-    assert_eq!(rt; right.same(left), wanted);
+    are_equal(rt, left.same(right), wanted);
+    are_equal(rt, right.same(left), wanted);
 }
 
 fn copied(rt: &impl Abort, queues: &QueueOfQueues) -> QueueOfQueues {
@@ -438,22 +438,25 @@ fn a_copy_is_the_same(rt: HostRuntime) {
 
 /// The example of the crate.
 #[test]
-fn an_empty_queue_is_waited_for(rt: HostRuntime) -> Result<(), Fail> {
+fn an_empty_queue_is_waited_for(rt: HostRuntime) {
     let mut queues = QueueOfQueues::new(rt.alloc());
-    queues.open(block(1))?;
-    queues.open(block(2))?;
+    queues.open(block(1)).expect(&rt, "no queue");
+    queues.open(block(2)).expect(&rt, "no queue");
     // the first private queue is empty: its handler waits
-    assert_eq!(rt; queues.front(), None);
-    queues.put(block(1), Entry::End)?;
-    assert_eq!(rt; queues.front(), Some((block(1), 1, Entry::End)));
+    are_equal(&rt, queues.front(), None);
+    queues.put(block(1), Entry::End).expect(&rt, "no room");
+    are_equal(&rt, queues.front(), Some((block(1), 1, Entry::End)));
     // a private queue goes with its End, and then the other one is the first
-    assert_eq!(rt; queues.advance(), Some((block(1), 1, Entry::End)));
-    assert_eq!(rt; queues.list_len(), 1);
-    assert_eq!(rt; queues.open(block(2)), Err(OpenQueueError::AlreadyThere));
+    are_equal(&rt, queues.advance(), Some((block(1), 1, Entry::End)));
+    are_equal(&rt, queues.list_len(), 1);
+    are_equal(
+        &rt,
+        queues.open(block(2)),
+        Err(OpenQueueError::AlreadyThere),
+    );
     // a queue that is cut, as when its client restarts, goes once it is empty
     assert!(rt; queues.cut(block(2)));
-    assert_eq!(rt; queues.list_len(), 0);
-    Ok(())
+    are_equal(&rt, queues.list_len(), 0);
 }
 
 // The queues that differ are copied.

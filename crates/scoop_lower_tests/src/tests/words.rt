@@ -1,5 +1,6 @@
 //! Words of a line, and the numbers that they write.
 
+use crate::tests::are_equal;
 use scoop_lines::{
     count_words, decimal, decimal_u16, decimal_u32, is, is_blank, is_decimal, next_word, one_word,
     two_words,
@@ -15,15 +16,15 @@ fn reads_the_line_of_the_document(rt: HostRuntime) {
     let Some((handler, amount)) = two_words(rest) else {
         panic!(rt; "not two words");
     };
-    assert_eq!(rt; decimal_u32(handler), Some(7));
-    assert_eq!(rt; decimal(amount), Some(250));
-    assert_eq!(rt; decimal(b"-250"), None);
+    are_equal(&rt, decimal_u32(handler), Some(7));
+    are_equal(&rt, decimal(amount), Some(250));
+    are_equal(&rt, decimal(b"-250"), None);
     assert!(rt; is_blank(b"# call 7 250"));
 }
 
 #[test]
 fn words_are_separated_by_spaces_alone(rt: HostRuntime) {
-    assert_eq!(rt; count_words(b"  call\t7  250 \r"), 3);
+    are_equal(&rt, count_words(b"  call\t7  250 \r"), 3);
     let Some(word) = one_word(b" a\tb\r ") else {
         panic!(rt; "not one word");
     };
@@ -41,21 +42,20 @@ fn a_remark_begins_at_the_first_byte(rt: HostRuntime) {
 
 #[test]
 fn numbers_keep_their_limits(rt: HostRuntime) {
-    assert_eq!(rt; decimal(b"18446744073709551615"), Some(u64::MAX));
-    assert_eq!(rt; decimal(b"18446744073709551616"), None);
-    assert_eq!(rt; decimal(b"9999999999999999999"), Some(9999999999999999999));
-    assert_eq!(rt; decimal(b"00000000000000000000007"), Some(7));
-    assert_eq!(rt;
-        (decimal(b""), decimal(b"+7"), decimal(b"7 ")),
-        (None, None, None)
+    are_equal(&rt, decimal(b"18446744073709551615"), Some(u64::MAX));
+    are_equal(&rt, decimal(b"18446744073709551616"), None);
+    are_equal(
+        &rt,
+        decimal(b"9999999999999999999"),
+        Some(9999999999999999999),
     );
-    assert_eq!(rt;
-        (decimal_u32(b"4294967295"), decimal_u32(b"4294967296")),
-        (Some(u32::MAX), None)
-    );
-    assert_eq!(rt;
-        (decimal_u16(b"65535"), decimal_u16(b"65536")),
-        (Some(u16::MAX), None)
-    );
+    are_equal(&rt, decimal(b"00000000000000000000007"), Some(7));
+    are_equal(&rt, decimal(b""), None);
+    are_equal(&rt, decimal(b"+7"), None);
+    are_equal(&rt, decimal(b"7 "), None);
+    are_equal(&rt, decimal_u32(b"4294967295"), Some(u32::MAX));
+    are_equal(&rt, decimal_u32(b"4294967296"), None);
+    are_equal(&rt, decimal_u16(b"65535"), Some(u16::MAX));
+    are_equal(&rt, decimal_u16(b"65536"), None);
     assert!(rt; is_decimal(b"18446744073709551616") && !is_decimal(b"") && !is_decimal(b"0x7"));
 }

@@ -4,6 +4,7 @@ use super::acts::{
     Act, ENTRIES, FIRST, IMAGES, NO_PENDING, OLD, Step, VERSION, plays, steps, steps_in_memory,
 };
 use super::images::{IMAGE, PENDING, waiting};
+use crate::tests::are_equal;
 use scoop_handler::HandlerState;
 use scoop_message::{ClientId, HandlerId, OutOfMemory};
 use scoop_record::*;
@@ -56,20 +57,20 @@ fn keeps(rt: &impl Abort, alloc: Global, state: &HandlerState) -> Result<(), Kee
     let loaded = keeper.load_handler(HandlerId(1));
     assert!(rt; is_loaded(loaded, state));
     // a client's next incarnation is one more than the last one
-    assert_eq!(rt; keeper.next_incarnation(ClientId(7)), Ok(1));
-    assert_eq!(rt; keeper.next_incarnation(ClientId(7)), Ok(2));
+    are_equal(rt, keeper.next_incarnation(ClientId(7)), Ok(1));
+    are_equal(rt, keeper.next_incarnation(ClientId(7)), Ok(2));
     // one for tests makes a call of the keeper behind it, and refuses all further ones
     let mut failing = FailingKeeper::new(keeper, 1);
-    assert_eq!(rt; failing.next_incarnation(ClientId(7)), Ok(3));
+    are_equal(rt, failing.next_incarnation(ClientId(7)), Ok(3));
     let again = failing.next_incarnation(ClientId(7));
-    assert_eq!(rt; again, Err(KeeperError::Refused));
+    are_equal(rt, again, Err(KeeperError::Refused));
     Ok(())
 }
 
 #[test]
 fn a_keeper_keeps_as_in_the_doc(rt: HostRuntime) {
     let state = waiting(&rt, rt.alloc(), 5);
-    assert_eq!(rt; keeps(&rt, rt.alloc(), &state), Ok(()));
+    are_equal(&rt, keeps(&rt, rt.alloc(), &state), Ok(()));
 }
 
 const LAST: [Act; 6] = [
@@ -282,19 +283,19 @@ fn keeps_over_a_restart<S: Alter + Drop>(
     // a store makes its tables in a database that has none
     let mut store = Store::create(alloc, conn)?;
     assert!(rt; store.put_handler(state).is_ok());
-    assert_eq!(rt; store.next_incarnation(ClientId(7)), Ok(1));
+    are_equal(rt, store.next_incarnation(ClientId(7)), Ok(1));
     // a restart: all that stays is the database, and a store takes the tables that are there
     let conn = store.into_connection();
     let mut store = Store::adopt(alloc, conn)?;
     let loaded = store.load_handler(HandlerId(1));
     assert!(rt; is_loaded(loaded, state));
-    assert_eq!(rt; store.next_incarnation(ClientId(7)), Ok(2));
+    are_equal(rt, store.next_incarnation(ClientId(7)), Ok(2));
     Ok(())
 }
 
 fn keeps_waiting<S: Alter + Drop>(rt: &impl Abort, alloc: Global, conn: Connection<S>) {
     let state = waiting(rt, alloc, 5);
-    assert_eq!(rt; keeps_over_a_restart(rt, alloc, conn, &state), Ok(()));
+    are_equal(rt, keeps_over_a_restart(rt, alloc, conn, &state), Ok(()));
 }
 
 #[test]

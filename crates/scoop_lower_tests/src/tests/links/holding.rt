@@ -1,6 +1,7 @@
 //! Links that hold back what is sent.
 
 use super::{CLIENT, HANDLER, fails, feeds, gets, has_faults, sends, tape};
+use crate::tests::are_equal;
 use scoop_link::{HoldingLink, Link, LinkFault, MAX_HELD, TapeLink};
 use std::alloc::Global;
 use std::process::Abort;
@@ -11,7 +12,11 @@ fn holding(rt: &impl Abort, alloc: Global, room: usize, holds: bool) -> HoldingL
 
 fn has_sent(rt: &impl Abort, link: &HoldingLink<TapeLink>, i: usize, first: Option<u8>) {
     let sent = link.inner().sent(i);
-    assert_eq!(rt; sent.and_then(|(_, bytes)| bytes.first().copied()), first);
+    are_equal(
+        rt,
+        sent.and_then(|(_, bytes)| bytes.first().copied()),
+        first,
+    );
 }
 
 #[test]
@@ -20,7 +25,7 @@ fn nothing_is_sent_before_a_flush(rt: HostRuntime) {
     sends(&rt, &mut link, CLIENT, &[1]);
     sends(&rt, &mut link, HANDLER, &[2]);
     has_sent(&rt, &link, 0, None);
-    assert_eq!(&rt; link.flush(), Ok(()));
+    are_equal(&rt, link.flush(), Ok(()));
     has_sent(&rt, &link, 0, Some(1));
     has_sent(&rt, &link, 1, Some(2));
     has_sent(&rt, &link, 2, None);
@@ -41,11 +46,11 @@ fn a_flush_stops_at_a_fault(rt: HostRuntime) {
     sends(&rt, &mut link, CLIENT, &[1]);
     sends(&rt, &mut link, CLIENT, &[2]);
     sends(&rt, &mut link, CLIENT, &[3]);
-    assert_eq!(&rt; link.flush(), Err(LinkFault));
+    are_equal(&rt, link.flush(), Err(LinkFault));
     has_sent(&rt, &link, 0, Some(1));
     has_faults(&rt, &link, 1);
-    assert_eq!(&rt; link.flush(), Err(LinkFault));
-    assert_eq!(&rt; link.flush(), Ok(()));
+    are_equal(&rt, link.flush(), Err(LinkFault));
+    are_equal(&rt, link.flush(), Ok(()));
     has_faults(&rt, &link, 2);
 }
 
@@ -62,6 +67,6 @@ fn a_link_takes_64_between_flushes(rt: HostRuntime) {
         gets(&rt, &mut link, Some((1, 5)));
     }
     gets(&rt, &mut link, None);
-    assert_eq!(&rt; link.flush(), Ok(()));
+    are_equal(&rt, link.flush(), Ok(()));
     gets(&rt, &mut link, Some((1, 5)));
 }

@@ -2,6 +2,7 @@
 
 ghost use Rattle.std.specs.Prelude.{◌≡◌, ◌-◌, ◌^◌, ◌++◌, ◌∷◌, [], take};
 
+use crate::tests::are_equal;
 use scoop_link::{Lane, Script};
 use scoop_message::OutOfMemory;
 use scoop_message::limits::BUFFER_LEN;
@@ -80,7 +81,7 @@ fn plain(rt: &impl Abort, alloc: Global, room: usize) -> Lane {
 }
 
 fn takes(rt: &impl Abort, lane: &mut Lane, wanted: Option<(usize, u8)>) {
-    assert_eq!(rt; taken(lane), wanted);
+    are_equal(rt, taken(lane), wanted);
 }
 
 #[test]
@@ -97,7 +98,7 @@ fn room_that_is_given_back_is_used_again(rt: HostRuntime) {
 
 fn carries(rt: &impl Abort, lane: &mut Lane, bytes: &[u8], kept: usize) {
     lane.put(bytes);
-    assert_eq!(rt; taken(lane).map(|found| found.0), Some(kept));
+    are_equal(rt, taken(lane).map(|found| found.0), Some(kept));
 }
 
 #[test]
@@ -137,5 +138,5 @@ fn the_count_of_puts_stops(rt: HostRuntime) {
 #[test]
 fn a_lane_without_end_has_no_memory(rt: HostRuntime) {
     let refused = Lane::new(rt.alloc(), Script::default(), usize::MAX).err();
-    assert_eq!(rt; refused, Some(OutOfMemory));
+    are_equal(&rt, refused, Some(OutOfMemory));
 }

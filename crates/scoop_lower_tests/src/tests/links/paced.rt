@@ -2,6 +2,7 @@
 
 use super::scripts::ends;
 use super::{CLIENT, HANDLER, fails, feeds, gets, has_faults, sends, tape};
+use crate::tests::{are_equal, are_equal_at};
 use scoop_link::{Link, PacedLink, Party, Script, ScriptLink, TapeLink};
 use scoop_message::{HandlerId, OutOfMemory};
 use scoop_refusing::Refusing;
@@ -33,7 +34,7 @@ fn passed_on(link: &PacedLink<TapeLink>) -> usize {
 // The link sends one byte, and has then passed on this number of datagrams.
 fn passes_on(rt: &impl Abort, link: &mut PacedLink<TapeLink>, to: Party, byte: u8, wanted: usize) {
     sends(rt, link, to, &[byte]);
-    assert_eq!(rt; passed_on(link), wanted, "{byte}");
+    are_equal_at(rt, passed_on(link), wanted, byte);
 }
 
 #[test]
@@ -85,7 +86,7 @@ fn hears_and_repeats(rt: &impl Abort, link: &mut PacedLink<TapeLink>) {
 }
 
 fn has_sent(rt: &impl Abort, link: &PacedLink<TapeLink>, i: usize, wanted: bool) {
-    assert_eq!(rt; link.inner().sent(i).is_some(), wanted);
+    are_equal(rt, link.inner().sent(i).is_some(), wanted);
 }
 
 #[test]

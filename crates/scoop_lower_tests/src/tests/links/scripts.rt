@@ -4,6 +4,7 @@ ghost use Rattle.std.specs.Prelude.{◌≡◌, ◌-◌, ◌^◌, IsTrue};
 ghost use Rattle.scoop_link.specs.ScriptEnd.{faults_of};
 
 use super::{CLIENT, fails, gets, has_faults, sends};
+use crate::tests::are_equal;
 use scoop_link::{Link, Script, ScriptLink};
 use scoop_message::OutOfMemory;
 use scoop_message::limits::BUFFER_LEN;
@@ -96,5 +97,5 @@ fn the_count_of_calls_stops(rt: HostRuntime) {
 fn ends_without_end_have_no_memory(rt: HostRuntime) {
     let script = Script::default();
     let refused = ScriptLink::pair(rt.alloc(), script, script, usize::MAX).err();
-    assert_eq!(rt; refused, Some(OutOfMemory));
+    are_equal(&rt, refused, Some(OutOfMemory));
 }

@@ -1,6 +1,7 @@
 //! Links over UDP, of this machine.
 
 use super::{CLIENT, HANDLER, fails, gets, has_faults, sends, sends_at_the_last_count};
+use crate::tests::are_equal;
 use scoop_free_ports::free_ports;
 use scoop_link::{Addresses, Link, LinkFault, OpenLinkError, Peers, UdpLink};
 use scoop_message::limits::BUFFER_LEN;
@@ -82,7 +83,7 @@ fn took_a_while<R: Clock>(rt: &R, link: &mut UdpLink) -> Option<bool> {
 fn a_receive_waits(rt: HostRuntime) -> Result<(), Fail> {
     let [own] = free_ports::<_, 1>(&rt)?;
     let mut link = udp(&rt, rt.alloc(), Peers { own, table: &[] });
-    assert_eq!(rt; took_a_while(&rt, &mut link), Some(true));
+    are_equal(&rt, took_a_while(&rt, &mut link), Some(true));
     Ok(())
 }
 
@@ -95,7 +96,7 @@ fn a_receive_waits_unless_it_is_told_not_to(rt: HostRuntime) -> Result<(), Fail>
     let mut tries = 0..100;
     assert!(rt; tries.any(|_| took_a_while(&rt, &mut link) == Some(false)));
     link.set_waits(true);
-    assert_eq!(rt; took_a_while(&rt, &mut link), Some(true));
+    are_equal(&rt, took_a_while(&rt, &mut link), Some(true));
     Ok(())
 }
 
@@ -104,7 +105,11 @@ fn a_port_is_taken_once(rt: HostRuntime) -> Result<(), Fail> {
     let [own] = free_ports::<_, 1>(&rt)?;
     let own = Peers { own, table: &[] };
     let first = udp(&rt, rt.alloc(), own);
-    assert_eq!(rt; refusal(&rt, rt.alloc(), own), Some(OpenLinkError::Fault));
+    are_equal(
+        &rt,
+        refusal(&rt, rt.alloc(), own),
+        Some(OpenLinkError::Fault),
+    );
     has_faults(&rt, &first, 0);
     Ok(())
 }
@@ -116,9 +121,10 @@ fn a_port_is_not_0(rt: HostRuntime) -> Result<(), Fail> {
         own,
         table: &[(CLIENT, other), (HANDLER, 0)],
     };
-    assert_eq!(rt;
+    are_equal(
+        &rt,
         refusal(&rt, rt.alloc(), portless),
-        Some(OpenLinkError::Fault)
+        Some(OpenLinkError::Fault),
     );
     Ok(())
 }
@@ -129,7 +135,7 @@ fn refuses(rt: &impl Abort, link: &mut UdpLink, too_long: &[u8]) {
     sends(rt, link, HANDLER, too_long);
     has_faults(rt, link, 1);
     let refused = sends_at_the_last_count(link, CLIENT, too_long);
-    assert_eq!(rt; refused, Err(LinkFault));
+    are_equal(rt, refused, Err(LinkFault));
     has_faults(rt, link, 2);
 }
 
@@ -200,17 +206,19 @@ fn an_address_is_taken_once_and_has_a_port(rt: HostRuntime) -> Result<(), Fail> 
         table: &[],
     };
     let _first = udp_at(&rt, rt.alloc(), own);
-    assert_eq!(rt;
+    are_equal(
+        &rt,
         refusal_at(&rt, rt.alloc(), own),
-        Some(OpenLinkError::Fault)
+        Some(OpenLinkError::Fault),
     );
     let portless = Addresses {
         own: at(2, other),
         table: &[(CLIENT, at(2, port)), (HANDLER, at(2, 0))],
     };
-    assert_eq!(rt;
+    are_equal(
+        &rt,
         refusal_at(&rt, rt.alloc(), portless),
-        Some(OpenLinkError::Fault)
+        Some(OpenLinkError::Fault),
     );
     Ok(())
 }
@@ -241,12 +249,12 @@ fn each_growth_of_a_table_is_refused(rt: HostRuntime) -> Result<(), Fail> {
     };
     let heap = Refusing::new(rt.alloc(), 1);
     let refused = Some(OpenLinkError::OutOfMemory);
-    assert_eq!(rt; refusal(&rt, &heap, ports), refused);
+    are_equal(&rt, refusal(&rt, &heap, ports), refused);
     heap.refuse(1);
-    assert_eq!(rt; refusal_at(&rt, &heap, addresses), refused);
+    are_equal(&rt, refusal_at(&rt, &heap, addresses), refused);
     heap.refuse(2);
-    assert_eq!(rt; refusal(&rt, &heap, ports), None);
+    are_equal(&rt, refusal(&rt, &heap, ports), None);
     heap.refuse(2);
-    assert_eq!(rt; refusal_at(&rt, &heap, addresses), None);
+    are_equal(&rt, refusal_at(&rt, &heap, addresses), None);
     Ok(())
 }

@@ -3,6 +3,7 @@
 ghost use Rattle.std.specs.Prelude.{◌≡◌, ◌-◌, ◌^◌, length, IsTrue};
 
 use super::{CLIENT, HANDLER, fails, feeds, gets, has_faults, sends, tape};
+use crate::tests::are_equal;
 use scoop_link::{Link, Party, TapeLink};
 use scoop_message::OutOfMemory;
 use std::process::Abort;
@@ -26,7 +27,7 @@ fn has_not_sent(rt: &impl Abort, tape: &TapeLink, i: usize) {
 // The tape is fed, and then has this number of datagrams to give.
 fn comes(rt: &impl Abort, tape: &mut TapeLink, bytes: &[u8], to_come: usize) {
     feeds(rt, tape, bytes);
-    assert_eq!(rt; tape.to_come(), to_come);
+    are_equal(rt, tape.to_come(), to_come);
 }
 
 #[test]
@@ -84,8 +85,9 @@ fn a_tape_without_room_fails_until_its_count_is_full(rt: HostRuntime) {
 
 #[test]
 fn a_tape_without_end_has_no_memory(rt: HostRuntime) {
-    assert_eq!(rt;
+    are_equal(
+        &rt,
         TapeLink::new(rt.alloc(), usize::MAX).err(),
-        Some(OutOfMemory)
+        Some(OutOfMemory),
     );
 }

@@ -1,5 +1,6 @@
 //! The examples of RFC 4231.
 
+use crate::tests::are_equal_at;
 use hex::FromHex;
 use scoop_seal::hmac;
 use std::process::Abort;
@@ -53,7 +54,7 @@ block-size data. The key needs to be hashed before being used by the HMAC algori
 fn has_code(rt: &impl Abort, row: Row) -> Result<(), Fail> {
     let (key, message, wanted) = row;
     let wanted = <[u8; 32] as FromHex>::from_hex(wanted)?;
-    assert_eq!(rt; hmac(key, message), wanted, "{message:?}");
+    are_equal_at(rt, hmac(key, message), wanted, message);
     Ok(())
 }
 

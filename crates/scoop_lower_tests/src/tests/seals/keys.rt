@@ -1,6 +1,7 @@
 //! Keys as text.
 
 use super::BYTES;
+use crate::tests::are_equal;
 use crate::tests::links::{HANDLER, sends, tape};
 use scoop_link::TapeLink;
 use scoop_seal::{Key, KeyError, SealedLink, TAG_LEN, hmac};
@@ -59,7 +60,7 @@ fn is_read(rt: &impl Abort, alloc: Global, end: &[u8]) {
 fn is_refused(rt: &impl Abort, digits: &[u8], end: &[u8], wanted: KeyError) {
     let mut buffer = [0; 70];
     let refused = refusal(text_of(&mut buffer, digits, end));
-    assert_eq!(rt; refused, Some(wanted));
+    are_equal(rt, refused, Some(wanted));
 }
 
 #[test]
@@ -86,9 +87,10 @@ fn other_texts_are_no_keys(rt: HostRuntime) {
 #[test]
 fn refusals_reveal_nothing_of_the_key(rt: HostRuntime) -> Result<(), Fail> {
     let text = format!(in rt.alloc(); "{}, {}", KeyError::Length, KeyError::Digit)?;
-    assert_eq!(rt;
+    are_equal(
+        &rt,
         text.as_str(),
-        "a key has 64 hex digits, a key has hex digits alone"
+        "a key has 64 hex digits, a key has hex digits alone",
     );
     Ok(())
 }

@@ -3,6 +3,7 @@
 ghost use Rattle.std.specs.Prelude.{◌≡◌, ◌-◌, ◌^◌, None};
 
 use super::BYTES;
+use crate::tests::are_equal;
 use crate::tests::links::{CLIENT, HANDLER, fails, feeds, gets, has_faults, sends, tape};
 use scoop_free_ports::free_ports;
 use scoop_link::{Link, LinkFault, PacedLink, Party, Peers, TapeLink, UdpLink};
@@ -31,7 +32,7 @@ fn sealed(tape: TapeLink) -> SealedLink<TapeLink> {
 }
 
 fn has_refused<L: Link>(rt: &impl Abort, link: &SealedLink<L>, refused: u64) {
-    assert_eq!(rt; link.refused(), refused);
+    are_equal(rt, link.refused(), refused);
 }
 
 // The link has sent these bytes, and nothing else.
@@ -108,7 +109,7 @@ fn feeds_forged(rt: &impl Abort, tape: &mut TapeLink) {
 
 fn gets_nothing(rt: &impl Abort, link: &mut SealedLink<TapeLink>) {
     let mut buffer = [0; BUFFER_LEN];
-    assert_eq!(rt; link.receive(&mut buffer), Ok(Some(0)));
+    are_equal(rt, link.receive(&mut buffer), Ok(Some(0)));
 }
 
 #[test]
@@ -126,7 +127,7 @@ fn forged_datagrams_are_refused_and_the_link_goes_on(rt: HostRuntime) {
 fn feeds_sent(rt: &impl Abort, tape: &mut TapeLink, link: &SealedLink<TapeLink>, len: usize) {
     match link.inner().sent(0) {
         Some((_, sent)) => {
-            assert_eq!(rt; sent.len(), len);
+            are_equal(rt, sent.len(), len);
             feeds(rt, tape, sent);
         }
         None => panic!(rt; "nothing sent"),
@@ -209,7 +210,7 @@ fn receives(link: &mut SealedLink<TapeLink>) -> Result<Option<usize>, LinkFault>
 }
 
 fn receives_nothing(rt: &impl Abort, link: &mut SealedLink<TapeLink>) {
-    assert_eq!(rt; receives(link), Ok(None));
+    are_equal(rt, receives(link), Ok(None));
 }
 
 #[test]
@@ -285,7 +286,7 @@ fn a_seal_is_opened_by_the_key(rt: HostRuntime) -> Result<(), Fail> {
     let mut link = SealedLink::new(TapeLink::new(alloc, 1)?, key);
     link.send(HANDLER, b"lock")?;
     let (_, sealed) = link.inner().sent(0).ok_or("nothing sent")?;
-    assert_eq!(rt; sealed.len(), 4 + TAG_LEN);
+    are_equal(&rt, sealed.len(), 4 + TAG_LEN);
     opens(&rt, alloc, key, sealed)
 }
 
@@ -297,8 +298,8 @@ fn opens(rt: &impl Abort, alloc: Global, key: Key, sealed: &[u8]) -> Result<(), 
     tape.feed(sealed)?;
     let mut other = SealedLink::new(tape, key);
     let mut buffer = [0; BUFFER_LEN];
-    assert_eq!(rt; other.receive(&mut buffer), Ok(Some(4)));
+    are_equal(rt, other.receive(&mut buffer), Ok(Some(4)));
     assert!(rt; buffer.starts_with(b"lock"));
-    assert_eq!(rt; other.refused(), 1);
+    are_equal(rt, other.refused(), 1);
     Ok(())
 }
