@@ -1,6 +1,6 @@
--- The plan of a node, by the file of its system.
+-- The plan of a node, by the file of its system, and where it stands.
 use Rattle.std.specs.Prelude.{◌≡◌, ℕ, List, map, Some}
-use Rattle.std.specs.List.{AllZip}
+use Rattle.std.specs.List.{AllZip, Contains}
 use Rattle.scoop_system.specs.declared.place.NodePlace.{NodePlace}
 use Rattle.scoop_system.specs.declared.place.HandlerPlace.{HandlerPlace}
 use Rattle.scoop_system.specs.Known.{handlers_on}
@@ -17,6 +17,11 @@ pub record IsMemberOf (s : Plan) (h : HandlerPlace) (m : Member) : Type 0 where
 -- the members are the handlers that the file places on the node of this number, in the file's order
 abbrev pub AreMembersOf : Plan → ℕ → List Member → Type 0
 AreMembersOf s number members = AllZip (IsMemberOf s) (handlers_on number s.handlers) members
+
+-- the place is that of the node, at one of its addresses
+pub record StandsAt (node place : NodePlace) : Type 0 where
+  pub same : place ≡ record node { address = place.address }
+  pub own : Contains node.addresses place.address
 
 -- the plan is that of the node at this place
 pub record IsPlanOf {O B : Type 0} (s : Plan) (place : NodePlace) (p : NodePlan O B) : Type 0 where

@@ -1,5 +1,9 @@
 //! The links of nodes and clients.
 
+ghost use Rattle.std.specs.Prelude.{IfOk};
+ghost use Rattle.std.specs.List.{Contains};
+ghost use Rattle.scoop_runtime.specs.Members.{StandsAt};
+
 use scoop_errors::PartyError;
 use scoop_link::{Addresses, OpenLinkError, Party, UdpLink};
 use scoop_message::OutOfMemory;
@@ -14,7 +18,9 @@ fn open_link<R: Net>(
     alloc: Global,
     own: &[SocketAddr],
     table: &[(Party, SocketAddr)],
-) -> Result<(UdpLink, SocketAddr), RuntimeError> {
+) -> Result<(UdpLink, SocketAddr), RuntimeError>
+    ensures { IfOk result (λ r. Contains own.now r.1) }
+{
     for address in own {
         let addresses = Addresses {
             own: *address,
@@ -36,7 +42,9 @@ pub fn open_node_link<R: Net>(
     alloc: Global,
     system: &System,
     node: &NodePlace,
-) -> Result<(UdpLink, NodePlace), RuntimeError> {
+) -> Result<(UdpLink, NodePlace), RuntimeError>
+    ensures { IfOk result (λ r. StandsAt node.now r.1) }
+{
     let mut table = Vec::new(alloc);
     for place in system.clients() {
         let entry = (Party::Client(place.client), place.address);

@@ -72,8 +72,10 @@ fn node_link<R: Net>(
     number: u32,
 ) -> Option<Result<UdpLink, RuntimeError>> {
     let place = system.node(number)?;
-    let opened = open_node_link(rt, alloc, system, place);
-    Some(opened.map(|(link, _)| link))
+    match open_node_link(rt, alloc, system, place) {
+        Ok((link, _)) => Some(Ok(link)),
+        Err(error) => Some(Err(error)),
+    }
 }
 
 /// Serves a node over this link, for `turns` or until it is asked to end. Returns its keeper or its error, and its output.

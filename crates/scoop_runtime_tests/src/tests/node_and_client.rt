@@ -7,7 +7,7 @@ use scoop_free_ports::free_ports;
 use scoop_keeper::MemoryKeeper;
 use scoop_link::UdpLink;
 use scoop_message::{Block, ClientId, HandlerId};
-use scoop_runtime::{Ending, Progress, RuntimeError, Unended};
+use scoop_runtime::{Ending, Progress, RuntimeError, Unended, open_node_link};
 use scoop_seal::{Key, SealedLink};
 use scoop_system::{LineFault, ShownWord, System};
 use std::alloc::Global;
@@ -460,4 +460,47 @@ fn a_port_in_use_is_reported(rt: HostRuntime) -> Result<(), Fail> {
     let system = accounts(&rt, alloc)?;
     opens_once(&rt, alloc, &system);
     Ok(())
+}
+
+// A node with an address of no machine and two of this one.
+const PLACES: &str = "\
+[[node]]
+number = 1
+address = [\"192.0.2.1:9\", \"127.0.0.1:FIRST\", \"127.0.0.1:SECOND\"]
+";
+
+// Opens the node's link, which is bound to this port.
+fn stands_at<R: Net + Abort>(
+    rt: &R,
+    alloc: Global,
+    system: &System,
+    port: u16,
+) -> Result<UdpLink, Fail> {
+    let node = system.node(1).ok_or("no node")?;
+    let (link, place) = open_node_link(rt, alloc, system, node)?;
+    assert_eq!(rt; place.address.port(), port);
+    Ok(link)
+}
+
+fn stands_in_turn<R: Net + Abort>(
+    rt: &R,
+    alloc: Global,
+    system: &System,
+    first: u16,
+    second: u16,
+) -> Result<(), Fail> {
+    let _first = stands_at(rt, alloc, system, first)?;
+    let _second = stands_at(rt, alloc, system, second)?;
+    let again = node_link(rt, alloc, system, 1).ok_or("no node")?;
+    assert_eq!(rt; again.err(), Some(RuntimeError::Ended(PartyError::NoLink)));
+    Ok(())
+}
+
+#[test]
+fn a_node_stands_at_its_first_free_address(rt: HostRuntime) -> Result<(), Fail> {
+    let alloc = rt.alloc();
+    let [first, second] = free_ports::<_, 2>(&rt)?;
+    let text = with_ports(alloc, PLACES, &["FIRST", "SECOND"], &[first, second])?;
+    let system = System::read(alloc, &text)?;
+    stands_in_turn(&rt, alloc, &system, first, second)
 }
