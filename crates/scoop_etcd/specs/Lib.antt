@@ -1,0 +1,3 @@
+pub mod Etcd
+pub mod Keys
+pub mod Packed

@@ -1,0 +1,62 @@
+//! The contract of every etcd.
+
+ghost use Rattle.std.specs.Prelude.{◌≡◌, IfOk, OnErr};
+ghost use Rattle.scoop_etcd.specs.Etcd.{Contents, Answers, Finds};
+
+use scoop_etcd_calls::{Found, Outcome, Range, Txn};
+use thiserror::Error;
+
+/// Why a call of an etcd has no answer.
+#[derive(Clone, Copy, Debug, PartialEq, Eq, Error)]
+pub enum EtcdError {
+    /// A growth of memory was refused.
+    #[error("out of memory")]
+    OutOfMemory,
+    /// The etcd gave no answer within the time.
+    #[error("the etcd can't be reached")]
+    Unreachable,
+    /// The etcd has used up its quota of disk space.
+    #[error("the etcd has no space left")]
+    NoSpace,
+    /// The etcd refused the call for another reason.
+    #[error("the etcd refused the call")]
+    Refused,
+    /// What came is no answer to the call.
+    #[error("the etcd's answer can't be read")]
+    BadAnswer,
+}
+
+/// A store of bytes under keys, on a server that other programs write too.
+///
+/// Contracts see what stands on the server after the last call. A call that returns an error has changed nothing, as far as
+/// the caller knows: the server may have made a transaction whose answer was lost. A transaction that was made so counts
+/// as another's, and so does one whose fate could not be found out. From then on the caller isn't alone, and what is said
+/// of one that is alone no longer speaks. What an honest server's answers say holds all the same.
+pub trait Etcd: Drop {
+    // What stands on the server.
+    ghost contents: { Self → Contents };
+
+    // The server does what it answers, and keeps what it answered.
+    ghost is_honest: { Self → Type 0 };
+
+    // Only this caller has written since it began, and no transaction of its own was made that it saw fail.
+    ghost is_alone: { Self → Type 0 };
+
+    /// The pairs of the keys that the range asks for.
+    ///
+    /// Refused, with the errors of [`EtcdError`].
+    fn range(&mut self, range: &Range) -> Result<Found, EtcdError>
+        ensures found { is_honest self.new → IfOk result (Finds (contents self.new) range.now) }
+        ensures stays { is_alone self.new → contents self.new ≡ contents self.old }
+        ensures honest { is_honest self.new → is_honest self.old }
+        ensures alone { is_alone self.new → is_alone self.old };
+
+    /// Makes the transaction: if all comparisons hold, all puts in one step. It puts each key once at most.
+    ///
+    /// Refused, with the errors of [`EtcdError`].
+    fn transact(&mut self, txn: &Txn) -> Result<Outcome, EtcdError>
+        ensures answered { is_honest self.new → IfOk result (Answers (is_alone self.new) (contents self.old) (contents self.new) txn.now) }
+        ensures stays { is_alone self.new → OnErr result (contents self.new ≡ contents self.old) }
+        ensures honest { is_honest self.new → is_honest self.old }
+        ensures alone { is_alone self.new → is_alone self.old };
+}

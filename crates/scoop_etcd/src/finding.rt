@@ -1,0 +1,27 @@
+//! Reads of one key.
+
+ghost use Rattle.std.specs.Prelude.{◌≡◌, IfOk, option_map};
+ghost use Rattle.scoop_etcd.specs.Etcd.{kept_of};
+
+use crate::etcd::{Etcd, EtcdError};
+use scoop_etcd_calls::{Pair, Range};
+use std::alloc::Global;
+
+/// What stands under the key, `None` if there is nothing. Refused with the errors of a range.
+pub(crate) fn find<E: Etcd>(
+    alloc: Global,
+    etcd: &mut E,
+    key: &[u8],
+) -> Result<Option<Pair>, EtcdError>
+    ensures found { E.is_honest etcd.new → IfOk result (λ pair. (E.contents etcd.new).under key.now ≡ option_map kept_of pair) }
+    ensures stays { E.is_alone etcd.new → E.contents etcd.new ≡ E.contents etcd.old }
+    ensures honest { E.is_honest etcd.new → E.is_honest etcd.old }
+    ensures alone { E.is_alone etcd.new → E.is_alone etcd.old }
+{
+    let Ok(from) = Vec::from_slice(alloc, key) else {
+        return Err(EtcdError::OutOfMemory);
+    };
+    let found = etcd.range(&Range { from, to: None })?;
+    let mut pairs = found.pairs;
+    Ok(pairs.pop())
+}

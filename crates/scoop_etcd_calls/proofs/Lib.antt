@@ -1,0 +1,3 @@
+mod AskingLemmas
+mod AnswerLemmas
+pub mod RoundTrip

@@ -1,0 +1,4 @@
+pub mod Asking
+pub mod Stored
+pub mod Answer
+pub mod Written

@@ -1,0 +1,58 @@
+-- What stands on a server after some calls, and what an honest server answers.
+use Rattle.std.specs.Prelude.{◌≡◌, true, List, [], ◌∷◌, ◌++◌, Ok, string_bytes, ⊤}
+use Rattle.serde_json.specs.Written.{compact_text}
+use Rattle.scoop_etcd_calls.specs.declared.calls.Range.{Range}
+use Rattle.scoop_etcd_calls.specs.declared.calls.Found.{Found}
+use Rattle.scoop_etcd_calls.specs.declared.calls.Txn.{Txn}
+use Rattle.scoop_etcd_calls.specs.declared.calls.Outcome.{Outcome}
+use Rattle.scoop_etcd_calls.specs.Asking.{range_data, txn_data}
+use Rattle.scoop_etcd_calls.specs.Stored.{listed}
+use Rattle.scoop_etcd_calls.specs.Answer.{found_in, outcome_in}
+use Rattle.scoop_etcd.specs.Etcd.{Contents, Finds, Answers}
+use Rattle.scoop_etcd_gateway.specs.declared.call.Call.{Call}
+use Rattle.scoop_etcd_gateway.specs.declared.call.Call.TheVariants.{Ranges, Transacts}
+use Rattle.scoop_etcd_gateway.specs.declared.call.Answer.{Answer}
+use Rattle.scoop_etcd_gateway.specs.declared.call.Answer.TheVariants.{Body, Made, Lost}
+
+-- calls with their answers, one after another
+abbrev pub Calls : Type 0
+Calls = List (Call × Answer)
+
+-- what stands on a server after some calls
+abbrev pub History : Type 0
+History = Calls → Contents
+
+-- the call may have changed what stands there
+abbrev pub MayWrite : Call → Answer → Type 0
+MayWrite (Ranges text) answer = ⊥
+MayWrite (Transacts text) (Body body) = ⊤
+MayWrite (Transacts text) (Made revision) = ⊤
+MayWrite (Transacts text) Lost = ⊥
+
+-- Before these calls and after each, no other program has written: a call that may not have changed what stands there left it.
+abbrev pub IsAlone : History → Calls → Type 0
+IsAlone after calls =
+    (front : Calls) (call : Call) (answer : Answer) (back : Calls) → calls ≡ front ++ (call, answer) ∷ back → (MayWrite call answer → ⊥)
+    → after (front ++ (call, answer) ∷ []) ≡ after front
+
+-- the answer to a call after those in front is what stands there, and what the call does to it
+abbrev pub Fits : History → Calls → Call → Answer → Type 0
+Fits after front (Ranges text) (Body body) =
+    (range : Range) (found : Found) → string_bytes text ≡ compact_text (range_data range) → found_in body.items ≡ Ok (listed found)
+    → Finds (after (front ++ (Ranges text, Body body) ∷ [])) range found
+Fits after front (Ranges text) (Made revision) = ⊤
+Fits after front (Ranges text) Lost = ⊤
+Fits after front (Transacts text) (Body body) =
+    let all = front ++ (Transacts text, Body body) ∷ [] in
+    (txn : Txn) (outcome : Outcome) → string_bytes text ≡ compact_text (txn_data txn) → outcome_in body.items ≡ Ok outcome
+    → Answers (IsAlone after all) (after front) (after all) txn outcome
+Fits after front (Transacts text) (Made revision) =
+    let all = front ++ (Transacts text, Made revision) ∷ [] in
+    (txn : Txn) → string_bytes text ≡ compact_text (txn_data txn)
+    → Answers (IsAlone after all) (after front) (after all) txn (record { succeeded = true; revision = revision })
+Fits after front (Transacts text) Lost = ⊤
+
+-- the server is honest: each answer fits
+abbrev pub IsHonest : History → Calls → Type 0
+IsHonest after calls =
+    (front : Calls) (call : Call) (answer : Answer) (back : Calls) → calls ≡ front ++ (call, answer) ∷ back → Fits after front call answer

@@ -1,0 +1,5 @@
+pub mod History
+pub mod Fate
+pub mod Post
+pub mod Refusal
+pub mod Told

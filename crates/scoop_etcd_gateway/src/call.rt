@@ -1,0 +1,21 @@
+//! Calls and their answers, as clauses see them.
+
+/// What was sent.
+#[derive(Drop)]
+pub enum Call {
+    /// A range, by the body of its request.
+    Ranges(String),
+    /// A transaction, by the body of its request.
+    Transacts(String),
+}
+
+/// What came of a call.
+#[derive(Drop)]
+pub enum Answer {
+    /// The body of the response.
+    Body(Vec<u8>),
+    /// The answer was lost, and a look-up found that the transaction was made at this revision.
+    Made(u64),
+    /// The answer was lost, and the transaction may have been made.
+    Lost,
+}
