@@ -1,1 +1,5 @@
 pub mod PackedLemmas
+pub mod KeyLemmas
+pub mod IncarnationLemmas
+pub mod StateLemmas
+pub mod StoreLemmas

@@ -1,7 +1,7 @@
 //! Reads of one key.
 
 ghost use Rattle.std.specs.Prelude.{◌≡◌, IfOk, option_map};
-ghost use Rattle.scoop_etcd.specs.Etcd.{kept_of};
+ghost use Rattle.scoop_etcd.specs.Etcd.{kept_of, revision_of};
 
 use crate::etcd::{Etcd, EtcdError};
 use scoop_etcd_calls::{Pair, Range};
@@ -24,4 +24,14 @@ pub(crate) fn find<E: Etcd>(
     let found = etcd.range(&Range { from, to: None })?;
     let mut pairs = found.pairs;
     Ok(pairs.pop())
+}
+
+/// The revision of what was found, 0 if nothing was.
+pub(crate) fn revision_of(found: &Option<Pair>) -> u64
+    ensures { result ≡ revision_of (option_map kept_of found.now) }
+{
+    match found {
+        Some(pair) => pair.revision,
+        None => 0,
+    }
 }

@@ -1,18 +1,18 @@
 //! The value under a handler's key.
 
-ghost use Rattle.std.specs.Prelude.{◌≡◌, IfOk};
-ghost use Rattle.scoop_etcd.specs.Packed.{packed, SplitsAt};
+ghost use Rattle.std.specs.Prelude.{◌≡◌, ◌≤◌, length, IfOk, IfSome};
+ghost use Rattle.scoop_etcd.specs.Packed.{IsPacked, SplitsAt};
 
 use scoop_frame::u64_at;
 use scoop_message::OutOfMemory;
 use std::alloc::Global;
 
-// Bytes of the image's length.
-const FRONT_LEN: usize = 8;
+/// Bytes of the image's length.
+pub(crate) const FRONT_LEN: usize = 8;
 
 /// The value of an image and the pending entries. `OutOfMemory` is the one refusal.
 pub(crate) fn pack(alloc: Global, image: &[u8], entries: &[u8]) -> Result<Vec<u8>, OutOfMemory>
-    ensures { IfOk result (λ value. value.items ≡ packed image.now entries.now) }
+    ensures { IfOk result (λ value. IsPacked value.items image.now entries.now) }
 {
     let len = image.len() as u64;
     let mut value = Vec::from_slice(alloc, &len.to_be_bytes())?;
@@ -23,7 +23,8 @@ pub(crate) fn pack(alloc: Global, image: &[u8], entries: &[u8]) -> Result<Vec<u8
 
 /// The place at which the pending entries begin. `None` exactly if the value is none of an image and entries.
 pub(crate) fn split_place(value: &[u8]) -> Option<usize>
-    ensures { SplitsAt value.now result }
+    ensures place { SplitsAt value.now result }
+    ensures within { IfSome result (λ at. (8 ≤ at) × (at ≤ length value.now)) }
 {
     if value.len() < FRONT_LEN {
         return None;

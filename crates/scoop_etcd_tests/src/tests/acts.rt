@@ -1,0 +1,107 @@
+//! Calls of a store, as rows with the expected results.
+
+use super::scripted::{Event, ScriptedEtcd};
+use scoop_etcd::{EtcdStore, OpenError, Owner, StoreFault};
+use scoop_handler::HandlerState;
+use scoop_keeper::{Keeper, KeeperError};
+use scoop_message::{ClientId, HandlerId, Words};
+use scoop_queue::QueueOfQueues;
+use std::alloc::Global;
+use std::process::Abort;
+use std::test::Fail;
+
+/// The owner of the tests' store.
+pub const OWNER: Owner = Owner::Node(1);
+
+/// A call of a store, with its expected result.
+#[derive(Clone, Copy)]
+pub enum Act {
+    /// Puts the state of this handler with this word.
+    Put(u32, u64),
+    /// A put that is refused.
+    NoPut,
+    /// Commits what was put.
+    Commit(Result<(), KeeperError>),
+    /// Loads the word of this handler.
+    Load(u32, Result<Option<u64>, KeeperError>),
+    /// The client's next incarnation.
+    Next(u32, Result<u32, KeeperError>),
+    /// Why the last call was refused.
+    Fault(Option<StoreFault>),
+}
+
+/// The state of a handler that no client has greeted, with one word.
+pub fn state(alloc: Global, handler: u32, word: u64) -> Result<HandlerState, Fail> {
+    let words = Words::of(&[word])?;
+    let queues = QueueOfQueues::new(alloc);
+    Ok(HandlerState::of(alloc, HandlerId(handler), words, None, &[], queues)?)
+}
+
+/// The word of the handler's state, as it is loaded.
+fn word<K: Keeper<Global>>(keeper: &mut K, handler: u32) -> Result<Option<u64>, KeeperError> {
+    match keeper.load_handler(HandlerId(handler)) {
+        Ok(Some(state)) => Ok(state.words().get(0)),
+        Ok(None) => Ok(None),
+        Err(error) => Err(error),
+    }
+}
+
+/// Makes the call, and returns whether its result is the expected one.
+fn acts(alloc: Global, store: &mut EtcdStore<ScriptedEtcd>, act: Act) -> Result<bool, Fail> {
+    Ok(match act {
+        Act::Put(handler, number) => store.put_handler(&state(alloc, handler, number)?).is_ok(),
+        Act::NoPut => store.put_handler(&state(alloc, 1, 0)?) == Err(KeeperError::Refused),
+        Act::Commit(done) => store.commit() == done,
+        Act::Load(handler, found) => word(store, handler) == found,
+        Act::Next(client, next) => store.next_incarnation(ClientId(client)) == next,
+        Act::Fault(fault) => store.fault() == fault,
+    })
+}
+
+/// All calls of the store have their expected results.
+pub fn plays(
+    rt: &impl Abort,
+    alloc: Global,
+    store: &mut EtcdStore<ScriptedEtcd>,
+    rows: &[Act],
+) -> Result<(), Fail> {
+    for (i, act) in rows.iter().enumerate() {
+        assert!(rt; acts(alloc, store, *act)?, "act {i}");
+    }
+    Ok(())
+}
+
+/// A new store over an etcd with this script, after these calls; its etcd is returned.
+pub fn created(
+    rt: &impl Abort,
+    alloc: Global,
+    script: &'static [Event],
+    rows: &[Act],
+) -> Result<ScriptedEtcd, Fail> {
+    let etcd = ScriptedEtcd::new(alloc, script);
+    let mut store = EtcdStore::create(alloc, etcd, "shop", OWNER, [7; 16])?;
+    plays(rt, alloc, &mut store, rows)?;
+    Ok(store.into_etcd())
+}
+
+/// The store that is there, taken over, after these calls; its etcd is returned.
+pub fn opened(
+    rt: &impl Abort,
+    alloc: Global,
+    etcd: ScriptedEtcd,
+    rows: &[Act],
+) -> Result<ScriptedEtcd, Fail> {
+    let mut store = EtcdStore::open(alloc, etcd, "shop", OWNER, [8; 16])?;
+    plays(rt, alloc, &mut store, rows)?;
+    Ok(store.into_etcd())
+}
+
+/// Why no store of this name is made, if none is.
+pub fn not_created(alloc: Global, etcd: ScriptedEtcd, name: &str) -> Option<OpenError> {
+    EtcdStore::create(alloc, etcd, name, OWNER, [7; 16]).err()
+}
+
+/// Why no store of this name is taken over, if none is.
+pub fn not_opened(alloc: Global, etcd: ScriptedEtcd, name: &str) -> Option<OpenError> {
+    EtcdStore::open(alloc, etcd, name, OWNER, [8; 16]).err()
+}

@@ -1,0 +1,96 @@
+//! An etcd whose answers are lost, or that another program writes, at some of its transactions.
+
+use super::memory::Memory;
+use scoop_etcd::{Etcd, EtcdError};
+use scoop_etcd_calls::{Found, Outcome, Put, Range, Txn};
+use std::alloc::Global;
+
+/// What happens to a transaction.
+#[derive(Clone, Copy, Debug, PartialEq, Eq)]
+pub enum Event {
+    /// It is made and answered.
+    Answered,
+    /// It is made, and its answer is lost.
+    AnswerLost,
+    /// It is lost, and not made.
+    Lost,
+    /// Another program puts its own token first, as it does when it takes the store over.
+    TakenOver,
+}
+
+/// An etcd in memory with an event for each of the first transactions. The later ones are answered. It counts the transactions
+/// and the ranges.
+#[derive(Drop)]
+pub struct ScriptedEtcd {
+    inner: Memory,
+    alloc: Global,
+    script: &'static [Event],
+    transactions: usize,
+    ranges: usize,
+}
+
+/// The key at which another program puts its token.
+const OWNER: &[u8] = b"shop/owner/node/1";
+
+impl ScriptedEtcd {
+    pub fn new(alloc: Global, script: &'static [Event]) -> ScriptedEtcd {
+        ScriptedEtcd {
+            inner: Memory::new(alloc),
+            alloc,
+            script,
+            transactions: 0,
+            ranges: 0,
+        }
+    }
+
+    /// How many transactions and how many ranges were asked.
+    pub fn calls(&self) -> (usize, usize) {
+        (self.transactions, self.ranges)
+    }
+
+    /// Puts a value, as another program does.
+    pub fn put(&mut self, key: &[u8], value: &[u8]) -> Result<Outcome, EtcdError> {
+        let txn = Txn {
+            compares: Vec::new(self.alloc),
+            puts: vec![in self.alloc; Put {
+                key: Vec::from_slice(self.alloc, key)?,
+                value: Vec::from_slice(self.alloc, value)?,
+            }]?,
+        };
+        self.inner.transact(&txn)
+    }
+}
+
+impl Etcd for ScriptedEtcd {
+    ghost use Rattle.std.specs.Prelude.{None};
+    ghost use Rattle.scoop_etcd.specs.Etcd.{contents};
+
+    // What it does is a script's, of which nothing is promised.
+    ghost contents = { λ _. contents 0 (λ _. None) };
+
+    ghost is_honest = { λ _. ⊥ };
+
+    ghost is_alone = { λ _. ⊥ };
+
+    fn range(&mut self, range: &Range) -> Result<Found, EtcdError> {
+        self.ranges = self.ranges.wrapping_add(1);
+        self.inner.range(range)
+    }
+
+    fn transact(&mut self, txn: &Txn) -> Result<Outcome, EtcdError> {
+        let event = self.script.get(self.transactions).copied().unwrap_or(Event::Answered);
+        self.transactions = self.transactions.wrapping_add(1);
+        match event {
+            Event::Answered => self.inner.transact(txn),
+            Event::AnswerLost => {
+                let _ = self.inner.transact(txn)?;
+                Err(EtcdError::Unreachable)
+            }
+            Event::Lost => Err(EtcdError::Unreachable),
+            Event::TakenOver => {
+                let _ = self.put(OWNER, b"another")?;
+                self.inner.transact(txn)
+            }
+        }
+    }
+}
