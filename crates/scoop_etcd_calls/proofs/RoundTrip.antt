@@ -19,7 +19,7 @@ use Rattle.scoop_etcd_calls.specs.declared.fault.Field.{Field}
 use Rattle.scoop_etcd_calls.specs.declared.fault.Field.TheVariants.{Revision, Key, Value, ModRevision}
 use Rattle.scoop_etcd_calls.specs.declared.fault.AnswerFault.TheVariants.{NotAnObject, NotANumber}
 use Rattle.scoop_etcd_calls.specs.Stored.{Stored, Listed}
-use Rattle.scoop_etcd_calls.specs.Answer.{decoded, some_bytes, number_of, above_zero, key_at, bytes_at, revision_at, stored_at, pair_of, list_of, header_at, ascending, pairs_at, listed_at, outcome_at, if_object}
+use Rattle.scoop_etcd_calls.specs.Answer.{decoded, some_bytes, number_of, above_zero, key_at, bytes_at, revision_at, pair_of, list_of, header_at, ascending, pairs_at, listed_at, outcome_at, if_object}
 use Rattle.scoop_etcd_calls.specs.Written.{IsRevision, IsStored, IsListed, pair_data, listed_data, outcome_data}
 
 then : {E A B : Type 0} (r : Read E A) (f : A → Read E B) (x : A) → r ≡ Ok x → (r >>= f) ≡ f x

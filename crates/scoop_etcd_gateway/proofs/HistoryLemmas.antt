@@ -1,5 +1,5 @@
 -- One call more.
-use Rattle.std.proofs.Common.{◌≡◌, List, [], ◌∷◌, ◌++◌, ◌∙◌, refl, sym, ap, subst, append_assoc, Ok, Err, Result, IfOk, OnErr, String, Global, string_bytes}
+use Rattle.std.proofs.Common.{◌≡◌, [], ◌∷◌, ◌++◌, ◌∙◌, refl, sym, ap, subst, append_assoc, Ok, Err, Result, IfOk, OnErr, String, Global, string_bytes}
 use Rattle.serde_json.specs.Written.{compact_text}
 use Rattle.scoop_etcd_calls.specs.declared.calls.Range.{Range}
 use Rattle.scoop_etcd_calls.specs.declared.calls.Found.{Found}
@@ -13,7 +13,7 @@ use Rattle.scoop_etcd_gateway.specs.declared.call.Call.TheVariants.{Ranges, Tran
 use Rattle.scoop_etcd_gateway.specs.declared.call.Answer.{Answer}
 use Rattle.scoop_etcd_gateway.specs.declared.call.Answer.TheVariants.{Body, Made, Lost}
 use Rattle.scoop_etcd_gateway.specs.Told.{TellsFound, TellsOutcome, Tells}
-use Rattle.scoop_etcd_gateway.specs.History.{Calls, History, MayWrite, IsAlone, Fits, IsHonest}
+use Rattle.scoop_etcd_gateway.specs.History.{Calls, History, WritesAlone, IsAlone, Fits, IsHonest}
 
 one_more : (calls front : Calls) (x y : Call × Answer) (back : Calls) → calls ≡ front ++ x ∷ back → calls ++ y ∷ [] ≡ front ++ x ∷ (back ++ y ∷ [])
 one_more calls front x y back is = ap (λ (cs : Calls). cs ++ y ∷ []) is ∙ append_assoc front (x ∷ back) (y ∷ [])
@@ -28,7 +28,7 @@ module _ (after : History) (calls : Calls) (call : Call) (answer : Answer) where
   pub alone_before : IsAlone after (calls ++ (call, answer) ∷ []) → IsAlone after calls
   alone_before alone = λ front c a back is. alone front c a (back ++ (call, answer) ∷ []) (one_more calls front (c, a) (call, answer) back is)
 
-  pub alone_last : IsAlone after (calls ++ (call, answer) ∷ []) → (MayWrite call answer → ⊥) → after (calls ++ (call, answer) ∷ []) ≡ after calls
+  pub alone_last : IsAlone after (calls ++ (call, answer) ∷ []) → WritesAlone after calls call answer
   alone_last alone = alone calls call answer [] refl
 
 -- a range that was answered
@@ -42,7 +42,7 @@ range_finds after calls range (Transacts text) answer found told honest = absurd
 -- a range left what stood there
 pub range_leaves : (after : History) (calls : Calls) (range : Range) (call : Call) (answer : Answer) (found : Found) → TellsFound range call answer found
     → IsAlone after (calls ++ (call, answer) ∷ []) → after (calls ++ (call, answer) ∷ []) ≡ after calls
-range_leaves after calls range (Ranges text) answer found told alone = alone_last after calls (Ranges text) answer alone (λ writes. writes)
+range_leaves after calls range (Ranges text) answer found told alone = alone_last after calls (Ranges text) answer alone
 range_leaves after calls range (Transacts text) answer found told alone = absurd told
 
 transacted : (after : History) (calls : Calls) (txn : Txn) (text : String Global) (answer : Answer) (outcome : Outcome)
@@ -67,7 +67,7 @@ lost_leaves : (after : History) (calls : Calls) (text : String Global) (answer :
     → IsAlone after (calls ++ (Transacts text, answer) ∷ []) → after (calls ++ (Transacts text, answer) ∷ []) ≡ after calls
 lost_leaves after calls text (Body body) error told alone = absurd told
 lost_leaves after calls text (Made revision) error told alone = absurd told
-lost_leaves after calls text Lost error told alone = alone_last after calls (Transacts text) Lost alone (λ writes. writes)
+lost_leaves after calls text Lost error told alone = alone_last after calls (Transacts text) Lost alone
 
 -- a transaction that failed left what stood there
 pub txn_leaves : (after : History) (calls : Calls) (txn : Txn) (call : Call) (answer : Answer) (outcome : Result Outcome EtcdError) → Tells txn call answer outcome

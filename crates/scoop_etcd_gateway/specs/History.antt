@@ -1,5 +1,5 @@
 -- What stands on a server after some calls, and what an honest server answers.
-use Rattle.std.specs.Prelude.{◌≡◌, true, List, [], ◌∷◌, ◌++◌, Ok, string_bytes, ⊤}
+use Rattle.std.specs.Prelude.{◌≡◌, ℕ, true, List, [], ◌∷◌, ◌++◌, Ok, string_bytes, ⊤}
 use Rattle.serde_json.specs.Written.{compact_text}
 use Rattle.scoop_etcd_calls.specs.declared.calls.Range.{Range}
 use Rattle.scoop_etcd_calls.specs.declared.calls.Found.{Found}
@@ -8,11 +8,16 @@ use Rattle.scoop_etcd_calls.specs.declared.calls.Outcome.{Outcome}
 use Rattle.scoop_etcd_calls.specs.Asking.{range_data, txn_data}
 use Rattle.scoop_etcd_calls.specs.Stored.{listed}
 use Rattle.scoop_etcd_calls.specs.Answer.{found_in, outcome_in}
+use Rattle.scoop_etcd.specs.Etcd as etcd
 use Rattle.scoop_etcd.specs.Etcd.{Contents, Finds, Answers}
 use Rattle.scoop_etcd_gateway.specs.declared.call.Call.{Call}
 use Rattle.scoop_etcd_gateway.specs.declared.call.Call.TheVariants.{Ranges, Transacts}
 use Rattle.scoop_etcd_gateway.specs.declared.call.Answer.{Answer}
 use Rattle.scoop_etcd_gateway.specs.declared.call.Answer.TheVariants.{Body, Made, Lost}
+
+-- the outcome of a transaction that was made at this revision
+abbrev pub made_at : ℕ → Outcome
+made_at revision = record { succeeded = true; revision = revision }
 
 -- calls with their answers, one after another
 abbrev pub Calls : Type 0
@@ -22,18 +27,21 @@ Calls = List (Call × Answer)
 abbrev pub History : Type 0
 History = Calls → Contents
 
--- the call may have changed what stands there
-abbrev pub MayWrite : Call → Answer → Type 0
-MayWrite (Ranges text) answer = ⊥
-MayWrite (Transacts text) (Body body) = ⊤
-MayWrite (Transacts text) (Made revision) = ⊤
-MayWrite (Transacts text) Lost = ⊥
+-- Since the calls in front only this one has written: what stands there changed by it alone, if at all.
+abbrev pub WritesAlone : History → Calls → Call → Answer → Type 0
+WritesAlone after front (Ranges text) answer = after (front ++ (Ranges text, answer) ∷ []) ≡ after front
+WritesAlone after front (Transacts text) (Body body) =
+    (txn : Txn) (outcome : Outcome) → string_bytes text ≡ compact_text (txn_data txn) → outcome_in body.items ≡ Ok outcome
+    → etcd.Transacts (after front) (after (front ++ (Transacts text, Body body) ∷ [])) txn outcome
+WritesAlone after front (Transacts text) (Made revision) =
+    (txn : Txn) → string_bytes text ≡ compact_text (txn_data txn)
+    → etcd.Transacts (after front) (after (front ++ (Transacts text, Made revision) ∷ [])) txn (made_at revision)
+WritesAlone after front (Transacts text) Lost = after (front ++ (Transacts text, Lost) ∷ []) ≡ after front
 
--- Before these calls and after each, no other program has written: a call that may not have changed what stands there left it.
+-- no other program has written since the first call, and no transaction was made whose answer is lost
 abbrev pub IsAlone : History → Calls → Type 0
 IsAlone after calls =
-    (front : Calls) (call : Call) (answer : Answer) (back : Calls) → calls ≡ front ++ (call, answer) ∷ back → (MayWrite call answer → ⊥)
-    → after (front ++ (call, answer) ∷ []) ≡ after front
+    (front : Calls) (call : Call) (answer : Answer) (back : Calls) → calls ≡ front ++ (call, answer) ∷ back → WritesAlone after front call answer
 
 -- the answer to a call after those in front is what stands there, and what the call does to it
 abbrev pub Fits : History → Calls → Call → Answer → Type 0
@@ -49,7 +57,7 @@ Fits after front (Transacts text) (Body body) =
 Fits after front (Transacts text) (Made revision) =
     let all = front ++ (Transacts text, Made revision) ∷ [] in
     (txn : Txn) → string_bytes text ≡ compact_text (txn_data txn)
-    → Answers (IsAlone after all) (after front) (after all) txn (record { succeeded = true; revision = revision })
+    → Answers (IsAlone after all) (after front) (after all) txn (made_at revision)
 Fits after front (Transacts text) Lost = ⊤
 
 -- the server is honest: each answer fits

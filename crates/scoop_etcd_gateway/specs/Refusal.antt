@@ -1,5 +1,5 @@
 -- Refusals that are final.
-use Rattle.std.specs.Prelude.{ℕ, ◌==◌, Bool, if◌then◌else◌, List, [], ◌∷◌}
+use Rattle.std.specs.Prelude.{ℕ, ◌==◌, Bool}
 use Rattle.std.specs.List.{list_any}
 use Rattle.scoop_etcd_gateway.specs.declared.reply.TheConstants.{FINAL_CODES}
 

@@ -1,5 +1,5 @@
 -- What calls are told.
-use Rattle.std.specs.Prelude.{◌≡◌, true, Ok, Err, Result, string_bytes}
+use Rattle.std.specs.Prelude.{◌≡◌, Ok, Err, Result, string_bytes}
 use Rattle.serde_json.specs.Written.{compact_text}
 use Rattle.scoop_etcd_calls.specs.declared.calls.Range.{Range}
 use Rattle.scoop_etcd_calls.specs.declared.calls.Found.{Found}
@@ -13,6 +13,7 @@ use Rattle.scoop_etcd_gateway.specs.declared.call.Call.{Call}
 use Rattle.scoop_etcd_gateway.specs.declared.call.Call.TheVariants.{Ranges, Transacts}
 use Rattle.scoop_etcd_gateway.specs.declared.call.Answer.{Answer}
 use Rattle.scoop_etcd_gateway.specs.declared.call.Answer.TheVariants.{Body, Made, Lost}
+use Rattle.scoop_etcd_gateway.specs.History.{made_at}
 
 -- the call is this range, and its answer says what was found
 abbrev pub TellsFound : Range → Call → Answer → Found → Type 0
@@ -26,7 +27,7 @@ TellsFound range (Transacts text) answer found = ⊥
 abbrev pub TellsOutcome : Answer → Result Outcome EtcdError → Type 0
 TellsOutcome (Body body) (Ok outcome) = outcome_in body.items ≡ Ok outcome
 TellsOutcome (Body body) (Err error) = ⊥
-TellsOutcome (Made revision) (Ok outcome) = outcome ≡ record { succeeded = true; revision = revision }
+TellsOutcome (Made revision) (Ok outcome) = outcome ≡ made_at revision
 TellsOutcome (Made revision) (Err error) = ⊥
 TellsOutcome Lost (Ok outcome) = ⊥
 TellsOutcome Lost (Err error) = Unit {0}

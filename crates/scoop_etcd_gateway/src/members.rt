@@ -151,13 +151,7 @@ impl<'a, R: Net + Clock> Members<'a, R> {
     }
 
     // Sends a call over this connection, which is kept open if the member allows it.
-    fn exchange(
-        &mut self,
-        mut stream: R::Stream,
-        path: &[u8],
-        body: &[u8],
-        end: Instant,
-    ) -> Reply {
+    fn exchange(&mut self, mut stream: R::Stream, path: &[u8], body: &[u8], end: Instant) -> Reply {
         let mut out = Vec::new(self.alloc);
         let host = self.names[self.current].as_bytes();
         let Ok(mut exchange) = Exchange::begin(self.alloc, &mut out, host, path, body) else {
