@@ -7,7 +7,7 @@
 //!   whether it still owns the record before replies go out that no put comes before.
 //! - [`read_text`] and [`put_text`] are for the text beside a store, under the key `NAME/system/node/N` or
 //!   `NAME/system/client/C`. It stays as the store's owner first puts it.
-//! - [`handlers_in`], [`clients_in`] and [`owners_in`] list what stands under a name, and change nothing.
+//! - [`handlers_in`], [`clients_in`] and [`owners_in`] list what stands under a name. They and [`state_under`] change nothing.
 //! - An [`EtcdFault`] says what is wrong and what to do, and [`report_etcd`] prints it.
 //!
 //! ```
@@ -30,7 +30,7 @@ mod text;
 pub use error::EtcdFault;
 pub use fate::Fate;
 pub use fateful_keeper::FatefulKeeper;
-pub use listing::{clients_in, handlers_in, owners_in, state_under};
+pub use listing::{clients_in, handlers_in, has_state, owners_in, state_under};
 pub use place::{EtcdPlace, PlaceFault, begins_as_etcd};
 pub use report::report_etcd;
 pub use store::{SharedEtcd, SharedStore, adopt, connect, create, create_after};

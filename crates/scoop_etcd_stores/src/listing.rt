@@ -124,6 +124,17 @@ pub(crate) fn stands<E: Etcd>(
     }
 }
 
+/// Whether the handler has a state under this name. Refused with the errors of a range.
+pub fn has_state<E: Etcd>(
+    alloc: Global,
+    etcd: &mut E,
+    name: &str,
+    handler: HandlerId,
+) -> Result<bool, EtcdError> {
+    let key = handler_key(alloc, name.as_bytes(), handler)?;
+    Ok(find(alloc, etcd, &key)?.is_some())
+}
+
 // The keeper's error for one of the etcd.
 fn unread(error: EtcdError) -> KeeperError {
     match error {

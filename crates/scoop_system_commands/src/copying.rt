@@ -3,6 +3,7 @@
 use crate::ending::{End, report_plainly};
 use crate::owning::{found_text, put_shared, text_beside};
 use crate::places::{check_text, etcd_owner, place_of};
+use crate::stores::require_no_state;
 use scoop_errors::PartyError;
 use scoop_etcd_stores::{
     EtcdFault, EtcdPlace, Fate, FatefulKeeper, SharedStore, adopt as take_over, clients_in,
@@ -335,10 +336,8 @@ fn create_copy<'a>(
     contents: &Contents,
 ) -> Result<SharedStore<'a>, EtcdFault> {
     let mut etcd = connect(rt, place)?;
-    for handler in handlers_in(rt.alloc(), &mut etcd, place.name())? {
-        if contents.handlers.contains(&handler) {
-            return Err(EtcdFault::Exists);
-        }
+    for handler in &contents.handlers {
+        require_no_state(rt, &mut etcd, place, *handler)?;
     }
     match (party, contents.clients.as_slice()) {
         (Owner::Client(client), [(found, last)]) if *found == client => {

@@ -3,7 +3,7 @@
 use crate::going_on::least_incarnation;
 use scoop_command_line::StoreChoice;
 use scoop_etcd::Owner;
-use scoop_etcd_stores::{EtcdFault, EtcdPlace, SharedStore, connect, handlers_in};
+use scoop_etcd_stores::{EtcdFault, EtcdPlace, SharedEtcd, SharedStore, connect, has_state};
 use scoop_files::{FileError, FiledStore, adopt, adopt_since, create, create_after};
 use scoop_message::{ClientId, HandlerId};
 use scoop_system::System;
@@ -81,17 +81,24 @@ fn require_unused(
     number: u32,
 ) -> Result<(), EtcdFault> {
     let mut etcd = connect(rt, place)?;
-    for handler in handlers_in(rt.alloc(), &mut etcd, place.name())? {
-        if is_on_node(system, number, handler) {
-            return Err(EtcdFault::Exists);
+    for handler in system.handlers() {
+        if handler.node == number {
+            require_no_state(rt, &mut etcd, place, handler.handler)?;
         }
     }
     Ok(())
 }
 
-fn is_on_node(system: &System, number: u32, handler: HandlerId) -> bool {
-    match system.handler(handler) {
-        Some(place) => place.node == number,
-        None => false,
+/// Refuses a place where the handler has a state, by `Exists`.
+pub(crate) fn require_no_state(
+    rt: &HostRuntime,
+    etcd: &mut SharedEtcd<'_>,
+    place: &EtcdPlace<'_>,
+    handler: HandlerId,
+) -> Result<(), EtcdFault> {
+    match has_state(rt.alloc(), etcd, place.name(), handler) {
+        Ok(false) => Ok(()),
+        Ok(true) => Err(EtcdFault::Exists),
+        Err(error) => Err(EtcdFault::from(error)),
     }
 }
