@@ -1,6 +1,6 @@
-//! Stores in an etcd, for the commands: named by a text, made, taken over, and looked into.
+//! Stores in an etcd, for the commands: made, taken over, and looked into.
 //!
-//! - An [`EtcdPlace`] is the members and the name that a text says, as in `etcd://10.0.0.1:2379,10.0.0.2:2379/bank`.
+//! - [`connect`] is for the members of an `EtcdPlace`, the members and the name that a text says.
 //! - [`create`] makes a party's store, [`create_after`] a client's that begins above an incarnation, and [`adopt`] takes a
 //!   store over.
 //! - A [`FatefulKeeper`] is the keeper over such a store. It notes why it refuses in a [`Fate`], which outlives it. It also asks
@@ -22,7 +22,6 @@ mod error;
 mod fate;
 mod fateful_keeper;
 mod listing;
-mod place;
 mod report;
 mod store;
 mod text;
@@ -31,7 +30,6 @@ pub use error::EtcdFault;
 pub use fate::Fate;
 pub use fateful_keeper::FatefulKeeper;
 pub use listing::{clients_in, handlers_in, has_state, owners_in, state_under};
-pub use place::{EtcdPlace, PlaceFault, begins_as_etcd};
 pub use report::report_etcd;
 pub use store::{SharedEtcd, SharedStore, adopt, connect, create, create_after};
 pub use text::{put_text, read_text};

@@ -2,11 +2,11 @@
 
 use crate::error::EtcdFault;
 use crate::listing::stands;
-use crate::place::EtcdPlace;
 use itoa::Buffer;
 use scoop_etcd::{Etcd, EtcdStore, Owner, client_key, owner_key};
 use scoop_etcd_calls::{Compare, Put, Txn};
 use scoop_etcd_gateway::{Gateway, Unknown};
+use scoop_etcd_place::EtcdPlace;
 use scoop_message::{ClientId, OutOfMemory};
 use std::alloc::Global;
 use std::random::RandomSource;
@@ -17,12 +17,24 @@ pub type SharedEtcd<'a> = Gateway<'a, HostRuntime, Unknown>;
 /// A party's store there.
 pub type SharedStore<'a> = EtcdStore<SharedEtcd<'a>>;
 
+// The members, each as `HOST:PORT`, in a text with commas between them.
+fn member_names(alloc: Global, members: &str) -> Result<Vec<String>, OutOfMemory> {
+    let mut names = Vec::new(alloc);
+    for member in members.split(',') {
+        let Ok(name) = String::from_str(alloc, member) else {
+            return Err(OutOfMemory);
+        };
+        names.push(name)?;
+    }
+    Ok(names)
+}
+
 /// The etcd of this place. Nothing is sent yet.
 pub fn connect<'a>(
     rt: &'a HostRuntime,
     place: &EtcdPlace<'_>,
 ) -> Result<SharedEtcd<'a>, EtcdFault> {
-    let members = place.members(rt.alloc())?;
+    let members = member_names(rt.alloc(), place.members)?;
     match Gateway::new(rt, rt.alloc(), members, Unknown) {
         Ok(etcd) => Ok(etcd),
         // A place has as many members as a gateway takes.
@@ -47,7 +59,7 @@ pub fn create<'a>(
 ) -> Result<SharedStore<'a>, EtcdFault> {
     let token = fresh_token(rt)?;
     let etcd = connect(rt, place)?;
-    match EtcdStore::create(rt.alloc(), etcd, place.name(), owner, token) {
+    match EtcdStore::create(rt.alloc(), etcd, place.name, owner, token) {
         Ok(store) => Ok(store),
         Err(error) => Err(EtcdFault::from(error)),
     }
@@ -61,7 +73,7 @@ pub fn adopt<'a>(
 ) -> Result<SharedStore<'a>, EtcdFault> {
     let token = fresh_token(rt)?;
     let etcd = connect(rt, place)?;
-    match EtcdStore::open(rt.alloc(), etcd, place.name(), owner, token) {
+    match EtcdStore::open(rt.alloc(), etcd, place.name, owner, token) {
         Ok(store) => Ok(store),
         Err(error) => Err(EtcdFault::from(error)),
     }
@@ -77,7 +89,7 @@ pub fn create_after<'a>(
     last: u32,
 ) -> Result<SharedStore<'a>, EtcdFault> {
     let mut etcd = connect(rt, place)?;
-    begin_after(rt.alloc(), &mut etcd, place.name().as_bytes(), client, last)?;
+    begin_after(rt.alloc(), &mut etcd, place.name.as_bytes(), client, last)?;
     create(rt, place, Owner::Client(client))
 }
 

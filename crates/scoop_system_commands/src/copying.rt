@@ -5,9 +5,10 @@ use crate::owning::{found_text, put_shared, text_beside};
 use crate::places::{check_text, etcd_owner, place_of};
 use crate::stores::require_no_state;
 use scoop_errors::PartyError;
+use scoop_etcd_place::EtcdPlace;
 use scoop_etcd_stores::{
-    EtcdFault, EtcdPlace, Fate, FatefulKeeper, SharedStore, adopt as take_over, clients_in,
-    connect, create as create_shared, create_after, handlers_in, owners_in, report_etcd,
+    EtcdFault, Fate, FatefulKeeper, SharedStore, adopt as take_over, clients_in, connect,
+    create as create_shared, create_after, handlers_in, owners_in, report_etcd,
 };
 use scoop_files::{FileError, FiledStore, adopt, close, create_with, replace_text, report_file};
 use scoop_journal::Owner;
@@ -137,8 +138,8 @@ fn open_shared<'a>(
     let alloc = rt.alloc();
     let mut etcd = connect(rt, place)?;
     let mut contents = Contents {
-        handlers: handlers_in(alloc, &mut etcd, place.name())?,
-        clients: clients_in(alloc, &mut etcd, place.name())?,
+        handlers: handlers_in(alloc, &mut etcd, place.name)?,
+        clients: clients_in(alloc, &mut etcd, place.name)?,
     };
     match party {
         Owner::Node(_) => {
@@ -209,7 +210,7 @@ fn only_party(rt: &HostRuntime, from: &str, place: &EtcdPlace<'_>) -> Result<Own
 
 fn owners_at(rt: &HostRuntime, place: &EtcdPlace<'_>) -> Result<Vec<scoop_etcd::Owner>, EtcdFault> {
     let mut etcd = connect(rt, place)?;
-    match owners_in(rt.alloc(), &mut etcd, place.name()) {
+    match owners_in(rt.alloc(), &mut etcd, place.name) {
         Ok(owners) => Ok(owners),
         Err(error) => Err(EtcdFault::from(error)),
     }

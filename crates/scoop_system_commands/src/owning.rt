@@ -3,7 +3,8 @@
 use crate::ending::report_plainly;
 use crate::places::{beside, etcd_owner, place_of};
 use scoop_command_line::StoreChoice;
-use scoop_etcd_stores::{EtcdFault, EtcdPlace, connect, put_text, read_text, report_etcd};
+use scoop_etcd_place::EtcdPlace;
+use scoop_etcd_stores::{EtcdFault, connect, put_text, read_text, report_etcd};
 use scoop_files::{replace_text, text_file};
 use scoop_journal::Owner;
 use scoop_owner::{first_missing, line_like, owner_text};
@@ -54,7 +55,7 @@ fn shared_text(
     owner: Owner,
 ) -> Result<Option<String>, EtcdFault> {
     let mut etcd = connect(rt, place)?;
-    match read_text(rt.alloc(), &mut etcd, place.name(), etcd_owner(owner)) {
+    match read_text(rt.alloc(), &mut etcd, place.name, etcd_owner(owner)) {
         Ok(text) => Ok(text),
         Err(error) => Err(EtcdFault::from(error)),
     }
@@ -158,7 +159,7 @@ pub(crate) fn put_shared(
     text: &str,
 ) -> Result<bool, EtcdFault> {
     let mut etcd = connect(rt, place)?;
-    match put_text(rt.alloc(), &mut etcd, place.name(), etcd_owner(owner), text) {
+    match put_text(rt.alloc(), &mut etcd, place.name, etcd_owner(owner), text) {
         Ok(is_put) => Ok(is_put),
         Err(error) => Err(EtcdFault::from(error)),
     }

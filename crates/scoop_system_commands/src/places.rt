@@ -2,7 +2,7 @@
 
 use scoop_command_line::StoreChoice;
 use scoop_etcd::Owner as EtcdOwner;
-use scoop_etcd_stores::{EtcdPlace, begins_as_etcd};
+use scoop_etcd_place::{EtcdPlace, begins_as_etcd};
 use scoop_journal::Owner;
 use scoop_report::{Hints, Status, hint, report};
 

@@ -6,9 +6,8 @@ use crate::places::{check_text, place_of};
 use scoop_command_line::StoreOptions;
 use scoop_errors::PartyError;
 use scoop_etcd::{Etcd, EtcdError};
-use scoop_etcd_stores::{
-    EtcdFault, EtcdPlace, clients_in, connect, handlers_in, report_etcd, state_under,
-};
+use scoop_etcd_place::EtcdPlace;
+use scoop_etcd_stores::{EtcdFault, clients_in, connect, handlers_in, report_etcd, state_under};
 use scoop_files::{FileError, report_file};
 use scoop_handler::HandlerState;
 use scoop_journal::Owner;
@@ -62,13 +61,13 @@ fn print_copy(rt: &HostRuntime, path: &str) -> Result<(), End> {
 fn print_shared(rt: &HostRuntime, place: &EtcdPlace<'_>) -> Result<(), End> {
     let alloc = rt.alloc();
     let mut etcd = connect(rt, place)?;
-    let contents = match listed(alloc, &mut etcd, place.name()) {
+    let contents = match listed(alloc, &mut etcd, place.name) {
         Ok(contents) => contents,
         Err(error) => return Err(End::from(EtcdFault::from(error))),
     };
     let mut output = BufWriter::new(alloc, io::writer(rt)).map_err(|_| OutOfMemory)?;
     for handler in &contents.handlers {
-        let found = state_under(alloc, &mut etcd, place.name(), *handler);
+        let found = state_under(alloc, &mut etcd, place.name, *handler);
         print_found(found, &mut output)?;
     }
     match print_clients(&contents.clients, &mut output) {

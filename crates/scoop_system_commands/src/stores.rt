@@ -3,7 +3,8 @@
 use crate::going_on::least_incarnation;
 use scoop_command_line::StoreChoice;
 use scoop_etcd::Owner;
-use scoop_etcd_stores::{EtcdFault, EtcdPlace, SharedEtcd, SharedStore, connect, has_state};
+use scoop_etcd_place::EtcdPlace;
+use scoop_etcd_stores::{EtcdFault, SharedEtcd, SharedStore, connect, has_state};
 use scoop_files::{FileError, FiledStore, adopt, adopt_since, create, create_after};
 use scoop_message::{ClientId, HandlerId};
 use scoop_system::System;
@@ -96,7 +97,7 @@ pub(crate) fn require_no_state(
     place: &EtcdPlace<'_>,
     handler: HandlerId,
 ) -> Result<(), EtcdFault> {
-    match has_state(rt.alloc(), etcd, place.name(), handler) {
+    match has_state(rt.alloc(), etcd, place.name, handler) {
         Ok(false) => Ok(()),
         Ok(true) => Err(EtcdFault::Exists),
         Err(error) => Err(EtcdFault::from(error)),

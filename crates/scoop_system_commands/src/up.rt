@@ -9,7 +9,7 @@ use crate::owning::{check_owner, note_owner};
 use crate::stores::{open_client_store, open_node_store};
 use crate::system_file::{read_system, report_fault};
 use scoop_command_line::{StoreChoice, UpOptions};
-use scoop_etcd_stores::begins_as_etcd;
+use scoop_etcd_place::begins_as_etcd;
 use scoop_files::{FileError, FiledStore, NamedKeeper, StoreName, close_named, report_file};
 use scoop_journal::Owner;
 use scoop_keeper::{Keeper, MemoryKeeper};
