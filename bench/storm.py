@@ -4,7 +4,11 @@ and with nodes and clients that are killed at random moments and begun again. At
 held against a plain replay of the blocks, and `scoop audit` has to explain the journals of all parties. Each change of
 `bench/journals.py` to these journals has to be found by it.
 
-usage: storm.py PROGRAM [--seed N] [--seconds S] [--key]
+usage: storm.py PROGRAM [--seed N] [--seconds S] [--key] [--etcd]
+
+With --etcd the stores are in an etcd of three members, of which one at a time is killed and started again. A node has two
+addresses, and is often begun again at the other one while its first process still runs, which then has to end with
+`store: TakenOver`.
 
 Each process has a file of the system of its own, in which the addresses of the others are those of the relay. Every
 handler's first word counts tickets. In each block each handler is asked for a ticket first, so the tickets say in which
@@ -12,6 +16,7 @@ order the blocks ran there, and the replay goes in that order. Statuses: 0, or 1
 """
 import argparse, os, random, select, shutil, signal, socket, subprocess, sys, tempfile, threading, time
 
+from etcd import Cluster
 from journals import changed
 from ports import free_ports
 
@@ -55,19 +60,19 @@ class Relay(threading.Thread):
         super().__init__(daemon=True)
         self.random = random.Random(seed)
         self.to = {}      # the relay's socket -> (the socket that sends on, the address that it sends to)
-        self.port = {}    # (who sends, who is sent to) -> the relay's port
+        self.port = {}    # (who sends, who is sent to) -> the relay's ports, one for each address of the node
         self.stopped = False
         self.late = []
         self.counts = {"passed": 0, "lost": 0, "doubled": 0, "delayed": 0}
-        pairs = [(("client", c), ("node", n)) for c in CLIENTS for n in NODES]
-        for a, b in pairs:
+        pairs = [(("client", c), ("node", n), port) for c in CLIENTS for n in NODES for port in real["node", n]]
+        for a, b, port in pairs:
             sa, sb = (socket.socket(socket.AF_INET, socket.SOCK_DGRAM) for _ in range(2))
             for s in (sa, sb):
                 s.bind(("127.0.0.1", 0))
-            self.port[a, b] = sa.getsockname()[1]
-            self.port[b, a] = sb.getsockname()[1]
-            self.to[sa] = (sb, ("127.0.0.1", real[b]))
-            self.to[sb] = (sa, ("127.0.0.1", real[a]))
+            self.port.setdefault((a, b), []).append(sa.getsockname()[1])
+            self.port.setdefault((b, a), []).append(sb.getsockname()[1])
+            self.to[sa] = (sb, ("127.0.0.1", port))
+            self.to[sb] = (sa, ("127.0.0.1", real[a][0]))
 
     def run(self):
         while not self.stopped:
@@ -114,16 +119,16 @@ def system_text(who, real, relay):
     text = CLASS
 
     def address(kind, number):
-        if (kind, number) == who:
-            return real[kind, number]
-        return relay.port.get((who, (kind, number)), real[kind, number])
+        ports = real[kind, number] if (kind, number) == who else relay.port.get((who, (kind, number)), real[kind, number])
+        texts = [f'"127.0.0.1:{port}"' for port in ports]
+        return texts[0] if kind == "client" or len(texts) == 1 else "[" + ", ".join(texts) + "]"
 
     for n in NODES:
-        text += f'[[node]]\nnumber = {n}\naddress = "127.0.0.1:{address("node", n)}"\n'
+        text += f'[[node]]\nnumber = {n}\naddress = {address("node", n)}\n'
     for h, n in HANDLERS.items():
         text += f'[[handler]]\nnumber = {h}\nnode = {n}\nclass = "purse"\nwords = [0, {START}]\n'
     for c, batch in CLIENTS.items():
-        text += f'[[client]]\nnumber = {c}\naddress = "127.0.0.1:{address("client", c)}"\nbatch = {batch}\n'
+        text += f'[[client]]\nnumber = {c}\naddress = {address("client", c)}\nbatch = {batch}\n'
     return text
 
 
@@ -137,15 +142,21 @@ class Party:
             f.write(system_text((kind, number), storm.real, storm.relay))
         self.process = None
         self.ran = False
+        self.journal = self.file + ".journal"
+
+    @property
+    def store(self):
+        """The text of its store: a place that all share, or a file of its own."""
+        return self.storm.place or self.file + ".db"
 
     def begin(self, **streams):
-        store = "--store" if os.path.exists(self.file + ".db") and self.ran else "--new"
-        if store == "--new":
+        store = "--store" if self.ran else "--new"
+        if store == "--new" and not self.storm.place:
             for end in ("", "-wal", "-shm", "-journal"):
                 if os.path.exists(self.file + ".db" + end):
                     os.remove(self.file + ".db" + end)
-        words = [self.storm.program, self.kind, str(self.number), "--system", self.file + ".toml", store, self.file + ".db",
-                 "--journal", self.file + ".journal"]
+        words = [self.storm.program, self.kind, str(self.number), "--system", self.file + ".toml", store, self.store,
+                 "--journal", self.journal]
         if self.storm.key:
             words += ["--key", self.storm.key]
         if self.kind == "node":
@@ -160,19 +171,63 @@ class Party:
 
 
 class NodeParty(Party):
+    """Each of its lives has an output of its own, and over an etcd a journal of its own: two lives may run at once there."""
+
+    def __init__(self, storm, number):
+        super().__init__(storm, "node", number)
+        self.lives = 0
+        self.journals = [self.journal]
+        self.taken = None     # an earlier life that may still run, and its output
+
+    @property
+    def out(self):
+        return f"{self.file}.out.{self.lives}"
+
     def begin(self):
-        out = open(self.file + ".out", "ab")
-        super().begin(stdout=out, stderr=out, stdin=subprocess.DEVNULL)
-        out.close()
+        self.lives += 1
+        if self.storm.place and self.lives > 1:
+            self.journal = f"{self.file}.journal.{self.lives}"
+            self.journals.append(self.journal)
+        with open(self.out, "wb") as out:
+            super().begin(stdout=out, stderr=out, stdin=subprocess.DEVNULL)
         # Only a node that has made its store goes on with it: it is made before anything is acknowledged.
         for _ in range(6000):
-            if b"handlers" in open(self.file + ".out", "rb").read():
+            if b"handlers" in open(self.out, "rb").read():
                 self.ran = True
                 return
             if self.process.poll() is not None:
-                raise SystemExit(f"node {self.number} ended: {open(self.file + '.out').read()}")
+                raise SystemExit(f"node {self.number} ended: {open(self.out).read()}")
             time.sleep(0.01)
         raise SystemExit(f"node {self.number} isn't ready")
+
+    def begin_elsewhere(self):
+        """Begins it at its other address while this life still runs. Returns what is wrong with the life before this one."""
+        wrong = self.end_taken()
+        self.taken = (self.process, self.out)
+        self.begin()
+        return wrong
+
+    def end_taken(self):
+        """Kills an earlier life that heard nothing since, or looks why it ended."""
+        if self.taken is None:
+            return []
+        (process, out), self.taken = self.taken, None
+        if process.poll() is None:
+            process.kill()
+            process.wait()
+            return []
+        said = open(out).read()
+        if process.returncode == 3 and "store: TakenOver" in said:
+            self.storm.taken += 1
+            return []
+        return [f"node {self.number}: a life that was taken over ended with {process.returncode}: {said}"]
+
+    def join_journals(self):
+        """Puts the journals of all lives into the first one."""
+        with open(self.journals[0], "ab") as first:
+            for path in self.journals[1:]:
+                first.write(open(path, "rb").read())
+        self.journal = self.journals[0]
 
 
 class ClientParty(Party, threading.Thread):
@@ -286,7 +341,7 @@ def run_one(words, entry):
 
 
 class Storm:
-    def __init__(self, program, seed, seconds, key):
+    def __init__(self, program, seed, seconds, key, cluster):
         self.program, self.seed, self.seconds = os.path.abspath(program), seed, seconds
         self.folder = tempfile.mkdtemp(prefix="storm")
         self.key = None
@@ -295,8 +350,15 @@ class Storm:
             with open(os.open(self.key, os.O_CREAT | os.O_WRONLY, 0o600), "w") as f:
                 f.write("%064x\n" % random.Random(seed).getrandbits(256))
         self.random = random.Random(seed)
+        self.cluster, self.down = cluster, None
+        self.place = cluster and cluster.address + f"/storm-{seed}-{os.getpid()}"
+        self.taken = 0
         names = [("node", n) for n in NODES] + [("client", c) for c in CLIENTS]
-        self.real = dict(zip(names, free_ports(len(names))))
+        ports = free_ports(len(names) + len(NODES))
+        self.real = {name: [port] for name, port in zip(names, ports)}
+        if cluster:
+            for n, port in zip(NODES, ports[len(names):]):
+                self.real["node", n].append(port)
         self.relay = Relay(seed, self.real)
         self.over = False
 
@@ -305,18 +367,24 @@ class Storm:
 
     def run(self):
         self.relay.start()
-        nodes = [NodeParty(self, "node", n) for n in NODES]
+        nodes = [NodeParty(self, n) for n in NODES]
         clients = [ClientParty(self, c) for c in CLIENTS]
         for n in nodes:
             n.begin()
         for c in clients:
             c.start()
-        killed = {"node": 0, "client": 0}
+        killed = {"node": 0, "client": 0, "member": 0, "moved": 0}
+        wrong = []
         end = time.monotonic() + self.seconds
-        while time.monotonic() < end and not any(c.errors for c in clients):
+        while time.monotonic() < end and not wrong and not any(c.errors for c in clients):
             time.sleep(self.random.uniform(0.1, 2.0))
-            party = self.random.choice(nodes + clients)
-            if party.kind == "client":
+            party = self.random.choice(nodes + clients + ([None] if self.cluster else []))
+            if party is None:
+                killed["member"] += self.turn_member()
+            elif self.cluster and party.kind == "node" and self.random.random() < 0.6:
+                wrong += party.begin_elsewhere()
+                killed["moved"] += 1
+            elif party.kind == "client":
                 with party.lock:
                     if party.ran and party.process is not None and party.process.poll() is None:
                         party.process.send_signal(signal.SIGKILL)
@@ -325,7 +393,7 @@ class Storm:
                 party.kill()
                 killed["node"] += 1
                 time.sleep(self.random.choice([0, 0, self.random.uniform(0, 0.5)]))
-                os.truncate(party.file + ".out", 0)
+                wrong += party.end_taken()
                 party.begin()
         self.over = True
         for c in clients:
@@ -338,12 +406,17 @@ class Storm:
             self.greet(c)
         last = self.read(clients[0])
         for n in nodes:
+            wrong += n.end_taken()
             n.kill()
+            n.join_journals()
         self.relay.stopped = True
-        errors = [e for c in clients for e in c.errors] + self.replay(clients, last) + self.audit(nodes + clients)
+        errors = wrong + [e for c in clients for e in c.errors] + self.replay(clients, last) + self.audit(nodes + clients)
         blocks = [b for c in clients for b in c.blocks]
         print(f"seed {self.seed}: {len(blocks)} blocks, {sum(b['ended'] for b in blocks)} ended, nodes killed {killed['node']},"
               f" clients killed {killed['client']}, datagrams {self.relay.counts}: {'WRONG' if errors else 'right'}")
+        if self.cluster:
+            print(f"  nodes begun elsewhere {killed['moved']}, of which {self.taken} first lives ended with TakenOver;"
+                  f" members killed {killed['member']}")
         for e in errors[:20]:
             print(" ", e)
         if errors:
@@ -352,6 +425,20 @@ class Storm:
             shutil.rmtree(self.folder)
         return not errors
 
+    def turn_member(self):
+        """Kills a member of the etcd, or starts the one that is down and waits for it. Returns how many were killed."""
+        if self.down is None:
+            self.down = self.random.randrange(len(self.cluster.members))
+            self.cluster.kill(self.down)
+            return 1
+        self.cluster.start(self.down)
+        for _ in range(100):
+            if self.cluster.ask(self.down, "/v3/kv/range", {"key": "YQ=="}):
+                break
+            time.sleep(0.1)
+        self.down = None
+        return 0
+
     def explain(self, system, journals):
         """The status of an audit, and what it prints."""
         done = subprocess.run([self.program, "audit", "--system", system] + journals, capture_output=True, timeout=600)
@@ -359,7 +446,7 @@ class Storm:
 
     def audit(self, parties):
         """The journals have an explanation, and no changed ones have."""
-        system, journals = parties[0].file + ".toml", [p.file + ".journal" for p in parties]
+        system, journals = parties[0].file + ".toml", [p.journal for p in parties]
         status, text = self.explain(system, journals)
         if status != 0:
             return [f"audit: status {status}: {text}"]
@@ -377,8 +464,8 @@ class Storm:
         return errors
 
     def words(self, party):
-        words = [self.program, "client", str(party.number), "--system", party.file + ".toml", "--store", party.file + ".db",
-                 "--journal", party.file + ".journal"]
+        words = [self.program, "client", str(party.number), "--system", party.file + ".toml", "--store", party.store,
+                 "--journal", party.journal]
         return words + (["--key", self.key] if self.key else [])
 
     def greet(self, party):
@@ -479,8 +566,12 @@ def main():
     parser.add_argument("--seed", type=int, default=1)
     parser.add_argument("--seconds", type=float, default=300)
     parser.add_argument("--key", action="store_true")
+    parser.add_argument("--etcd", action="store_true")
     given = parser.parse_args()
-    return 0 if Storm(given.program, given.seed, given.seconds, given.key).run() else 1
+    if not given.etcd:
+        return 0 if Storm(given.program, given.seed, given.seconds, given.key, None).run() else 1
+    with tempfile.TemporaryDirectory(prefix="etcd") as folder, Cluster(folder) as cluster:
+        return 0 if Storm(given.program, given.seed, given.seconds, given.key, cluster).run() else 1
 
 
 if __name__ == "__main__":

@@ -25,7 +25,7 @@ use scoop_command_line::{Asked, asked_in, parse};
 use scoop_local_commands::{frame, play};
 use scoop_report::Status;
 use scoop_start::{report_command_line, words};
-use scoop_system_commands::{check, explain, make_key, run_client, run_up, serve_node, show_store};
+use scoop_system_commands::{check, explain, make_key, run_client, run_up, serve_node, store};
 use std::net::Net;
 use std::process::ExitCode;
 use std::sync::Wait;
@@ -70,7 +70,7 @@ fn run<T: Threads + Wait + Clock + Net + Sync>(
         Asked::Client(options) => run_client(rt, threads, &options)?,
         Asked::Up(options) => run_up(rt, threads, &options)?,
         Asked::Audit(options) => explain(rt, &options)?,
-        Asked::Store(path) => show_store(rt, path)?,
+        Asked::Store(options) => store(rt, &options)?,
         Asked::Nothing => {}
     }
     Ok(0)

@@ -34,7 +34,8 @@ use key_command::KEY_MAKER;
 use local_commands::{ANSWER, DEMO, FRAME, WORLD};
 pub use options::{
     AnswerOptions, Asked, AuditOptions, ClientOptions, DemoOptions, JournalChoice, LogChoice,
-    NodeOptions, StoreChoice, UpOptions, WorldOptions, asked_in, client_options, node_options,
+    NodeOptions, StoreChoice, StoreOptions, UpOptions, WorldOptions, asked_in, client_options,
+    node_options,
 };
 pub use own_commands::{parse_client, parse_node};
 use rows::{ArgumentRow, CommandRow};

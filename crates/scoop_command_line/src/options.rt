@@ -19,23 +19,22 @@ pub enum Asked<'a> {
     Client(ClientOptions<'a>),
     Up(UpOptions<'a>),
     Audit(AuditOptions<'a>),
-    /// The store's file.
-    Store(&'a str),
+    Store(StoreOptions<'a>),
     Nothing,
 }
 
-/// The store that a command line names.
+/// The store that a command line names: a file, or a place in an etcd, as `etcd://HOST:PORT/NAME`.
 #[derive(Clone, Copy)]
 pub enum StoreChoice<'a> {
     None,
-    /// A new one, in this file.
+    /// A new one there.
     New(&'a str),
-    /// The one that is in this file.
+    /// The one that is there.
     Old(&'a str),
 }
 
 impl<'a> StoreChoice<'a> {
-    /// The store's file, if there is one.
+    /// The store's file or place, if there is one.
     pub fn path(self) -> Option<&'a str> {
         match self {
             StoreChoice::None => None,
@@ -159,6 +158,18 @@ pub struct AuditOptions<'a> {
     pub to: u64,
 }
 
+/// The options of `scoop store`.
+#[derive(Clone, Copy)]
+pub struct StoreOptions<'a> {
+    /// The store's file, or its place in an etcd.
+    pub store: &'a str,
+    /// The store of which it becomes a copy.
+    pub copied: Option<&'a str>,
+    /// The party whose store that is.
+    pub node: Option<u32>,
+    pub client: Option<u32>,
+}
+
 /// The command that the matches ask for, with its options.
 pub fn asked_in<'a>(matches: &'a ArgMatches<'_>) -> Asked<'a> {
     match matches.subcommand() {
@@ -172,7 +183,7 @@ pub fn asked_in<'a>(matches: &'a ArgMatches<'_>) -> Asked<'a> {
         Some(("client", given)) => Asked::Client(client_options(given)),
         Some(("up", given)) => Asked::Up(up_options(given)),
         Some(("audit", given)) => Asked::Audit(audit_options(given)),
-        Some(("store", given)) => Asked::Store(text_of(given, "file")),
+        Some(("store", given)) => Asked::Store(store_options(given)),
         _ => Asked::Nothing,
     }
 }
@@ -292,5 +303,14 @@ fn audit_options<'a>(given: &'a ArgMatches<'_>) -> AuditOptions<'a> {
         chart: given.get_str("chart"),
         from: given.get_one::<u64>("from").unwrap_or(1),
         to: given.get_one::<u64>("to").unwrap_or(u64::MAX),
+    }
+}
+
+fn store_options<'a>(given: &'a ArgMatches<'_>) -> StoreOptions<'a> {
+    StoreOptions {
+        store: text_of(given, "file"),
+        copied: given.get_str("copy"),
+        node: given.get_one::<u32>("node"),
+        client: given.get_one::<u32>("client"),
     }
 }

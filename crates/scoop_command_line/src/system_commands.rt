@@ -67,7 +67,8 @@ pub(crate) const NODE_ARGUMENTS: [ArgumentRow; 13] = [
         value: Value::Text,
         value_name: "FILE",
         default: None,
-        help: "Makes a store in this file, which must be missing or empty: for a node that never ran",
+        help: "Makes a store in this file, which must be missing or empty, or at etcd://HOST:PORT[,HOST:PORT..]/NAME: for a node that \
+            never ran",
     },
     ArgumentRow {
         name: "store",
@@ -75,7 +76,7 @@ pub(crate) const NODE_ARGUMENTS: [ArgumentRow; 13] = [
         value: Value::Text,
         value_name: "FILE",
         default: None,
-        help: "Resumes the store in this file: for a node that ran, the store that it made",
+        help: "Resumes the store in this file, or takes over the one in an etcd: for a node that ran, the store that it made",
     },
     ArgumentRow {
         name: "volatile",
@@ -136,8 +137,12 @@ pub(crate) const NODE_ARGUMENTS: [ArgumentRow; 13] = [
 pub(crate) const STORE: CommandRow = CommandRow {
     name: "store",
     usage: None,
-    about: "Prints what is in a store",
-    help: "Prints what is in the store of a node or a client that doesn't run. It reads a copy and changes nothing.\n\n\
+    about: "Prints what is in a store, or copies one",
+    help: "Prints what is in the store of a node or a client that doesn't run. It reads a copy and changes nothing. Of a place in \
+        an etcd, etcd://HOST:PORT/NAME, it prints what all parties have there.\n\n\
+        With --copy, it makes FILE a new store with all that another store has, and prints `copied: 3 handlers, 0 incarnations`. \
+        Each of the two is a file, or a place in an etcd. One in an etcd is taken over: a node that runs over it ends with \
+        `store: TakenOver`. Don't resume the old store afterwards.\n\n\
         Input: none but the file. Output:\n\
         \x20 handler 1: words 50                 a handler, and its object's words\n\
         \x20   lock held by block 7.1.2          the block that has its lock, or nobody\n\
@@ -147,18 +152,46 @@ pub(crate) const STORE: CommandRow = CommandRow {
         \x20                                     what it keeps of a client: its newest block held, open or shut\n\
         \x20 client 7: last incarnation 4        a client's own store has this line\n\n\
         Statuses: 0; 2 for the command line; 3 for the store, printed as `scoop: store: NAME`, for memory or output.\n\n\
-        Example: scoop store /tmp/node-1.db",
+        Examples:\n\
+        \x20 scoop store /tmp/node-1.db\n\
+        \x20 scoop store --copy /tmp/node-1.db etcd://127.0.0.1:2379/bank",
     arguments: &STORE_ARGUMENTS,
 };
 
-const STORE_ARGUMENTS: [ArgumentRow; 1] = [ArgumentRow {
-    name: "file",
-    place: Place::Word,
-    value: Value::Text,
-    value_name: "FILE",
-    default: None,
-    help: "The store's file",
-}];
+const STORE_ARGUMENTS: [ArgumentRow; 4] = [
+    ArgumentRow {
+        name: "file",
+        place: Place::Word,
+        value: Value::Text,
+        value_name: "FILE",
+        default: None,
+        help: "The store's file, or its place in an etcd",
+    },
+    ArgumentRow {
+        name: "copy",
+        place: Place::Option,
+        value: Value::Text,
+        value_name: "FROM",
+        default: None,
+        help: "Makes FILE a new store with all that the store FROM has",
+    },
+    ArgumentRow {
+        name: "node",
+        place: Place::OptionWith("copy"),
+        value: Value::U32,
+        value_name: "N",
+        default: None,
+        help: "The node whose store it is, if FROM is a place of several parties, or a file without its .system",
+    },
+    ArgumentRow {
+        name: "client",
+        place: Place::OptionWithButWithout("copy", "node", "node"),
+        value: Value::U32,
+        value_name: "C",
+        default: None,
+        help: "The client whose store it is, likewise",
+    },
+];
 
 pub(crate) const CLIENT: CommandRow = CommandRow {
     name: "client",
@@ -224,7 +257,8 @@ pub(crate) const CLIENT_ARGUMENTS: [ArgumentRow; 12] = [
         value: Value::Text,
         value_name: "FILE",
         default: None,
-        help: "Makes a store in this file, which must be missing or empty: for a client that never ran",
+        help: "Makes a store in this file, which must be missing or empty, or at etcd://HOST:PORT[,HOST:PORT..]/NAME: for a client that \
+            never ran",
     },
     ArgumentRow {
         name: "store",
@@ -232,7 +266,7 @@ pub(crate) const CLIENT_ARGUMENTS: [ArgumentRow; 12] = [
         value: Value::Text,
         value_name: "FILE",
         default: None,
-        help: "Resumes the store in this file: for a client that ran, the store that it made",
+        help: "Resumes the store in this file, or takes over the one in an etcd: for a client that ran, the store that it made",
     },
     ArgumentRow {
         name: "after",

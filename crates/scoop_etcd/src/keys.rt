@@ -81,7 +81,7 @@ fn numbered(alloc: Global, name: &[u8], between: &[u8], number: u32) -> Result<V
 }
 
 /// The key of a handler's state.
-pub(crate) fn handler_key(
+pub fn handler_key(
     alloc: Global,
     name: &[u8],
     handler: HandlerId,
@@ -92,7 +92,7 @@ pub(crate) fn handler_key(
 }
 
 /// The key of a client's incarnation.
-pub(crate) fn client_key(
+pub fn client_key(
     alloc: Global,
     name: &[u8],
     client: ClientId,
@@ -102,8 +102,8 @@ pub(crate) fn client_key(
     numbered(alloc, name, b"/clients/", client.0)
 }
 
-// The key of the owner's token.
-fn owner_key(alloc: Global, name: &[u8], owner: Owner) -> Result<Vec<u8>, OutOfMemory>
+/// The key of the owner's token.
+pub fn owner_key(alloc: Global, name: &[u8], owner: Owner) -> Result<Vec<u8>, OutOfMemory>
     ensures { IfOk result (λ key. key.items ≡ owner_key name.now owner) }
 {
     match owner {

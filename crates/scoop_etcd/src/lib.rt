@@ -38,6 +38,7 @@ mod store;
 
 pub use etcd::{Etcd, EtcdError};
 pub use fault::StoreFault;
-pub use keys::{Owner, is_store_name};
+pub use keys::{Owner, client_key, handler_key, is_store_name, owner_key};
+pub use loading::state_of;
 pub use opening::OpenError;
 pub use store::{EtcdStore, MAX_WAITING};

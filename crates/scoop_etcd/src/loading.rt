@@ -56,7 +56,7 @@ fn state_in(alloc: Global, handler: HandlerId, value: &[u8]) -> Result<HandlerSt
 /// The handler's state in the value that was found.
 ///
 /// Refused: `BadImage` if the value is no state's, and `OutOfMemory`.
-pub(crate) fn state_of(
+pub fn state_of(
     alloc: Global,
     handler: HandlerId,
     value: Option<Vec<u8>>,

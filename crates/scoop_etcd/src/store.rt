@@ -19,6 +19,7 @@ use crate::incarnations::advance;
 use crate::keys::{Keys, Owner};
 use crate::loading::{find_value, state_of};
 use crate::opening::{OpenError, create_record, open_record};
+use crate::owning::check_owner;
 use scoop_handler::HandlerState;
 use scoop_keeper::{Keeper, KeeperError};
 use scoop_message::{ClientId, HandlerId};
@@ -137,6 +138,29 @@ impl<E: Etcd> EtcdStore<E> {
         ensures { result ≡ self.now.fault }
     {
         self.fault
+    }
+
+    /// Looks whether the store still owns its record. A commit with no state that waits doesn't ask this.
+    ///
+    /// Refused: `Refused`, and `OutOfMemory`; `fault` says why.
+    pub fn confirm(&mut self) -> Result<(), KeeperError>
+        ensures owns { E.is_honest self.new.etcd → OnOk result (Owns (E.contents self.new.etcd) self.old.keys) }
+        ensures taken { self.old.fault ≡ Some StoreFault.TakenOver → (result ≡ Err KeeperError.Refused) × (self.new ≡ self.old) }
+        ensures taken_over { E.is_honest self.new.etcd → self.old.fault ≢ Some StoreFault.TakenOver → self.new.fault ≡ Some StoreFault.TakenOver
+            → Owns (E.contents self.new.etcd) self.old.keys → ⊥ }
+        ensures stays { E.is_alone self.new.etcd → E.contents self.new.etcd ≡ E.contents self.old.etcd }
+        ensures pending { self.new.pending ≡ self.old.pending }
+        ensures keys { self.new.keys ≡ self.old.keys }
+        ensures fault { OnErr result (IsSome self.new.fault) }
+        ensures named { IfErr result IsPutError }
+        ensures honest { E.is_honest self.new.etcd → E.is_honest self.old.etcd }
+        ensures alone { E.is_alone self.new.etcd → E.is_alone self.old.etcd }
+    {
+        self.begin()?;
+        match check_owner(self.alloc, &mut self.etcd, &self.keys) {
+            Ok(()) => Ok(()),
+            Err(fault) => Err(self.refuse(fault)),
+        }
     }
 
     /// The etcd under the store. States that wait for a commit are dropped.

@@ -1,6 +1,7 @@
 //! Stores in files: made, adopted, and closed.
 //!
-//! - [`create`] makes a store in a file, and [`create_after`] one that begins above an incarnation.
+//! - [`create`] makes a store in a file, [`create_after`] one that begins above an incarnation, and [`create_with`] one that has
+//!   several.
 //! - [`adopt`] takes the store that is there. [`adopt_for`] does so if it has a client's incarnation, and [`adopt_since`] if that
 //!   is no older than a known one.
 //! - [`close`] leaves the file whole, and [`close_named`] does so unless the file has lost its name.
@@ -40,4 +41,5 @@ pub use named::{NameWatch, NamedKeeper, StoreName};
 pub use report::report_file;
 pub use store::{
     FiledStore, adopt, adopt_for, adopt_since, close, close_named, create, create_after,
+    create_with,
 };

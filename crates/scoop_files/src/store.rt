@@ -29,23 +29,33 @@ pub fn create_after(
     client: ClientId,
     last: u32,
 ) -> Result<FiledStore, FileError> {
+    create_with(rt, path, &[(client, last)])
+}
+
+/// The same, in which these are the incarnations of clients.
+pub fn create_with(
+    rt: &HostRuntime,
+    path: &str,
+    clients: &[(ClientId, u32)],
+) -> Result<FiledStore, FileError> {
     match create(rt, path) {
-        Ok(store) => begun_after(rt.alloc(), store, client, last),
+        Ok(store) => begun_with(rt.alloc(), store, clients),
         Err(error) => Err(error),
     }
 }
 
-// The new store, in which this is the client's incarnation.
-fn begun_after<S: Alter + Drop>(
+// The new store, in which these are the clients' incarnations.
+fn begun_with<S: Alter + Drop>(
     alloc: Global,
     store: Store<S>,
-    client: ClientId,
-    last: u32,
+    clients: &[(ClientId, u32)],
 ) -> Result<Store<S>, FileError> {
     let mut connection = store.into_connection();
-    match put_incarnation(&mut connection, client, last) {
-        Ok(()) => {}
-        Err(error) => return Err(error),
+    for (client, last) in clients {
+        match put_incarnation(&mut connection, *client, *last) {
+            Ok(()) => {}
+            Err(error) => return Err(error),
+        }
     }
     match Store::adopt(alloc, connection) {
         Ok(store) => Ok(store),

@@ -1,14 +1,17 @@
 //! `scoop client`: a client of a system, whose commands are the lines of standard input.
 
-use crate::ending::{End, Party, report_end, report_plainly, report_range};
+use crate::ending::{End, Party, fated_end, report_end, report_plainly, report_range};
 use crate::journaling::{open_journal, with_journal};
 use crate::keys::read_key;
 use crate::owning::{check_owner, note_owner};
-use crate::stores::open_client_store;
+use crate::places::{check_choice, place_chosen};
+use crate::stores::{open_client_store, open_shared_client};
 use crate::system_file::{read_system, read_text, report_fault};
 use crate::tasks::{ClientTask, Cut, Input, Program, Script};
 use crate::typed_lines::TypedLines;
 use scoop_command_line::{ClientOptions, StoreChoice};
+use scoop_etcd_place::EtcdPlace;
+use scoop_etcd_stores::{Fate, FatefulKeeper};
 use scoop_files::{NamedKeeper, StoreName, close};
 use scoop_journal::{JournalFile, Owner};
 use scoop_keeper::Keeper;
@@ -34,6 +37,7 @@ pub fn run_client<T: Net>(
     if let StoreChoice::None = options.store {
         return Err(report_no_store(rt));
     }
+    check_choice(rt, options.store)?;
     let system = read_system(rt, options.system)?;
     run_in(rt, net, options, &system)
 }
@@ -79,6 +83,7 @@ pub fn run_own_client<T: Net, G: ClientProgram>(
     if let StoreChoice::None = options.store {
         return Err(report_no_store(rt));
     }
+    check_choice(rt, options.store)?;
     let system = read_system(rt, options.system)?;
     run_program_in(rt, net, options, &system, program)
 }
@@ -218,6 +223,9 @@ fn run_stored<L: Link, C: ClientTask>(
     task: &mut C,
 ) -> Result<(), End> {
     let choice = options.store;
+    if let Some(place) = place_chosen(choice) {
+        return run_shared(rt, options, &place, plan, journal, link, task);
+    }
     let name = StoreName::new(rt.alloc(), choice.path().unwrap_or(""))?;
     let store = open_client_store(rt, choice, options.after, plan.place().client)?;
     let (ran, store) = run_over(rt, choice, plan, store, &name, journal, link, task);
@@ -248,4 +256,25 @@ fn run_over<K: Keeper<Global>, L: Link, C: ClientTask>(
     let mut keeper = NamedKeeper::new(rt, store, name);
     let ran = task.run(rt, plan, &mut keeper, journal, link);
     (ran, keeper.into_inner())
+}
+
+// Runs the client over its store at this place in an etcd, which knows its owner from then on.
+fn run_shared<L: Link, C: ClientTask>(
+    rt: &HostRuntime,
+    options: &ClientOptions<'_>,
+    place: &EtcdPlace<'_>,
+    plan: &ClientPlan<'_>,
+    journal: Option<&JournalFile>,
+    link: L,
+    task: &mut C,
+) -> Result<(), End> {
+    let (choice, client) = (options.store, plan.place().client);
+    let fate = Fate::new();
+    let store = open_shared_client(rt, choice, place, options.after, client)?;
+    note_owner(rt, choice, plan.system(), Owner::Client(client));
+    let mut keeper = FatefulKeeper::new(store, &fate);
+    match task.run(rt, plan, &mut keeper, journal, link) {
+        Ok(()) => Ok(()),
+        Err(end) => Err(fated_end(&fate, end)),
+    }
 }

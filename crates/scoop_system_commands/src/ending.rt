@@ -1,6 +1,7 @@
 //! The ends of a node or a client, and their reports.
 
 use scoop_errors::PartyError;
+use scoop_etcd_stores::{EtcdFault, Fate, report_etcd};
 use scoop_files::{FileError, StoreName, report_file};
 use scoop_journal::OpenError;
 use scoop_message::{HandlerId, OutOfMemory};
@@ -24,6 +25,8 @@ const OPEN_BLOCK_STATUS: u8 = 1;
 pub(crate) enum End {
     /// Its store isn't opened or closed, or has lost its name.
     File(FileError),
+    /// Its store in an etcd isn't opened, or refuses.
+    Etcd(EtcdFault),
     /// It doesn't begin or go on.
     Runtime(RuntimeError),
     /// A client stops at one of its lines.
@@ -61,6 +64,15 @@ impl From<FileError> for End {
     }
 }
 
+impl From<EtcdFault> for End {
+    fn from(fault: EtcdFault) -> End {
+        match fault {
+            EtcdFault::OutOfMemory => End::from(OutOfMemory),
+            fault => End::Etcd(fault),
+        }
+    }
+}
+
 impl From<RuntimeError> for End {
     fn from(error: RuntimeError) -> End {
         End::Runtime(error)
@@ -87,12 +99,25 @@ pub(crate) fn node_end(name: Option<&StoreName>, error: RuntimeError) -> End {
     }
 }
 
+/// The end of a node or a client over a store in an etcd. It is the store's if that has refused.
+pub(crate) fn fated_end(fate: &Fate, end: End) -> End {
+    let error = match end {
+        End::Runtime(error) => error,
+        End::Lines(stop) => stop.error,
+        end => return end,
+    };
+    match fate.fault() {
+        Some(fault) if matches!(error.about(), About::Store) => End::from(fault),
+        _ => end,
+    }
+}
+
 /// The things that a report of a node or a client may name besides its error.
 #[derive(Clone, Copy)]
 pub(crate) struct Party<'a> {
     pub(crate) system: &'a System,
     pub(crate) address: SocketAddr,
-    /// The file of its store, if it has one.
+    /// The file of its store or its place in an etcd, if it has one.
     pub(crate) store: Option<&'a str>,
     /// The file of its journal, if it writes one.
     pub(crate) journal: Option<&'a str>,
@@ -102,6 +127,7 @@ pub(crate) struct Party<'a> {
 pub(crate) fn report_end(rt: &HostRuntime, party: &Party<'_>, end: End) -> Status {
     match end {
         End::File(error) => report_file(rt, Hints::Always, party.store.unwrap_or(""), error),
+        End::Etcd(fault) => report_etcd(rt, Hints::Always, party.store.unwrap_or(""), fault),
         End::Runtime(error) => report_runtime(rt, party, error),
         End::Lines(stop) => {
             let status = report_runtime(rt, party, stop.error);

@@ -1,6 +1,7 @@
 //! How far an old store goes, by the text beside it.
 
-use crate::owning::{note_owner, text_beside};
+use crate::owning::{found_text, note_owner, text_beside};
+use crate::places::{beside, place_of};
 use scoop_command_line::StoreChoice;
 use scoop_files::{FileError, note_marks, report_file, text_file, update_marks};
 use scoop_journal::Owner;
@@ -29,8 +30,7 @@ pub(crate) fn go_on<K: Keeper<Global>>(
         note_owner(rt, choice, system, Owner::Node(node));
         return Ok(());
     };
-    let file = text_beside(rt, path)?;
-    let text = fs::read_to_string(rt, file.as_str()).ok();
+    let text = found_text(rt, path, Owner::Node(node))?;
     let text = text.as_deref().unwrap_or("");
     let mut marks = Vec::new(rt.alloc());
     if load_marks(system, node, text, store, &mut marks).is_err() {
@@ -38,8 +38,7 @@ pub(crate) fn go_on<K: Keeper<Global>>(
     }
     require_marks(rt, path, text, marks.as_slice())?;
     note_owner(rt, choice, system, Owner::Node(node));
-    note_progress(rt, path, file.as_str(), marks.as_slice());
-    Ok(())
+    note_progress(rt, path, marks.as_slice())
 }
 
 // Collects the marks of the node's handlers, and of those that the text names.
@@ -94,12 +93,13 @@ fn require_marks(rt: &HostRuntime, path: &str, text: &str, marks: &[Newest]) -> 
 // Prints what the text has, and what the store.
 fn hint_of_block(rt: &HostRuntime, path: &str, newest: Newest, found: Option<&Newest>) {
     let Newest { handler, block } = newest;
+    let beside = beside(path);
     match found {
         Some(mark) => hint(
             rt,
             Hints::Always,
             format_args!(
-                "handler {handler}: {path}.system has block {block}, and the store has {}",
+                "handler {handler}: {path}{beside} has block {block}, and the store has {}",
                 mark.block
             ),
         ),
@@ -107,20 +107,28 @@ fn hint_of_block(rt: &HostRuntime, path: &str, newest: Newest, found: Option<&Ne
             rt,
             Hints::Always,
             format_args!(
-                "handler {handler}: {path}.system has block {block}, and the store has none of client {}",
+                "handler {handler}: {path}{beside} has block {block}, and the store has none of client {}",
                 block.client
             ),
         ),
     }
 }
 
-// Brings the text up to date, and notes how far the store goes.
-fn note_progress(rt: &HostRuntime, path: &str, file: &str, marks: &[Newest]) {
-    if !marks.is_empty() && !update_marks(rt, file, marks) {
-        report(rt, format_args!("{file}: the file could not be written"));
+// Brings the text beside a file up to date, and notes how far the store goes. The text beside a store in an etcd stays: that is
+// restored with the store, and can't be newer than it.
+fn note_progress(rt: &HostRuntime, path: &str, marks: &[Newest]) -> Result<(), Status> {
+    if place_of(path).is_none() {
+        write_marks(rt, text_beside(rt, path)?.as_str(), marks);
     }
     let blocks = Blocks { marks };
     report(rt, format_args!("{path}: goes on; newest blocks: {blocks}"));
+    Ok(())
+}
+
+fn write_marks(rt: &HostRuntime, file: &str, marks: &[Newest]) {
+    if !marks.is_empty() && !update_marks(rt, file, marks) {
+        report(rt, format_args!("{file}: the file could not be written"));
+    }
 }
 
 // The blocks of marks, in words.

@@ -1,15 +1,18 @@
 //! `scoop node`: a node of a system, over UDP.
 
-use crate::ending::{End, Party, node_end, report_end, report_range};
+use crate::ending::{End, Party, fated_end, node_end, report_end, report_range};
 use crate::going_on::go_on;
 use crate::journaling::{open_journal, with_journal};
 use crate::keys::read_key;
 use crate::owning::check_owner;
-use crate::stores::open_node_store;
+use crate::places::{check_choice, place_chosen};
+use crate::stores::{open_node_store, open_shared_node};
 use crate::system_file::{read_system, report_fault};
 use crate::watching::{Served, Shown, level_of, open_server, run_watched};
 use jiff::Timestamp;
 use scoop_command_line::{NodeOptions, StoreChoice};
+use scoop_etcd_place::EtcdPlace;
+use scoop_etcd_stores::{Fate, FatefulKeeper};
 use scoop_files::{FiledStore, NamedKeeper, StoreName, close_named};
 use scoop_journal::{JournalFile, Owner};
 use scoop_journal_keeper::{JournaledKeeper, Storage};
@@ -50,6 +53,7 @@ pub fn serve_own_node<T: Threads + Wait + Clock + Net + Sync, O: Objects + Sync>
     objects: &O,
 ) -> Result<(), Status> {
     require_store(rt, options)?;
+    check_choice(rt, options.store)?;
     let serving = match serving_of(options) {
         Ok(serving) => serving,
         Err(range) => return Err(report_range(rt, range)),
@@ -261,6 +265,9 @@ fn serve_over<
     if let StoreChoice::None = choice {
         return serve_unstored(rt, threads, served, server, link);
     }
+    if let Some(place) = place_chosen(choice) {
+        return serve_shared(rt, threads, choice, &place, served, server, link);
+    }
     let name = StoreName::new(rt.alloc(), choice.path().unwrap_or(""))?;
     match open_node_store(rt, choice) {
         Ok(store) => serve_stored(rt, threads, choice, served, server, store, &name, link),
@@ -320,6 +327,32 @@ where
     match serve_with(rt, threads, served, server, keeper, Storage::File, link) {
         Ok(keeper) => Ok(keeper.into_inner().into_inner()),
         Err(error) => Err(node_end(Some(name), error)),
+    }
+}
+
+// Serves the node over its store at this place in an etcd. It ends if another program takes the store over.
+fn serve_shared<
+    L: Link + RefusesForged + Send,
+    T: Threads + Wait + Clock + Net + Sync,
+    O: Objects + Sync,
+>(
+    rt: &HostRuntime,
+    threads: &T,
+    choice: StoreChoice<'_>,
+    place: &EtcdPlace<'_>,
+    served: &Served<'_, O>,
+    server: &mut Option<Server>,
+    link: L,
+) -> Result<(), End> {
+    let about = &served.shown.about;
+    let (system, number) = (about.system, about.place.number);
+    let fate = Fate::new();
+    let mut store = open_shared_node(rt, choice, place, system, number)?;
+    go_on(rt, choice, system, number, &mut store)?;
+    let keeper = FatefulKeeper::new(store, &fate);
+    match serve_with(rt, threads, served, server, keeper, Storage::File, link) {
+        Ok(_) => Ok(()),
+        Err(error) => Err(fated_end(&fate, End::Runtime(error))),
     }
 }
 

@@ -9,12 +9,13 @@ use crate::owning::{check_owner, note_owner};
 use crate::stores::{open_client_store, open_node_store};
 use crate::system_file::{read_system, report_fault};
 use scoop_command_line::{StoreChoice, UpOptions};
+use scoop_etcd_place::begins_as_etcd;
 use scoop_files::{FileError, FiledStore, NamedKeeper, StoreName, close_named, report_file};
 use scoop_journal::Owner;
 use scoop_keeper::{Keeper, MemoryKeeper};
 use scoop_message::{ClientId, OutOfMemory};
 use scoop_record::Store;
-use scoop_report::{Hints, Status, report};
+use scoop_report::{Hints, Status, hint, report};
 use scoop_runtime::{
     ClientPlan, FileFault, OutOfRange, RuntimeError, Serving, TurningLink, open_client_link,
 };
@@ -43,6 +44,7 @@ pub fn run_up<T: Threads + Wait + Clock + Net + Sync>(
     threads: &T,
     options: &UpOptions<'_>,
 ) -> Result<(), Status> {
+    require_folder(rt, options)?;
     let serving = match Serving::new(EXECUTORS, HISTORY, u64::MAX) {
         Ok(serving) => serving,
         Err(range) => return Err(report_range(rt, range)),
@@ -55,6 +57,21 @@ pub fn run_up<T: Threads + Wait + Clock + Net + Sync>(
         Ok(plan) => run_in(rt, threads, options, serving, &plan),
         Err(range) => Err(report_range(rt, range)),
     }
+}
+
+// Refuses a place in an etcd: the stores are files of a folder.
+fn require_folder(rt: &HostRuntime, options: &UpOptions<'_>) -> Result<(), Status> {
+    match options.dir {
+        Some(dir) if begins_as_etcd(dir) => {}
+        _ => return Ok(()),
+    }
+    report(rt, "--dir takes a folder, and no etcd");
+    hint(
+        rt,
+        Hints::Always,
+        "run the nodes over an etcd by scoop node N --system FILE --new etcd://HOST:PORT/NAME",
+    );
+    Err(Status(2))
 }
 
 // Reports that the system's file lacks the client that the options name, or any client.
