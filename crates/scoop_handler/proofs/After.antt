@@ -29,7 +29,7 @@ use Rattle.scoop_handler.specs.declared.mark.Mark.{Mark}
 use Rattle.scoop_handler.specs.declared.ran.Ran.{Ran}
 use Rattle.scoop_handler.specs.Marks.{block_of, is_open, mark_of}
 use Rattle.scoop_handler.specs.State.{HandlerState, IsState, IsAscending, HolderIsUnderWay, HoldsIfHeld, IsUnused, IsUnusedUnlessOpen, HasQueueIfOpen}
-use Rattle.scoop_handler.specs.State.{FitsNewest, FitsMark, HasMark, state_of}
+use Rattle.scoop_handler.specs.State.{FitsNewest, FitsMark, HasMark}
 use Rattle.scoop_handler.specs.Core.{Core, IsCore, core_of}
 use Rattle.scoop_handler.specs.Growing.{MarksGrow}
 use Rattle.scoop_handler.specs.Running.{Task, after, after_ran, begun, finished, first_task, job_out, kept_after, mark_after, ran_of, ready, run, task_effect}
@@ -330,14 +330,13 @@ IsCore-finished c t first sound = record {
   job = λ out. absurd (true≢false (sym out));
 }
 
--- the handler whose parts changed as a run changes them
-pub IsCore-ran : (c : Core) (r : Ran) (words : List ℕ) (marks : List Mark) (queues : List PrivateQueue) → IsCore c → IsFirst r c.state.queues
-    → marks ≡ map (mark_after r) c.state.marks → queues ≡ advance c.state.queues
-    → words ≡ (entry_effect c.class c.state.words r.entry).0 → IsCore (core_of c.class (state_of c.state.number c.state.holder marks queues words) false)
-IsCore-ran c r words marks queues sound first in_marks in_queues in_words =
+-- the handler whose state changed as a run changes it
+pub IsCore-ran : (c : Core) (r : Ran) (words : List ℕ) → IsCore c → IsFirst r c.state.queues → words ≡ (entry_effect c.class c.state.words r.entry).0
+    → IsCore (core_of c.class (after_ran r words c.state) false)
+IsCore-ran c r words sound first in_words =
     let same : length words ≡ length c.state.words = ap length in_words ∙ length-entry_effect c.class c.state.words r.entry in
     record {
-      state = rw (in_marks, in_queues) (IsState-after_ran r words c.state first same sound.state);
+      state = IsState-after_ran r words c.state first same sound.state;
       words = same ∙ sound.words;
       job = λ out. absurd (true≢false (sym out));
     }
@@ -364,12 +363,6 @@ job-class c t is = by (front c.state.queues) refl
     by (Some f) some =
         let same : task_of c f ≡ t = same_Some (task_of c f) t (sym (ap (option_map (task_of c)) some) ∙ job-first c t is) in
         sym (ap (λ (x : Task). x.class) same)
-
--- the handler whose parts changed as the job says
-pub IsCore-done : (c : Core) (t : Task) (words : List ℕ) (marks : List Mark) (queues : List PrivateQueue) → IsCore c → job_out c ≡ Some t
-    → marks ≡ map (mark_after (ran_of t)) c.state.marks → queues ≡ advance c.state.queues
-    → words ≡ (task_effect t).0 → IsCore (core_of c.class (state_of c.state.number c.state.holder marks queues words) false)
-IsCore-done c t words marks queues sound is in_marks in_queues in_words = rw (in_marks, in_queues, in_words) (IsCore-finished c t (job-first c t is) sound)
 
 -- ---- the handler at each call
 
@@ -398,15 +391,6 @@ run-front c t is = first-entry c t (ready-first c t is)
 
 pub job-front : (c : Core) (t : Task) → job_out c ≡ Some t → front c.state.queues ≡ Some (t.block, t.number, t.entry)
 job-front c t is = first-entry c t (job-first c t is)
-
--- a state that is the handler's, whose parts have changed as the job that is out says
-pub IsState-done : (c : Core) (t : Task) (s : HandlerState) (words : List ℕ) (marks : List Mark) (queues : List PrivateQueue) → IsState s → s ≡ c.state
-    → job_out c ≡ Some t → marks ≡ map (mark_after (ran_of t)) s.marks → queues ≡ advance s.queues
-    → words ≡ (task_effect t).0 → IsState (state_of s.number s.holder marks queues words)
-IsState-done c t s words marks queues sound same is in_marks in_queues in_words =
-    let first : IsFirst (ran_of t) s.queues = subst (λ (x : HandlerState). IsFirst (ran_of t) x.queues) (sym same) (job-front c t is) in
-    let long : length (task_effect t).0 ≡ length s.words = words-after c t (job-first c t is) ∙ ap (λ (x : HandlerState). length x.words) (sym same) in
-    rw (in_marks, in_queues, in_words) (IsState-after_ran (ran_of t) (task_effect t).0 s first long sound)
 
 -- only a query's answer is kept
 map-same : (r : Ran) (marks : List Mark) → is_query r.entry ≡ false → map (mark_after r) marks ≡ marks

@@ -55,6 +55,12 @@ IsState-row s m h r has is = is
 pub IsState-hear : (s : HandlerState) (m : Message) → HasEntries m → IsState s → IsState (hear s m).0
 IsState-hear s m has is = IsState-row s m (hear s m) (row s m) has is
 
+-- the state after a call that has heard the message, or has changed nothing
+pub IsState-heard : (old : HandlerState) (m : Message) (new : HandlerState) (result : Result Heard OutOfMemory) → HasEntries m → IsState old
+    → IfOk result (λ heard. hear old m ≡ (new, heard)) → OnErr result (new ≡ old) → IsState new
+IsState-heard old m new (Ok heard) has is done same = subst (λ (h : Hearing). IsState h.0) done (IsState-hear old m has is)
+IsState-heard old m new (Err e) has is done same = subst IsState (sym same) is
+
 -- ---- what stays
 
 pub number-row : (s : HandlerState) (m : Message) (h : Hearing) → Row s m h → h.0.number ≡ s.number
@@ -218,11 +224,16 @@ pub record HasHeard (old : Core) (m : Message) (new : Core) (result : Result Hea
   pub stays : new ≡ with_state new.state old
   pub err : OnErr result (new ≡ old)
 
-pub sound-heard : (old : Core) (m : Message) (new : Core) (result : Result Heard OutOfMemory) → HasEntries m → IsCore old → HasHeard old m new result
+pub sound-heard : (old : Core) (m : Message) (new : Core) (result : Result Heard OutOfMemory) → IsState new.state → IsCore old → HasHeard old m new result
     → IsCore new
-sound-heard old m new (Ok heard) has is done =
-    subst IsCore (sym done.stays) (subst (λ (h : Hearing). IsCore (with_state h.0 old)) done.ok (IsCore-hear old m has is))
-sound-heard old m new (Err e) has is done = subst IsCore (sym done.err) is
+sound-heard old m new (Ok heard) state is done =
+    let told = subst (λ (h : Hearing). Row old.state m h) done.ok (row old.state m) in
+    subst IsCore (sym done.stays) (record {
+      state = state;
+      words = ap length (words-row old.state m (new.state, heard) told) ∙ is.words;
+      job = λ out. FrontStays-is_some old.state.queues new.state.queues (front-row old.state m (new.state, heard) told) (is.job out);
+    })
+sound-heard old m new (Err e) state is done = subst IsCore (sym done.err) is
 
 pub confirms-heard : (old : Core) (m : Message) (new : Core) (result : Result Heard OutOfMemory) → IsCore old → HasHeard old m new result
     → IfOk result (ConfirmsOnlyHolder new.state)
@@ -242,10 +253,9 @@ drops-heard old m new (Ok heard) done = subst (λ (h : Hearing). DroppedChangesN
     (drops-row old.state m (hear old.state m) (row old.state m))
 drops-heard old m new (Err e) done = tt
 
-pub replies-heard : (old : Core) (m : Message) (new : Core) (result : Result Heard OutOfMemory) → HasEntries m → HasHeard old m new result
-    → IfOk result (RepliesTo m)
-replies-heard old m new (Ok heard) has done = subst (λ (h : Hearing). RepliesTo m h.1) done.ok
-    (replies-row old.state m (hear old.state m) (row old.state m) has)
+pub replies-heard : (old : HandlerState) (m : Message) (new : HandlerState) (result : Result Heard OutOfMemory) → HasEntries m
+    → IfOk result (λ heard. hear old m ≡ (new, heard)) → IfOk result (RepliesTo m)
+replies-heard old m new (Ok heard) has done = subst (λ (h : Hearing). RepliesTo m h.1) done (replies-row old m (hear old m) (row old m) has)
 replies-heard old m new (Err e) has done = tt
 
 pub grows-heard : (old : Core) (m : Message) (new : Core) (result : Result Heard OutOfMemory) → HasHeard old m new result

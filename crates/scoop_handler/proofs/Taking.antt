@@ -4,18 +4,16 @@ use Rattle.std.proofs.Common.{true≢false}
 use Rattle.std.specs.Option.{option_map}
 use Rattle.std.proofs.lemmas.Option.{none-some, same_Some}
 use Rattle.scoop_message.specs.declared.name.Block.{Block}
-use Rattle.scoop_message.specs.declared.name.HandlerId.{HandlerId}
 use Rattle.scoop_message.specs.declared.request.Entry.{Entry}
 use Rattle.scoop_object.specs.Class.{ClassTable}
 use Rattle.scoop_queue.specs.Queue.{front}
 use Rattle.std.proofs.Math.Seq.{take-append_seam}
 use Rattle.scoop_handler.specs.declared.mark.Mark.{Mark}
 use Rattle.scoop_handler.specs.Marks.{set_mark}
-use Rattle.scoop_handler.specs.State.{HandlerState, IsState, state_of}
+use Rattle.scoop_handler.specs.State.{HandlerState, IsState}
 use Rattle.scoop_handler.specs.Core.{Core, IsCore, core_of, with_state}
-use Rattle.scoop_handler.specs.Running.{Task, FitsClass, MayReset, first_task, job_out, task_of}
+use Rattle.scoop_handler.specs.Running.{Task, MayReset, first_task, job_out, task_of}
 use Rattle.scoop_handler.proofs.MarkLists.{length-set_mark}
-use Rattle.scoop_handler.proofs.Fronts.{FrontStays, FrontStays-is_some}
 
 out-first : (c : Core) → c.out ≡ true → job_out c ≡ first_task c
 out-first c out = rw out refl
@@ -51,29 +49,6 @@ IsCore-reset c s sound given may = record {
   state = given;
   words = may.words;
   job = λ out. (reset-alike c s sound may out).1;
-}
-
--- the handler with the parts of the new state
-pub given-parts : (c : Core) (s : HandlerState) (number : HandlerId) (words : List ℕ) (out : Bool) → number ≡ s.number → words ≡ s.words → out ≡ c.out
-    → core_of c.class (state_of number s.holder s.marks s.queues words) out ≡ with_state s c
-given-parts c s number words out same_number same_words same_out = rw (same_number, same_words, same_out) refl
-
--- the handler that takes an object and a state, and has no job out
-pub IsCore-recalled : (class : ClassTable) (s : HandlerState) (number : HandlerId) (words : List ℕ) → IsState s → FitsClass class s → number ≡ s.number
-    → words ≡ s.words → IsCore (core_of class (state_of number s.holder s.marks s.queues words) false)
-IsCore-recalled class s number words given fits same_number same_words = rw (same_number, same_words) sound
-  where
-    sound : IsCore (core_of class s false)
-    sound = record { state = given; words = fits; job = λ out. absurd (true≢false (sym out)) }
-
--- ---- a handler whose state changes and whose words stay
-
-pub IsCore-changed : (c : Core) (s : HandlerState) → IsCore c → IsState s → s.words ≡ c.state.words → FrontStays c.state.queues s.queues
-    → IsCore (with_state s c)
-IsCore-changed c s sound state same stays = record {
-  state = state;
-  words = ap length same ∙ sound.words;
-  job = λ out. FrontStays-is_some c.state.queues s.queues stays (sound.job out);
 }
 
 -- marks that were written in place, as many as there were

@@ -3,22 +3,15 @@
 ghost use Rattle.std.specs.Prelude.{◌≡◌};
 ghost use Rattle.scoop_handler.specs.Core.{IsCore};
 
-mod changing;
 mod exchanging;
-mod greeting;
 mod hearing;
-mod locking;
-mod logging;
 mod making;
-mod opening;
 mod recalling;
 mod running;
 
-use crate::mark::Mark;
-use crate::presence::Presence;
+use crate::state::HandlerState;
 use scoop_message::{Block, HandlerId, Words};
 use scoop_object::{Behaviour, Class};
-use scoop_queue::QueueOfQueues;
 use std::alloc::{Allocator, Global};
 use std::marker::Model;
 
@@ -26,25 +19,22 @@ use std::marker::Model;
 #[derive(Drop)]
 pub struct Handler<B: Behaviour, A: Allocator = Global> {
     class: Class,
-    number: HandlerId,
-    holder: Option<Block>,
-    marks: Vec<Mark, A>,
-    queues: QueueOfQueues<A>,
-    presence: Presence<B>,
+    state: HandlerState<A>,
+    // None while a job is out.
+    object: Option<B>,
 }
 
 impl<B: Behaviour, A: Allocator> Model for Handler<B, A> {
-    ghost use Rattle.std.specs.Prelude.{◌≡◌};
-    ghost use Rattle.scoop_handler.specs.State.{state_of};
-    ghost use Rattle.scoop_handler.specs.Core.{Core, IsCore, core_of, held_words, is_out, IfHere};
+    ghost use Rattle.std.specs.Prelude.{◌≡◌, IfSome, is_none};
+    ghost use Rattle.scoop_handler.specs.Core.{Core, IsCore, core_of};
 
     ghost Value = { Core };
 
-    ghost view = { λ h. core_of h.class (state_of h.number h.holder h.marks.items h.queues (held_words B.words h.presence)) (is_out h.presence) };
+    ghost view = { λ h. core_of h.class h.state (is_none h.object) };
 
     ghost invariant = { λ h.
-        IsCore (core_of h.class (state_of h.number h.holder h.marks.items h.queues (held_words B.words h.presence)) (is_out h.presence))
-        × IfHere h.presence (λ object. B.class object ≡ h.class) };
+        IsCore (core_of h.class h.state (is_none h.object))
+        × IfSome h.object (λ object. (B.class object ≡ h.class) × (B.words object ≡ h.state.words)) };
 }
 
 impl<B: Behaviour, A: Allocator> Handler<B, A> {
@@ -53,23 +43,20 @@ impl<B: Behaviour, A: Allocator> Handler<B, A> {
         ensures value { result ≡ self.now.state.number }
         ensures core { IsCore self.now }
     {
-        self.number
+        self.state.number
     }
 
     /// The block that holds the lock.
     pub fn holder(&self) -> Option<Block>
         ensures { result ≡ self.now.state.holder }
     {
-        self.holder
+        self.state.holder
     }
 
     /// The object's words, or those with which it left for a job.
     pub fn words(&self) -> Words
         ensures { result ≡ self.now.state.words }
     {
-        match &self.presence {
-            Presence::Here(object) => object.words(),
-            Presence::Out(words) => *words,
-        }
+        self.state.words
     }
 }

@@ -31,8 +31,8 @@ mod job;
 mod mark;
 mod marks;
 mod note;
-mod presence;
 mod ran;
+mod setting;
 mod state;
 pub mod theorems;
 

@@ -3,7 +3,14 @@
 ghost use Rattle.std.specs.Prelude.{◌≡◌, ◌↔◌, length, slice_get, IsTrue, IfErr, IfOk, OnOk, OnErr};
 ghost use Rattle.scoop_handler.specs.State.{state_of, IsState};
 
+mod changing;
 mod conditions;
+mod greeting;
+mod hearing;
+mod locking;
+mod logging;
+mod opening;
+mod running;
 
 use crate::copying::copy_parts;
 use crate::mark::Mark;
@@ -154,37 +161,17 @@ fn same_marks(left: &[Mark], right: &[Mark]) -> bool
 }
 
 impl<A: Allocator + Copy> HandlerState<A> {
-    /// The state of copies of these parts, kept with the allocator of the marks.
-    pub(crate) fn copied(
-        number: HandlerId,
-        holder: Option<Block>,
-        marks: &Vec<Mark, A>,
-        queues: &QueueOfQueues<A>,
-        words: Words,
-    ) -> Result<HandlerState<A>, OutOfMemory>
-        requires { IsState (state_of number holder marks.now.items queues.now words) }
-        ensures { IfOk result (λ copy. copy ≡ state_of number holder marks.now.items queues.now words) }
-    {
-        Ok(HandlerState {
-            number,
-            holder,
-            marks: Vec::from_slice(*marks.allocator(), marks.as_slice())?,
-            queues: queues.copy()?,
-            words,
-        })
-    }
-
     /// The same state, kept with the same allocator. `OutOfMemory` is the one refusal.
     pub fn copy(&self) -> Result<HandlerState<A>, OutOfMemory>
         ensures { IfOk result (λ copy. copy ≡ self.now) }
     {
-        HandlerState::copied(
-            self.number,
-            self.holder,
-            &self.marks,
-            &self.queues,
-            self.words,
-        )
+        Ok(HandlerState {
+            number: self.number,
+            holder: self.holder,
+            marks: Vec::from_slice(*self.marks.allocator(), self.marks.as_slice())?,
+            queues: self.queues.copy()?,
+            words: self.words,
+        })
     }
 
     /// Takes over the other state, in its own room if that is enough. An `Err` changes nothing; `OutOfMemory` is

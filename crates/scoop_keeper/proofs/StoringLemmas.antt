@@ -1,5 +1,5 @@
 -- The parts that hearing leaves: the job that is out and, for some messages, the whole state.
-use Rattle.std.proofs.Common.{◌≡◌, ℕ, Bool, true, false, List, Option, Some, None, refl, sym, ap, ◌∙◌, subst}
+use Rattle.std.proofs.Common.{◌≡◌, ℕ, Bool, true, false, List, length, Option, Some, None, refl, sym, ap, ◌∙◌, subst}
 use Rattle.std.specs.Prelude.{is_some}
 use Rattle.std.specs.Option.{option_map}
 use Rattle.scoop_message.specs.declared.name.Block.{Block}
@@ -14,7 +14,6 @@ use Rattle.scoop_handler.specs.Running.{MayReset, task_with, first_task, job_out
 use Rattle.scoop_handler.specs.Rows.{Row, first_greeting, newer_greeting, lock_granted, is_opened, unlock_of_a_block_never_held, is_freed, is_taken}
 use Rattle.scoop_handler.proofs.TableRows.{row}
 use Rattle.scoop_handler.proofs.TableLaws.{number-row, words-row, front-row}
-use Rattle.scoop_handler.specs.declared.note.Heard.{Heard}
 use Rattle.scoop_keeper.specs.Keeper.{Stored, Holds, Keeps}
 use Rattle.scoop_keeper.specs.Storing.{leaves}
 
@@ -46,20 +45,12 @@ job_stays c m sound = by c.out refl
         (front-row c.state m (hear c.state m) r) (sound.job e) in
         rw e first
 
--- an earlier state may come back
-pub may_take_back : (c : Core) (m : Message) → IsCore c → MayReset c.state (with_state (hear c.state m).0 c)
-may_take_back c m sound = record {
-  number = sym (number-row c.state m (hear c.state m) (row c.state m));
-  words = sound.words;
-  job = sym (job_stays c m sound);
-}
-
--- where a state may take the place of a handler's, that may come back
-pub may_return : (s : HandlerState) (c : Core) → IsCore c → MayReset s c → MayReset c.state (with_state s c)
-may_return s c sound may = record {
-  number = sym may.number;
-  words = sound.words;
-  job = sym may.job;
+-- the state after a message may take the place of the handler's
+pub may_follow : (c : Core) (m : Message) → IsCore c → MayReset (hear c.state m).0 c
+may_follow c m sound = record {
+  number = number-row c.state m (hear c.state m) (row c.state m);
+  words = ap length (words-row c.state m (hear c.state m) (row c.state m)) ∙ sound.words;
+  job = job_stays c m sound;
 }
 
 -- a message that changes nothing leaves the state
@@ -76,25 +67,8 @@ leaves_row s m h r e = refl
 pub leaves_state : (s : HandlerState) (m : Message) → leaves (hear s m).1.note ≡ true → (hear s m).0 ≡ s
 leaves_state s m e = leaves_row s m (hear s m) (row s m) e
 
--- ---- a handler that has heard a message
-
-module _ (old new : Core) (m : Message) (told : Heard) (ok : hear old.state m ≡ (new.state, told)) (stays : new ≡ with_state new.state old)
-    (sound : IsCore old) where
-  is_now : with_state (hear old.state m).0 old ≡ new
-  is_now = ap (λ (r : Hearing). with_state r.0 old) ok ∙ sym stays
-
-  pub heard_job : job_out new ≡ job_out old
-  heard_job = ap job_out (sym is_now) ∙ job_stays old m sound
-
-  pub may_go_back : (before : HandlerState) → before ≡ old.state → MayReset before new
-  may_go_back before same = subst (λ (s : HandlerState). MayReset s new) (sym same) (subst (MayReset old.state) is_now (may_take_back old m sound))
-
-  -- where the message leaves the state, it is as it was
-  pub is_left : leaves told.note ≡ true → new.state ≡ old.state
-  is_left left = sym (ap (λ (r : Hearing). r.0) ok) ∙ leaves_state old.state m (ap (λ (r : Hearing). leaves r.1.note) ok ∙ left)
-
-  -- where the state stays, what was stored is
-  pub is_kept : (has : ℕ → Stored → Type 0) → leaves told.note ≡ true → has old.state.number.0 (Holds old.state) → Keeps has has (hear old.state m).0
-  is_kept has left held =
-      let same : (hear old.state m).0 ≡ old.state = leaves_state old.state m (ap (λ (r : Hearing). leaves r.1.note) ok ∙ left) in
-      subst (Keeps has has) (sym same) (record { there = held; others = λ other apart v. (λ x. x, λ x. x) })
+-- if the state stays, what was stored is kept
+pub is_kept : (has : ℕ → Stored → Type 0) (s : HandlerState) (m : Message) → leaves (hear s m).1.note ≡ true → has s.number.0 (Holds s)
+    → Keeps has has (hear s m).0
+is_kept has s m left held =
+    subst (Keeps has has) (sym (leaves_state s m left)) (record { there = held; others = λ other apart v. (λ x. x, λ x. x) })

@@ -1,9 +1,10 @@
 //! A handler over a keeper, which stores each new state before the handler keeps it.
 
 ghost use Rattle.std.specs.Prelude.{◌≡◌, ◌≢◌, ◌↔◌, Some, IsTrue, IfOk, IfErr, IfSome, OnOk, OnErr};
-ghost use Rattle.scoop_handler.specs.Core.{IsCore, with_state};
+ghost use Rattle.scoop_handler.specs.State.{HandlerState as State};
+ghost use Rattle.scoop_handler.specs.Core.{with_state};
 ghost use Rattle.scoop_handler.specs.Hearing.{hear};
-ghost use Rattle.scoop_handler.specs.Running.{MayReset, after, finished, job_out, ran_of};
+ghost use Rattle.scoop_handler.specs.Running.{after, finished, job_out, ran_of};
 ghost use Rattle.scoop_keeper.specs.Keeper.{Holds, IsPutError, IsSame, Keeps, Stays};
 ghost use Rattle.scoop_keeper.specs.Storing.{leaves};
 
@@ -59,57 +60,28 @@ fn fill_beside<B: Behaviour, A: Allocator + Copy>(
     Ok(())
 }
 
-// Stores the state of the handler. If that is refused, the handler is rolled back to the earlier state, which is beside it.
-fn store_or_take_back<B: Behaviour, A: Allocator + Copy, K: Keeper<A>>(
-    handler: &mut Handler<B, A>,
-    before: &mut HandlerState<A>,
-    keeper: &mut K,
-) -> Result<(), KeeperError>
-    requires core { IsCore handler.old }
-    requires may { MayReset before.old handler.old }
-    ensures ok { OnOk result (handler.new ≡ handler.old) }
-    ensures err { OnErr result (handler.new ≡ with_state before.old handler.old) }
-    ensures stored { K.is_honest keeper.new → OnOk result (Keeps (K.handlers keeper.old) (K.handlers keeper.new) handler.old.state) }
-    ensures refused { K.is_honest keeper.new → OnErr result (Stays (K.handlers keeper.old) (K.handlers keeper.new)) }
-    ensures incarnations { K.is_honest keeper.new → IsSame (K.incarnations keeper.old) (K.incarnations keeper.new) }
-    ensures named { IfErr result IsPutError }
-    ensures honest { K.is_honest keeper.new → K.is_honest keeper.old }
-{
-    handler.exchange(before);
-    match keeper.put_handler(before) {
-        Ok(()) => {
-            handler.exchange(before);
-            Ok(())
-        }
-        Err(error) => Err(error),
-    }
-}
-
-// Copies the state of the handler into the room of the one beside it, or leaves none there.
-fn renew_beside<B: Behaviour, A: Allocator + Copy>(
-    handler: &Handler<B, A>,
-    beside: &mut Option<HandlerState<A>>,
-)
-    ensures { IfSome beside.new (λ s. s ≡ handler.now.state) }
+// Lets the copy hear a message that its handler has heard. If memory runs out, the copy is dropped.
+fn follow<A: Allocator + Copy>(beside: &mut Option<HandlerState<A>>, message: &Message)
+    ensures { (now : State) → IfSome beside.old (λ s. (hear s message.now).0 ≡ now) → IfSome beside.new (λ s. s ≡ now) }
 {
     if let Some(state) = beside {
-        if handler.copy_to(state).is_ok() {
+        if state.hear(message).is_ok() {
             return;
         }
     }
     *beside = None;
 }
 
-// Hears a message and stores the new state. The handler's earlier state is at hand, for a rollback. It stays as it is if
-// the message leaves the handler's state.
-fn hear_over<B: Behaviour, A: Allocator + Copy, K: Keeper<A>>(
+// A copy of the handler's state hears a message and is stored, and then handler and copy exchange their states. So a
+// refusal leaves the handler, but the copy may have heard the message. A message that leaves a stored state makes no put.
+fn hear_ahead<B: Behaviour, A: Allocator + Copy, K: Keeper<A>>(
     handler: &mut Handler<B, A>,
-    before: &mut HandlerState<A>,
+    ahead: &mut HandlerState<A>,
     keeper: &mut K,
     is_stored: bool,
     message: &Message,
 ) -> Result<Heard, KeeperError>
-    requires before { before.old ≡ handler.old.state }
+    requires ahead { ahead.old ≡ handler.old.state }
     requires stored { IsTrue is_stored → K.is_honest keeper.old → K.handlers keeper.old handler.old.state.number.0 (Holds handler.old.state) }
     ensures heard { IfOk result (λ heard. heard ≡ (hear handler.old.state message.now).1) }
     ensures state { OnOk result (handler.new ≡ with_state (hear handler.old.state message.now).0 handler.old) }
@@ -120,30 +92,29 @@ fn hear_over<B: Behaviour, A: Allocator + Copy, K: Keeper<A>>(
     ensures named { IfErr result IsPutError }
     ensures honest { K.is_honest keeper.new → K.is_honest keeper.old }
     ensures job { job_out handler.new ≡ job_out handler.old }
-    ensures left { IfOk result (λ heard. IsTrue is_stored → IsTrue (leaves heard.note) → before.new ≡ handler.new.state) }
+    ensures earlier { OnOk result (ahead.new ≡ handler.old.state) }
 {
     // Shows the prover that the handler is sound.
     let _number = handler.number();
-    let heard = handler.hear(message)?;
+    let heard = ahead.hear(message)?;
     match keeper.note_heard(message, &heard) {
         Ok(()) => {}
-        Err(error) => {
-            handler.exchange(before);
-            return Err(error);
-        }
+        Err(error) => return Err(error),
     }
     if is_stored && leaves_state(heard.note) {
         return Ok(heard);
     }
-    match store_or_take_back(handler, before, keeper) {
-        Ok(()) => Ok(heard),
-        Err(error) => Err(error),
+    match keeper.put_handler(ahead) {
+        Ok(()) => {}
+        Err(error) => return Err(error),
     }
+    handler.exchange(ahead);
+    Ok(heard)
 }
 
 /// Hears a message, and stores the new state. If `is_stored` says that the keeper has the handler's state, a message
 /// that leaves the state makes no put. `beside` may hold a copy of the handler's state from one call to the next, so that
-/// its room is used again. If the copy can't be renewed, since memory ran out, `beside` holds none.
+/// its room is used again. After a refusal, or if memory runs out for the copy alone, `beside` holds none.
 ///
 /// Refused, with handler and keeper as they were: `OutOfMemory`, `Refused`.
 pub fn hear_beside<B: Behaviour, A: Allocator + Copy, K: Keeper<A>>(
@@ -167,16 +138,14 @@ pub fn hear_beside<B: Behaviour, A: Allocator + Copy, K: Keeper<A>>(
     ensures beside { IfSome beside.new (λ s. s ≡ handler.new.state) }
 {
     fill_beside(handler, beside)?;
-    let Some(before) = beside else { unreachable!() };
-    match hear_over(handler, before, keeper, is_stored, message) {
+    let Some(ahead) = beside else { unreachable!() };
+    match hear_ahead(handler, ahead, keeper, is_stored, message) {
         Ok(heard) => {
-            if !(is_stored && leaves_state(heard.note)) {
-                renew_beside(handler, beside);
-            }
+            follow(beside, message);
             Ok(heard)
         }
         Err(error) => {
-            renew_beside(handler, beside);
+            *beside = None;
             Err(error)
         }
     }
@@ -202,8 +171,8 @@ pub fn hear_and_store<B: Behaviour, A: Allocator + Copy, K: Keeper<A>>(
     ensures honest { K.is_honest keeper.new → K.is_honest keeper.old }
     ensures job { job_out handler.new ≡ job_out handler.old }
 {
-    let mut before = handler.copy()?;
-    hear_over(handler, &mut before, keeper, is_stored, message)
+    let mut ahead = handler.copy()?;
+    hear_ahead(handler, &mut ahead, keeper, is_stored, message)
 }
 
 // Tells the keeper that an entry of this handler has run, and stores the state after it.

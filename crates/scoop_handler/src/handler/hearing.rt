@@ -1,20 +1,16 @@
-//! The hearing of a message: the row of the table that fits it.
+//! The hearing of a message.
 
-ghost use Rattle.std.specs.Prelude.{◌≡◌, IfOk, OnErr, IsErr, IsTrue};
-ghost use Rattle.scoop_message.specs.Message.{handler_of, is_for_handler};
+ghost use Rattle.std.specs.Prelude.{◌≡◌, IfOk, OnErr, IsErr};
 ghost use Rattle.scoop_handler.specs.Core.{IsCore, with_state};
 ghost use Rattle.scoop_handler.specs.Growing.{MarksGrow};
-ghost use Rattle.scoop_handler.specs.Marks.{mark_of};
-ghost use Rattle.scoop_handler.specs.Hearing.{hear, mark_for, IsHeardAt};
+ghost use Rattle.scoop_handler.specs.Hearing.{hear};
 ghost use Rattle.scoop_handler.specs.Memory.{TakesMemory};
 ghost use Rattle.scoop_handler.specs.Locking.{ConfirmsOnlyHolder, HolderMoves, DroppedChangesNothing};
-ghost use Rattle.scoop_handler.specs.Replies.{RepliesTo, HasEntries};
+ghost use Rattle.scoop_handler.specs.Replies.{RepliesTo};
 
 use crate::handler::Handler;
-use crate::mark::Mark;
-use crate::marks::find_mark;
-use crate::note::{Heard, Reason};
-use scoop_message::{Block, Message, OutOfMemory};
+use crate::note::Heard;
+use scoop_message::{Message, OutOfMemory};
 use scoop_object::Behaviour;
 use std::alloc::Allocator;
 
@@ -38,66 +34,6 @@ impl<B: Behaviour, A: Allocator + Copy> Handler<B, A> {
         ensures grows { MarksGrow self.old.state.marks self.new.state.marks }
         ensures words { self.new.state.words ≡ self.old.state.words }
     {
-        let is_here = message.handler() == self.number;
-        if !message.for_handler() {
-            return Ok(Heard::dropped(Reason::NotForHandlers));
-        }
-        if !is_here {
-            return Ok(Heard::dropped(Reason::WrongHandler));
-        }
-        self.hear_here(message)
-    }
-
-    // Hears a message to this handler.
-    fn hear_here(&mut self, message: &Message) -> Result<Heard, OutOfMemory>
-        requires kind { IsTrue (is_for_handler message.now) }
-        requires number { handler_of message.now ≡ self.old.state.number }
-        ensures ok { IfOk result (λ heard. hear self.old.state message.now ≡ (self.new.state, heard)) }
-        ensures stays { self.new ≡ with_state self.new.state self.old }
-        ensures err { OnErr result (self.new ≡ self.old) }
-        ensures memory { IsErr result → TakesMemory self.old.state message.now }
-        ensures entries { HasEntries message.now }
-    {
-        match *message {
-            Message::Hello(_, client, inc) => self.hear_hello(client, inc),
-            Message::Lock(_, block) => Ok(match self.mark_for(block) {
-                Ok(mark) => self.hear_lock(block, mark),
-                Err(why) => Heard::dropped(why),
-            }),
-            Message::Open(_, block) => match self.mark_for(block) {
-                Ok(mark) => self.hear_open(block, mark),
-                Err(why) => Ok(Heard::dropped(why)),
-            },
-            Message::Unlock(_, block) => Ok(match self.mark_for(block) {
-                Ok(mark) => self.hear_unlock(block, mark),
-                Err(why) => Heard::dropped(why),
-            }),
-            Message::Log(_, block, number, entries) => {
-                // For the prover: there are entries, and only the last may be an End.
-                let _count = entries.len();
-                match self.mark_for(block) {
-                    Ok(mark) => self.hear_log(block, number, entries.as_slice(), mark),
-                    Err(why) => Ok(Heard::dropped(why)),
-                }
-            }
-            _ => unreachable!(),
-        }
-    }
-
-    // The mark for a message of this block, or why the message is dropped.
-    fn mark_for(&self, block: Block) -> Result<Mark, Reason>
-        ensures mark { result ≡ mark_for block (mark_of block.client self.now.state.marks) }
-        ensures heard { IfOk result (IsHeardAt self.now.state block) }
-    {
-        let Some(mark) = find_mark(&self.marks, block.client) else {
-            return Err(Reason::Ungreeted);
-        };
-        if mark.inc < block.inc {
-            return Err(Reason::Ungreeted);
-        }
-        if block.inc < mark.inc || block.num < mark.num {
-            return Err(Reason::Stale);
-        }
-        Ok(mark)
+        self.state.hear(message)
     }
 }

@@ -7,7 +7,7 @@ ghost use Rattle.scoop_handler.specs.Running.{FitsClass};
 
 use crate::error::WrongClass;
 use crate::handler::Handler;
-use crate::presence::{Presence, set_words};
+use crate::setting::set_words;
 use crate::state::HandlerState;
 use scoop_message::{HandlerId, OutOfMemory};
 use scoop_object::{Behaviour, Class};
@@ -31,15 +31,17 @@ impl<B: Behaviour, A: Allocator + Copy> Handler<B, A> {
         if !object.has_class(&class) {
             return Err(WrongClass(object));
         }
-        // For the prover: they are as many as the class has.
-        let _words = object.words();
-        Ok(Handler {
-            class,
+        let state = HandlerState {
             number,
             holder: None,
             marks: Vec::new(alloc),
             queues: QueueOfQueues::new(alloc),
-            presence: Presence::Here(object),
+            words: object.words(),
+        };
+        Ok(Handler {
+            class,
+            state,
+            object: Some(object),
         })
     }
 
@@ -47,13 +49,7 @@ impl<B: Behaviour, A: Allocator + Copy> Handler<B, A> {
     pub fn copy(&self) -> Result<HandlerState<A>, OutOfMemory>
         ensures { IfOk result (λ copy. copy ≡ self.now.state) }
     {
-        HandlerState::copied(
-            self.number,
-            self.holder,
-            &self.marks,
-            &self.queues,
-            self.words(),
-        )
+        self.state.copy()
     }
 }
 
@@ -77,11 +73,8 @@ impl<B: Behaviour, A: Allocator> Handler<B, A> {
         set_words(&mut object, state.words);
         Ok(Handler {
             class,
-            number: state.number,
-            holder: state.holder,
-            marks: state.marks,
-            queues: state.queues,
-            presence: Presence::Here(object),
+            state,
+            object: Some(object),
         })
     }
 }

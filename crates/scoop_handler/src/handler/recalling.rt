@@ -5,7 +5,7 @@ ghost use Rattle.scoop_handler.specs.Core.{IsCore, core_of, with_state};
 ghost use Rattle.scoop_handler.specs.Running.{MayRecall, MayReset, job_out};
 
 use crate::handler::Handler;
-use crate::presence::{Presence, set_words};
+use crate::setting::set_words;
 use crate::state::HandlerState;
 use scoop_object::Behaviour;
 use std::alloc::Allocator;
@@ -25,12 +25,10 @@ impl<B: Behaviour, A: Allocator> Handler<B, A> {
         if !self.may_reset(&state) {
             return Err(state);
         }
-        if let Presence::Here(object) = &mut self.presence {
+        if let Some(object) = &mut self.object {
             set_words(object, state.words);
         }
-        self.holder = state.holder;
-        self.marks = state.marks;
-        self.queues = state.queues;
+        self.state = state;
         Ok(())
     }
 
@@ -53,10 +51,8 @@ impl<B: Behaviour, A: Allocator> Handler<B, A> {
             return Err((object, state));
         }
         set_words(&mut object, state.words);
-        self.presence = Presence::Here(object);
-        self.holder = state.holder;
-        self.marks = state.marks;
-        self.queues = state.queues;
+        self.object = Some(object);
+        self.state = state;
         Ok(())
     }
 
@@ -65,21 +61,17 @@ impl<B: Behaviour, A: Allocator> Handler<B, A> {
         ensures may { IsTrue result ↔ MayReset state.now self.now }
         ensures sound { IsCore self.now }
     {
-        let job_stays = match &self.presence {
-            Presence::Here(_) => true,
-            Presence::Out(left) => {
-                state.words == *left && state.queues.front() == self.queues.front()
-            }
-        };
-        state.number == self.number && state.words.len() == self.class.words() && job_stays
+        let job_stays = self.object.is_some()
+            || state.words == self.state.words && state.queues.front() == self.state.queues.front();
+        state.number == self.state.number && state.words.len() == self.class.words() && job_stays
     }
 
     // Whether `recall` takes the object and the state.
     fn may_recall(&self, object: &B, state: &HandlerState<A>) -> bool
         ensures { IsTrue result ↔ MayRecall (B.class object.now) state.now self.now }
     {
-        matches!(self.presence, Presence::Out(_))
-            && state.number == self.number
+        self.object.is_none()
+            && state.number == self.state.number
             && state.words.len() == self.class.words()
             && object.has_class(&self.class)
     }

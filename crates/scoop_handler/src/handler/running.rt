@@ -9,13 +9,10 @@ ghost use Rattle.scoop_handler.specs.Running.{after, begun, finished, job_out, r
 use crate::error::{AfterError, StrangerJob};
 use crate::handler::Handler;
 use crate::job::{Done, Job, run_entry};
-use crate::marks::keep_answer_in;
-use crate::presence::Presence;
 use crate::ran::Ran;
 use crate::state::HandlerState;
 use scoop_object::Behaviour;
 use std::alloc::Allocator;
-use std::mem;
 
 impl<B: Behaviour, A: Allocator> Handler<B, A> {
     /// Runs the first entry of the first private queue. Returns `None`, with nothing changed, exactly if there is
@@ -26,10 +23,10 @@ impl<B: Behaviour, A: Allocator> Handler<B, A> {
         ensures sound { IsCore self.new }
         ensures grows { MarksGrow self.old.state.marks self.new.state.marks }
     {
-        let Presence::Here(object) = &mut self.presence else {
+        let Some(object) = &mut self.object else {
             return None;
         };
-        let (block, number, entry) = self.queues.advance()?;
+        let (block, number, entry) = self.state.queues().front()?;
         let answer = run_entry(object, &entry);
         let ran = Ran {
             block,
@@ -37,7 +34,8 @@ impl<B: Behaviour, A: Allocator> Handler<B, A> {
             entry,
             answer,
         };
-        keep_answer_in(&mut self.marks, &ran);
+        let words = object.words();
+        self.state.run_first(&ran, words);
         Some(ran)
     }
 
@@ -48,15 +46,9 @@ impl<B: Behaviour, A: Allocator> Handler<B, A> {
         ensures state { self.new ≡ begun self.old }
         ensures sound { IsCore self.new }
     {
-        let first = self.queues.front()?;
-        let Presence::Here(object) = &self.presence else {
-            return None;
-        };
-        let words = object.words();
-        match mem::replace(&mut self.presence, Presence::Out(words)) {
-            Presence::Here(object) => Some(Job::new(self.number, first, words, object)),
-            Presence::Out(_) => unreachable!(),
-        }
+        let first = self.state.queues.front()?;
+        let object = self.object.take()?;
+        Some(Job::new(self.state.number, first, self.state.words, object))
     }
 
     /// Takes the object of a job back, with the effect of its entry. Takes no memory.
@@ -74,11 +66,9 @@ impl<B: Behaviour, A: Allocator> Handler<B, A> {
         if !self.is_out(&done) {
             return Err(StrangerJob(done));
         }
-        self.queues.advance();
         let ran = done.ran();
-        keep_answer_in(&mut self.marks, &ran);
-        let object = done.into_object();
-        self.presence = Presence::Here(object);
+        self.state.run_first(&ran, done.words());
+        self.object = Some(done.into_object());
         Ok(ran)
     }
 
@@ -88,17 +78,17 @@ impl<B: Behaviour, A: Allocator> Handler<B, A> {
         requires own { state.old ≡ self.now.state }
         ensures { state.new ≡ after done.now self.now.state }
     {
-        state.queues.advance();
-        keep_answer_in(&mut state.marks, &done.ran());
-        state.words = done.words();
+        state.run_first(&done.ran(), done.words());
     }
 
     /// Whether a job is the one that is out.
     pub fn is_out(&self, done: &Done<B>) -> bool
         ensures { IsTrue result ↔ (job_out self.now ≡ Some done.now) }
     {
-        match (&self.presence, self.queues.front()) {
-            (Presence::Out(left), Some(first)) => done.is_of(self.number, first, &self.class, left),
+        match (&self.object, self.state.queues.front()) {
+            (None, Some(first)) => {
+                done.is_of(self.state.number, first, &self.class, &self.state.words)
+            }
             _ => false,
         }
     }

@@ -4,15 +4,13 @@ ghost use Rattle.std.specs.Prelude.{◌≡◌, ◌<◌, length, None, OnOk, OnEr
 ghost use Rattle.scoop_message.specs.Entries.{EndOnlyLast};
 ghost use Rattle.scoop_queue.specs.Queue.{opened, put_all};
 ghost use Rattle.scoop_queue.specs.Refusal.{HasNumbersFor, open_refusal, put_refusal};
-ghost use Rattle.scoop_handler.specs.Core.{with_state};
 ghost use Rattle.scoop_handler.specs.State.{IsState};
 ghost use Rattle.scoop_handler.specs.Hearing.{moved, with_mark, with_queue, with_incarnation, with_put, holder_without, greeting_mark};
 
-use crate::handler::Handler;
 use crate::mark::{Mark, Stage};
 use crate::marks::{add_mark_in, set_mark_in};
+use crate::state::HandlerState;
 use scoop_message::{Block, ClientId, Entry, OutOfMemory};
-use scoop_object::Behaviour;
 use scoop_queue::{OpenQueueError, PutError, QueueOfQueues};
 use std::alloc::Allocator;
 
@@ -66,11 +64,11 @@ fn put_in<A: Allocator>(
     }
 }
 
-impl<B: Behaviour, A: Allocator> Handler<B, A> {
+impl<A: Allocator> HandlerState<A> {
     // Puts the mark in place of its client's, beside this holder.
     pub(super) fn change(&mut self, holder: Option<Block>, mark: Mark)
-        requires { IsState (moved self.old.state holder mark) }
-        ensures { self.new ≡ with_state (moved self.old.state holder mark) self.old }
+        requires { IsState (moved self.old holder mark) }
+        ensures { self.new ≡ moved self.old holder mark }
     {
         set_mark_in(&mut self.marks, mark);
         self.holder = holder;
@@ -78,8 +76,8 @@ impl<B: Behaviour, A: Allocator> Handler<B, A> {
 
     // Adds the mark of a client that has none. An `Err` changes nothing.
     pub(super) fn add(&mut self, mark: Mark) -> Result<(), OutOfMemory>
-        requires { IsState (with_mark self.old.state mark) }
-        ensures ok { OnOk result (self.new ≡ with_state (with_mark self.old.state mark) self.old) }
+        requires { IsState (with_mark self.old mark) }
+        ensures ok { OnOk result (self.new ≡ with_mark self.old mark) }
         ensures err { OnErr result (self.new ≡ self.old) }
     {
         add_mark_in(&mut self.marks, mark)
@@ -88,8 +86,8 @@ impl<B: Behaviour, A: Allocator> Handler<B, A> {
     // A newer incarnation of the client replaces its mark: its lock is freed, and the private queue of its newest
     // block is cut.
     pub(super) fn renew(&mut self, client: ClientId, inc: u32, mark: Mark)
-        requires { IsState (with_incarnation self.old.state client inc mark) }
-        ensures { self.new ≡ with_state (with_incarnation self.old.state client inc mark) self.old }
+        requires { IsState (with_incarnation self.old client inc mark) }
+        ensures { self.new ≡ with_incarnation self.old client inc mark }
     {
         let holder = self.holder_without(client);
         self.queues.cut(mark.block());
@@ -99,7 +97,7 @@ impl<B: Behaviour, A: Allocator> Handler<B, A> {
 
     // The holder, unless it is a block of that client.
     fn holder_without(&self, client: ClientId) -> Option<Block>
-        ensures { result ≡ holder_without client self.now.state.holder }
+        ensures { result ≡ holder_without client self.now.holder }
     {
         match self.holder {
             Some(holder) if holder.client != client => Some(holder),
@@ -117,10 +115,10 @@ impl<B: Behaviour, A: Allocator> Handler<B, A> {
     ) -> Result<(), OutOfMemory>
         requires some { 0 < length entries.now }
         requires end { EndOnlyLast entries.now }
-        requires numbers { HasNumbersFor block entries.now self.old.state.queues }
-        requires fits { put_refusal block (length entries.now) self.old.state.queues ≡ None }
-        requires state { IsState (with_put self.old.state block entries.now mark) }
-        ensures ok { OnOk result (self.new ≡ with_state (with_put self.old.state block entries.now mark) self.old) }
+        requires numbers { HasNumbersFor block entries.now self.old.queues }
+        requires fits { put_refusal block (length entries.now) self.old.queues ≡ None }
+        requires state { IsState (with_put self.old block entries.now mark) }
+        ensures ok { OnOk result (self.new ≡ with_put self.old block entries.now mark) }
         ensures err { OnErr result (self.new ≡ self.old) }
     {
         put_in(&mut self.queues, block, entries)?;
@@ -129,11 +127,11 @@ impl<B: Behaviour, A: Allocator> Handler<B, A> {
     }
 }
 
-impl<B: Behaviour, A: Allocator + Copy> Handler<B, A> {
+impl<A: Allocator + Copy> HandlerState<A> {
     // Opens a private queue for the block, whose mark this is. An `Err` changes nothing.
     pub(super) fn open(&mut self, block: Block, mark: Mark) -> Result<(), OutOfMemory>
-        requires { IsState (with_queue self.old.state block mark) }
-        ensures ok { OnOk result (self.new ≡ with_state (with_queue self.old.state block mark) self.old) }
+        requires { IsState (with_queue self.old block mark) }
+        ensures ok { OnOk result (self.new ≡ with_queue self.old block mark) }
         ensures err { OnErr result (self.new ≡ self.old) }
     {
         open_in(&mut self.queues, block)?;

@@ -2,17 +2,16 @@
 
 ghost use Rattle.std.specs.Prelude.{◌≡◌, ◌<◌, ◌≤◌, ◌+◌, ◌^◌, ℕ, length, IfOk, OnErr, IsErr, IsTrue, Some};
 ghost use Rattle.scoop_message.specs.Entries.{EndOnlyLast, last_number};
-ghost use Rattle.scoop_handler.specs.Core.{IsCore, with_state};
+ghost use Rattle.scoop_handler.specs.State.{IsState};
 ghost use Rattle.scoop_handler.specs.Hearing.{hear_log, received_before, kept_answer, is_closed, new_entries, has_no_room, IsHeardAt};
 ghost use Rattle.scoop_handler.specs.Rows.{IsNext};
 ghost use Rattle.scoop_handler.specs.Memory.{adds};
 
-use crate::handler::Handler;
 use crate::mark::{Mark, Stage};
 use crate::note::{Heard, Note, Reason};
+use crate::state::HandlerState;
 use scoop_message::limits::{MAX_ENTRIES, MAX_PENDING};
 use scoop_message::{Block, Entry, Message, OutOfMemory, ends};
-use scoop_object::Behaviour;
 use std::alloc::Allocator;
 
 // Whether the block takes no more, or entries up to the number `last` would leave none for the End.
@@ -33,7 +32,7 @@ fn unreceived<'a>(mark: &Mark, number: u32, entries: &'a [Entry]) -> &'a [Entry]
     &entries[skipped as usize..]
 }
 
-impl<B: Behaviour, A: Allocator> Handler<B, A> {
+impl<A: Allocator> HandlerState<A> {
     // The block logs entries, the first of which has this number. `mark` is its client's. An `Err` comes only if
     // entries would be taken, and changes nothing.
     pub(super) fn hear_log(
@@ -43,14 +42,13 @@ impl<B: Behaviour, A: Allocator> Handler<B, A> {
         entries: &[Entry],
         mark: Mark,
     ) -> Result<Heard, OutOfMemory>
-        requires heard { IsHeardAt self.old.state block mark }
+        requires heard { IsHeardAt self.old block mark }
         requires some { 0 < length entries.now }
         requires few { length entries.now ≤ MAX_ENTRIES }
         requires end { EndOnlyLast entries.now }
-        ensures ok { IfOk result (λ heard. hear_log self.old.state block number entries.now mark ≡ (self.new.state, heard)) }
-        ensures stays { self.new ≡ with_state self.new.state self.old }
+        ensures ok { IfOk result (λ heard. hear_log self.old block number entries.now mark ≡ (self.new, heard)) }
         ensures err { OnErr result (self.new ≡ self.old) }
-        ensures memory { IsErr result → IsTrue (adds (Some mark) (hear_log self.old.state block number entries.now mark).1.note) }
+        ensures memory { IsErr result → IsTrue (adds (Some mark) (hear_log self.old block number entries.now mark).1.note) }
     {
         if mark.num < block.num || mark.stage != Stage::Open {
             return Ok(Heard::dropped(Reason::NotOpen));
@@ -80,15 +78,15 @@ impl<B: Behaviour, A: Allocator> Handler<B, A> {
     // Whether the block's private queue has no room for this many more entries.
     fn has_no_room(&self, block: Block, more: usize) -> bool
         requires { more ≤ MAX_ENTRIES }
-        ensures value { result ≡ has_no_room self.now.state block more }
-        ensures core { IsCore self.now }
+        ensures value { result ≡ has_no_room self.now block more }
+        ensures state { IsState self.now }
     {
         self.queues.pending_len(block) + more > MAX_PENDING
     }
 
     // The reply to entries that were all received, the last of which has this number.
     fn received_before(&self, block: Block, last: u32, mark: &Mark) -> Heard
-        ensures { received_before self.now.state block last mark.now (kept_answer last mark.now.kept) ≡ (self.now.state, result) }
+        ensures { received_before self.now block last mark.now (kept_answer last mark.now.kept) ≡ (self.now, result) }
     {
         let reply = match mark.kept {
             Some((number, answer)) if number == last => {

@@ -1,29 +1,26 @@
 //! Greetings of clients.
 
 ghost use Rattle.std.specs.Prelude.{◌≡◌, IfOk, OnErr, IsErr, IsTrue};
-ghost use Rattle.scoop_handler.specs.Core.{with_state};
 ghost use Rattle.scoop_handler.specs.Marks.{mark_of};
 ghost use Rattle.scoop_handler.specs.Hearing.{hear_hello};
 ghost use Rattle.scoop_handler.specs.Memory.{adds};
 
-use crate::handler::Handler;
-use crate::handler::changing::greeting;
 use crate::marks::find_mark;
 use crate::note::{Heard, Note, Reason};
+use crate::state::HandlerState;
+use crate::state::changing::greeting;
 use scoop_message::limits::MAX_MARKS;
 use scoop_message::{ClientId, Message, OutOfMemory};
-use scoop_object::Behaviour;
 use std::alloc::Allocator;
 
-impl<B: Behaviour, A: Allocator> Handler<B, A> {
+impl<A: Allocator> HandlerState<A> {
     // A client greets. Only its first greeting can return an `Err`, which changes nothing.
     pub(super) fn hear_hello(&mut self, client: ClientId, inc: u32) -> Result<Heard, OutOfMemory>
         ensures ok { IfOk result
-            (λ heard. hear_hello self.old.state client inc (mark_of client self.old.state.marks) ≡ (self.new.state, heard)) }
-        ensures stays { self.new ≡ with_state self.new.state self.old }
+            (λ heard. hear_hello self.old client inc (mark_of client self.old.marks) ≡ (self.new, heard)) }
         ensures err { OnErr result (self.new ≡ self.old) }
         ensures memory { IsErr result →
-            IsTrue (adds (mark_of client self.old.state.marks) (hear_hello self.old.state client inc (mark_of client self.old.state.marks)).1.note) }
+            IsTrue (adds (mark_of client self.old.marks) (hear_hello self.old client inc (mark_of client self.old.marks)).1.note) }
     {
         let welcome = Message::Welcome(self.number, client, inc);
         let Some(mark) = find_mark(&self.marks, client) else {

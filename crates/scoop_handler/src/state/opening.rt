@@ -1,27 +1,24 @@
 //! Requests for a private queue.
 
 ghost use Rattle.std.specs.Prelude.{◌≡◌, IfOk, OnErr, IsErr, IsTrue, Some};
-ghost use Rattle.scoop_handler.specs.Core.{with_state};
 ghost use Rattle.scoop_handler.specs.Hearing.{hear_open, IsHeardAt};
 ghost use Rattle.scoop_handler.specs.Memory.{adds};
 
-use crate::handler::Handler;
 use crate::mark::{Mark, Stage};
 use crate::note::{Heard, Note, Reason};
+use crate::state::HandlerState;
 use scoop_message::limits::MAX_QUEUES;
 use scoop_message::{Block, Message, OutOfMemory};
-use scoop_object::Behaviour;
 use std::alloc::Allocator;
 
-impl<B: Behaviour, A: Allocator + Copy> Handler<B, A> {
+impl<A: Allocator + Copy> HandlerState<A> {
     // The block asks for a private queue. `mark` is its client's. An `Err` comes only if the block would get one,
     // and changes nothing.
     pub(super) fn hear_open(&mut self, block: Block, mark: Mark) -> Result<Heard, OutOfMemory>
-        requires { IsHeardAt self.old.state block mark }
-        ensures ok { IfOk result (λ heard. hear_open self.old.state block mark ≡ (self.new.state, heard)) }
-        ensures stays { self.new ≡ with_state self.new.state self.old }
+        requires { IsHeardAt self.old block mark }
+        ensures ok { IfOk result (λ heard. hear_open self.old block mark ≡ (self.new, heard)) }
         ensures err { OnErr result (self.new ≡ self.old) }
-        ensures memory { IsErr result → IsTrue (adds (Some mark) (hear_open self.old.state block mark).1.note) }
+        ensures memory { IsErr result → IsTrue (adds (Some mark) (hear_open self.old block mark).1.note) }
     {
         if mark.num < block.num {
             return Ok(Heard::dropped(Reason::NotHolder));

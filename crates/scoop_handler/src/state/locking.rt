@@ -1,23 +1,20 @@
 //! Requests for the lock, and its return.
 
 ghost use Rattle.std.specs.Prelude.{◌≡◌};
-ghost use Rattle.scoop_handler.specs.Core.{with_state};
 ghost use Rattle.scoop_handler.specs.State.{is_holder, is_unfinished};
 ghost use Rattle.scoop_handler.specs.Hearing.{hear_lock, hear_unlock, IsHeardAt};
 
-use crate::handler::Handler;
 use crate::mark::{Mark, Stage};
 use crate::note::{Heard, Note, Reason};
+use crate::state::HandlerState;
 use scoop_message::{Block, Message};
-use scoop_object::Behaviour;
 use std::alloc::Allocator;
 
-impl<B: Behaviour, A: Allocator> Handler<B, A> {
+impl<A: Allocator> HandlerState<A> {
     // The block asks for the lock. `mark` is its client's.
     pub(super) fn hear_lock(&mut self, block: Block, mark: Mark) -> Heard
-        requires { IsHeardAt self.old.state block mark }
-        ensures heard { hear_lock self.old.state block mark ≡ (self.new.state, result) }
-        ensures stays { self.new ≡ with_state self.new.state self.old }
+        requires { IsHeardAt self.old block mark }
+        ensures heard { hear_lock self.old block mark ≡ (self.new, result) }
     {
         if mark.num < block.num {
             if self.holder.is_none() && !self.is_unfinished(&mark) {
@@ -34,9 +31,8 @@ impl<B: Behaviour, A: Allocator> Handler<B, A> {
 
     // The block gives the lock back, or is past asking for it. `mark` is its client's.
     pub(super) fn hear_unlock(&mut self, block: Block, mark: Mark) -> Heard
-        requires { IsHeardAt self.old.state block mark }
-        ensures heard { hear_unlock self.old.state block mark ≡ (self.new.state, result) }
-        ensures stays { self.new ≡ with_state self.new.state self.old }
+        requires { IsHeardAt self.old block mark }
+        ensures heard { hear_unlock self.old block mark ≡ (self.new, result) }
     {
         let unlocked = Message::Unlocked(self.number, block);
         if mark.num < block.num {
@@ -55,13 +51,13 @@ impl<B: Behaviour, A: Allocator> Handler<B, A> {
 
     // Whether the client's newest block holds the lock, or is open and has not ended.
     fn is_unfinished(&self, mark: &Mark) -> bool
-        ensures { result ≡ is_unfinished self.now.state mark.now }
+        ensures { result ≡ is_unfinished self.now mark.now }
     {
         self.holds(mark.block()) || mark.stage == Stage::Open && !mark.ended
     }
 
     fn holds(&self, block: Block) -> bool
-        ensures { result ≡ is_holder self.now.state.holder block }
+        ensures { result ≡ is_holder self.now.holder block }
     {
         match self.holder {
             None => false,

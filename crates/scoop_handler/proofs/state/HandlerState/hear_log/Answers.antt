@@ -4,11 +4,11 @@ use Rattle.scoop_message.specs.Entries.{last_number}
 use Rattle.scoop_handler.specs.Hearing.{is_closed, has_no_room, new_entries}
 use Rattle.scoop_handler.specs.Rows.{IsLogAt, IsNext}
 use Rattle.scoop_handler.proofs.States.{MayTake, may_take, open_stage}
-use Rattle.scoop_handler.proofs.handler.Handler.hear_log.Goals as goal
+use Rattle.scoop_handler.proofs.state.HandlerState.hear_log.Goals as goal
 
-may : (g : _) (c : goal.After-with_received g) → MayTake c.args.self.now.state c.args.block c.args.number c.args.entries.now c.args.mark
+may : (g : _) (c : goal.After-with_received g) → MayTake c.args.self.now c.args.block c.args.number c.args.entries.now c.args.mark
 may g c =
-    let s = c.args.self.now.state in
+    let s = c.args.self.now in
     let b = c.args.block in
     let n = c.args.number in
     let es = c.args.entries.now in
@@ -22,7 +22,7 @@ may g c =
     let closed : is_closed k (last_number n es) es ≡ false = ap (λ i. is_closed k i es) (sym last) ∙ (sym c.is_closed.ensures ∙ c.if-is_closed.false) in
     let room : has_no_room s b (length (new_entries n es k)) ≡ false = ap (λ (l : List Entry). has_no_room s b (length l)) (sym c.unreceived-new.ensures.new)
     ∙ (sym c.has_no_room.ensures.value ∙ c.if-has_no_room.false) in
-    may_take s b n es k c.has_no_room.ensures.core.state at next c.requires.some c.requires.end closed room
+    may_take s b n es k c.has_no_room.ensures.state at next c.requires.some c.requires.end closed room
 
 pub put-requires-clause-end : goal.put-requires-clause-end
 put-requires-clause-end g c = rw c.unreceived-new.ensures.new (may g c).end

@@ -1,16 +1,9 @@
-//! The place of a handler's object.
+//! The words of an object.
 
 ghost use Rattle.std.specs.Prelude.{◌≡◌, length};
 
 use scoop_message::Words;
 use scoop_object::Behaviour;
-
-/// An object that is here, or the words with which it left for a job.
-#[derive(Debug, Drop)]
-pub(crate) enum Presence<B> {
-    Here(B),
-    Out(Words),
-}
 
 /// Sets the words of an object.
 pub(crate) fn set_words<B: Behaviour>(object: &mut B, words: Words)

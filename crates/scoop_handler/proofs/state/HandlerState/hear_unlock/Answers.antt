@@ -1,0 +1,16 @@
+use Rattle.std.proofs.Common.{◌≡◌, false, sym, ap, subst, ◌∙◌}
+use Rattle.scoop_handler.specs.State.{HandlerState, IsState, is_unfinished}
+use Rattle.scoop_handler.proofs.States.{IsState-skipped, IsState-freed}
+use Rattle.scoop_handler.proofs.state.HandlerState.hear_unlock.Goals as goal
+
+pub change-requires : goal.change-requires
+change-requires g c =
+    let is : IsState c.args.self.now = subst IsState c.self.view_is c.self.invariant in
+    let same_holder = ap (λ (s : HandlerState). s.holder) c.change.view_is in
+    let clear : is_unfinished c.args.self.now c.args.mark ≡ false = sym c.is_unfinished.ensures ∙ c.if-is_unfinished.false in
+    rw (same_holder, c.fresh.ensures) (IsState-skipped c.args.self.now c.args.block c.args.mark is c.requires c.if-mark-block.true clear)
+
+pub change-requires-then-holds : goal.change-requires-then-holds
+change-requires-then-holds g c =
+    let is : IsState c.args.self.now = subst IsState c.self.view_is c.self.invariant in
+    rw c.without_hold.ensures (IsState-freed c.args.self.now c.args.block c.args.mark is c.requires (sym c.holds.ensures ∙ c.if-holds.true))

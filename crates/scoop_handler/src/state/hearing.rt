@@ -1,0 +1,92 @@
+//! The hearing of a message: the row of the table that fits it.
+
+ghost use Rattle.std.specs.Prelude.{◌≡◌, IfOk, OnErr, IsErr, IsTrue};
+ghost use Rattle.scoop_message.specs.Message.{handler_of, is_for_handler};
+ghost use Rattle.scoop_handler.specs.Marks.{mark_of};
+ghost use Rattle.scoop_handler.specs.Hearing.{hear, mark_for, IsHeardAt};
+ghost use Rattle.scoop_handler.specs.Memory.{TakesMemory};
+ghost use Rattle.scoop_handler.specs.Replies.{RepliesTo, HasEntries};
+ghost use Rattle.scoop_handler.specs.State.{IsState};
+
+use crate::mark::Mark;
+use crate::marks::find_mark;
+use crate::note::{Heard, Reason};
+use crate::state::HandlerState;
+use scoop_message::{Block, Message, OutOfMemory};
+use std::alloc::Allocator;
+
+impl<A: Allocator + Copy> HandlerState<A> {
+    /// Changes as the handler's state when it hears this message, and returns what the handler would.
+    ///
+    /// Only a message for which more is kept than before can return `OutOfMemory`, which changes nothing.
+    pub fn hear(&mut self, message: &Message) -> Result<Heard, OutOfMemory>
+        ensures ok { IfOk result (λ heard. hear self.old message.now ≡ (self.new, heard)) }
+        ensures err { OnErr result (self.new ≡ self.old) }
+        ensures memory { IsErr result → TakesMemory self.old message.now }
+
+        // Weaker consequences, for callers that need no more.
+        ensures sound { IsState self.new }
+        ensures replies { IfOk result (RepliesTo message.now) }
+    {
+        let is_here = message.handler() == self.number;
+        if !message.for_handler() {
+            return Ok(Heard::dropped(Reason::NotForHandlers));
+        }
+        if !is_here {
+            return Ok(Heard::dropped(Reason::WrongHandler));
+        }
+        self.hear_here(message)
+    }
+
+    // Hears a message to this handler.
+    fn hear_here(&mut self, message: &Message) -> Result<Heard, OutOfMemory>
+        requires kind { IsTrue (is_for_handler message.now) }
+        requires number { handler_of message.now ≡ self.old.number }
+        ensures ok { IfOk result (λ heard. hear self.old message.now ≡ (self.new, heard)) }
+        ensures err { OnErr result (self.new ≡ self.old) }
+        ensures memory { IsErr result → TakesMemory self.old message.now }
+        ensures entries { HasEntries message.now }
+    {
+        match *message {
+            Message::Hello(_, client, inc) => self.hear_hello(client, inc),
+            Message::Lock(_, block) => Ok(match self.mark_for(block) {
+                Ok(mark) => self.hear_lock(block, mark),
+                Err(why) => Heard::dropped(why),
+            }),
+            Message::Open(_, block) => match self.mark_for(block) {
+                Ok(mark) => self.hear_open(block, mark),
+                Err(why) => Ok(Heard::dropped(why)),
+            },
+            Message::Unlock(_, block) => Ok(match self.mark_for(block) {
+                Ok(mark) => self.hear_unlock(block, mark),
+                Err(why) => Heard::dropped(why),
+            }),
+            Message::Log(_, block, number, entries) => {
+                // For the prover: there are entries, and only the last may be an End.
+                let _count = entries.len();
+                match self.mark_for(block) {
+                    Ok(mark) => self.hear_log(block, number, entries.as_slice(), mark),
+                    Err(why) => Ok(Heard::dropped(why)),
+                }
+            }
+            _ => unreachable!(),
+        }
+    }
+
+    // The mark for a message of this block, or why the message is dropped.
+    fn mark_for(&self, block: Block) -> Result<Mark, Reason>
+        ensures mark { result ≡ mark_for block (mark_of block.client self.now.marks) }
+        ensures heard { IfOk result (IsHeardAt self.now block) }
+    {
+        let Some(mark) = find_mark(&self.marks, block.client) else {
+            return Err(Reason::Ungreeted);
+        };
+        if mark.inc < block.inc {
+            return Err(Reason::Ungreeted);
+        }
+        if block.inc < mark.inc || block.num < mark.num {
+            return Err(Reason::Stale);
+        }
+        Ok(mark)
+    }
+}
