@@ -1,6 +1,6 @@
 -- Lookup, change and addition in a list of marks, which stand in the order of their clients, one for each. A lookup
 -- finds a changed or added mark for its own client, and the same as before for every other client.
-use Rattle.std.proofs.Common.{◌≡◌, ℕ, suc, ◌+◌, ◌<◌, Bool, true, false, cond, nat_lt, List, [], ◌∷◌, ◌++◌, Some, None, map, insert, length, take, drop, set}
+use Rattle.std.proofs.Common.{◌≡◌, ℕ, suc, ◌+◌, ◌<◌, true, false, cond, nat_lt, List, [], ◌∷◌, ◌++◌, Some, None, map, insert, length, take, drop, set}
 use Rattle.std.proofs.Common.{get_or, refl, sym, ap, subst, inl, inr, arith}
 use Rattle.std.specs.List.{AllByRecursion, prefix_len}
 use Rattle.std.proofs.lemmas.Bool.{cases_Bool}

@@ -1,17 +1,16 @@
 -- A handler that takes another state.
-use Rattle.std.proofs.Common.{◌≡◌, ℕ, Bool, true, false, IsTrue, List, ◌++◌, length, take, drop, Option, Some, None, is_some, refl, sym, ap, ◌∙◌, subst}
+use Rattle.std.proofs.Common.{◌≡◌, ℕ, true, IsTrue, List, ◌++◌, length, take, drop, Option, Some, None, is_some, refl, sym, ap, ◌∙◌, subst}
 use Rattle.std.proofs.Common.{true≢false}
 use Rattle.std.specs.Option.{option_map}
 use Rattle.std.proofs.lemmas.Option.{none-some, same_Some}
 use Rattle.scoop_message.specs.declared.name.Block.{Block}
 use Rattle.scoop_message.specs.declared.request.Entry.{Entry}
-use Rattle.scoop_object.specs.Class.{ClassTable}
 use Rattle.scoop_queue.specs.Queue.{front}
 use Rattle.std.proofs.Math.Seq.{take-append_seam}
 use Rattle.scoop_handler.specs.declared.mark.Mark.{Mark}
 use Rattle.scoop_handler.specs.Marks.{set_mark}
 use Rattle.scoop_handler.specs.State.{HandlerState, IsState}
-use Rattle.scoop_handler.specs.Core.{Core, IsCore, core_of, with_state}
+use Rattle.scoop_handler.specs.Core.{Core, IsCore, with_state}
 use Rattle.scoop_handler.specs.Running.{Task, MayReset, first_task, job_out, task_of}
 use Rattle.scoop_handler.proofs.MarkLists.{length-set_mark}
 

@@ -1,6 +1,6 @@
 //! The marks of a handler's clients, by ascending client, for binary search.
 
-ghost use Rattle.std.specs.Prelude.{◌≡◌, ◌≤◌, length, map, MatchOption, OnOk, OnErr};
+ghost use Rattle.std.specs.Prelude.{◌≡◌, ◌≤◌, length, map, MatchOption, OnOk, OnErr, Some};
 ghost use Rattle.scoop_handler.specs.Marks.{IsPlaceOf, IsNowhere, mark_of, set_mark, add_mark, place_of};
 ghost use Rattle.scoop_handler.specs.Running.{mark_after};
 ghost use Rattle.scoop_handler.specs.State.{IsAscending};
@@ -32,6 +32,18 @@ fn find_place(marks: &[Mark], client: ClientId) -> Option<usize>
     }
 }
 
+/// The client's mark, and its place.
+pub(crate) fn find_placed(marks: &[Mark], client: ClientId) -> Option<(usize, Mark)>
+    requires { IsAscending marks.now }
+    ensures { MatchOption result (IsNowhere client marks.now)
+        (λ found. IsPlaceOf client marks.now found.0 × (mark_of client marks.now ≡ Some found.1)) }
+{
+    match find_place(marks, client) {
+        Some(place) => Some((place, marks[place])),
+        None => None,
+    }
+}
+
 /// The client's mark.
 pub(crate) fn find_mark(marks: &[Mark], client: ClientId) -> Option<Mark>
     requires { IsAscending marks.now }
@@ -43,14 +55,12 @@ pub(crate) fn find_mark(marks: &[Mark], client: ClientId) -> Option<Mark>
     }
 }
 
-/// Puts the mark in place of its client's.
-pub(crate) fn set_mark_in(marks: &mut [Mark], mark: Mark)
-    requires { IsAscending marks.old }
+/// Puts the mark in place of its client's, which is at this place.
+pub(crate) fn set_mark_in(marks: &mut [Mark], place: usize, mark: Mark)
+    requires { IsPlaceOf mark.client marks.old place }
     ensures { marks.new ≡ set_mark mark marks.old }
 {
-    if let Some(place) = find_place(marks, mark.client) {
-        marks[place] = mark;
-    }
+    marks[place] = mark;
 }
 
 /// Adds the mark of a client that has none, in the order of the clients. An `Err` changes nothing.

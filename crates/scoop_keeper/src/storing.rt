@@ -139,16 +139,16 @@ pub fn hear_beside<B: Behaviour, A: Allocator + Copy, K: Keeper<A>>(
 {
     fill_beside(handler, beside)?;
     let Some(ahead) = beside else { unreachable!() };
-    let told = hear_ahead(handler, ahead, keeper, is_stored, message);
-    let Ok(heard) = &told else {
-        *beside = None;
-        return told;
-    };
-    if leaves_state(heard.note) {
-        return told;
+    match hear_ahead(handler, ahead, keeper, is_stored, message) {
+        Ok(heard) => {
+            follow(beside, message);
+            Ok(heard)
+        }
+        Err(error) => {
+            *beside = None;
+            Err(error)
+        }
     }
-    follow(beside, message);
-    told
 }
 
 /// `hear_beside` with no state beside the handler.

@@ -4,6 +4,7 @@ ghost use Rattle.std.specs.Prelude.{◌≡◌, ◌<◌, length, None, OnOk, OnEr
 ghost use Rattle.scoop_message.specs.Entries.{EndOnlyLast};
 ghost use Rattle.scoop_queue.specs.Queue.{opened, put_all};
 ghost use Rattle.scoop_queue.specs.Refusal.{HasNumbersFor, open_refusal, put_refusal};
+ghost use Rattle.scoop_handler.specs.Marks.{IsPlaceOf};
 ghost use Rattle.scoop_handler.specs.State.{IsState};
 ghost use Rattle.scoop_handler.specs.Hearing.{moved, with_mark, with_queue, with_incarnation, with_put, holder_without, greeting_mark};
 
@@ -65,12 +66,13 @@ fn put_in<A: Allocator>(
 }
 
 impl<A: Allocator> HandlerState<A> {
-    // Puts the mark in place of its client's, beside this holder.
-    pub(super) fn change(&mut self, holder: Option<Block>, mark: Mark)
-        requires { IsState (moved self.old holder mark) }
+    // Puts the mark in place of its client's, which is at this place, beside this holder.
+    pub(super) fn change(&mut self, holder: Option<Block>, place: usize, mark: Mark)
+        requires state { IsState (moved self.old holder mark) }
+        requires place { IsPlaceOf mark.client self.old.marks place }
         ensures { self.new ≡ moved self.old holder mark }
     {
-        set_mark_in(&mut self.marks, mark);
+        set_mark_in(&mut self.marks, place, mark);
         self.holder = holder;
     }
 
@@ -83,15 +85,16 @@ impl<A: Allocator> HandlerState<A> {
         add_mark_in(&mut self.marks, mark)
     }
 
-    // A newer incarnation of the client replaces its mark: its lock is freed, and the private queue of its newest
-    // block is cut.
-    pub(super) fn renew(&mut self, client: ClientId, inc: u32, mark: Mark)
-        requires { IsState (with_incarnation self.old client inc mark) }
+    // A newer incarnation of the client replaces its mark at this place: its lock is freed, and the private queue of its
+    // newest block is cut.
+    pub(super) fn renew(&mut self, client: ClientId, inc: u32, place: usize, mark: Mark)
+        requires state { IsState (with_incarnation self.old client inc mark) }
+        requires place { IsPlaceOf client self.old.marks place }
         ensures { self.new ≡ with_incarnation self.old client inc mark }
     {
         let holder = self.holder_without(client);
         self.queues.cut(mark.block());
-        set_mark_in(&mut self.marks, greeting(client, inc));
+        set_mark_in(&mut self.marks, place, greeting(client, inc));
         self.holder = holder;
     }
 
@@ -105,12 +108,13 @@ impl<A: Allocator> HandlerState<A> {
         }
     }
 
-    // Puts entries after those of the block's private queue, and the mark in place of its client's. An `Err`
-    // changes nothing.
+    // Puts entries after those of the block's private queue, and the mark in place of its client's, which is at this place.
+    // An `Err` changes nothing.
     pub(super) fn put(
         &mut self,
         block: Block,
         entries: &[Entry],
+        place: usize,
         mark: Mark,
     ) -> Result<(), OutOfMemory>
         requires some { 0 < length entries.now }
@@ -118,24 +122,26 @@ impl<A: Allocator> HandlerState<A> {
         requires numbers { HasNumbersFor block entries.now self.old.queues }
         requires fits { put_refusal block (length entries.now) self.old.queues ≡ None }
         requires state { IsState (with_put self.old block entries.now mark) }
+        requires place { IsPlaceOf mark.client self.old.marks place }
         ensures ok { OnOk result (self.new ≡ with_put self.old block entries.now mark) }
         ensures err { OnErr result (self.new ≡ self.old) }
     {
         put_in(&mut self.queues, block, entries)?;
-        set_mark_in(&mut self.marks, mark);
+        set_mark_in(&mut self.marks, place, mark);
         Ok(())
     }
 }
 
 impl<A: Allocator + Copy> HandlerState<A> {
-    // Opens a private queue for the block, whose mark this is. An `Err` changes nothing.
-    pub(super) fn open(&mut self, block: Block, mark: Mark) -> Result<(), OutOfMemory>
-        requires { IsState (with_queue self.old block mark) }
+    // Opens a private queue for the block, whose client's mark is this, at this place. An `Err` changes nothing.
+    pub(super) fn open(&mut self, block: Block, place: usize, mark: Mark) -> Result<(), OutOfMemory>
+        requires state { IsState (with_queue self.old block mark) }
+        requires place { IsPlaceOf mark.client self.old.marks place }
         ensures ok { OnOk result (self.new ≡ with_queue self.old block mark) }
         ensures err { OnErr result (self.new ≡ self.old) }
     {
         open_in(&mut self.queues, block)?;
-        set_mark_in(&mut self.marks, mark.opened());
+        set_mark_in(&mut self.marks, place, mark.opened());
         Ok(())
     }
 }

@@ -5,7 +5,7 @@ ghost use Rattle.scoop_handler.specs.Marks.{mark_of};
 ghost use Rattle.scoop_handler.specs.Hearing.{hear_hello};
 ghost use Rattle.scoop_handler.specs.Memory.{adds};
 
-use crate::marks::find_mark;
+use crate::marks::find_placed;
 use crate::note::{Heard, Note, Reason};
 use crate::state::HandlerState;
 use crate::state::changing::greeting;
@@ -23,7 +23,7 @@ impl<A: Allocator> HandlerState<A> {
             IsTrue (adds (mark_of client self.old.marks) (hear_hello self.old client inc (mark_of client self.old.marks)).1.note) }
     {
         let welcome = Message::Welcome(self.number, client, inc);
-        let Some(mark) = find_mark(&self.marks, client) else {
+        let Some((place, mark)) = find_placed(&self.marks, client) else {
             if self.marks.len() == MAX_MARKS {
                 return Ok(Heard::dropped(Reason::TooManyClients));
             }
@@ -31,7 +31,7 @@ impl<A: Allocator> HandlerState<A> {
             return Ok(Heard::replied(welcome, Note::Greeted));
         };
         if mark.inc < inc {
-            self.renew(client, inc, mark);
+            self.renew(client, inc, place, mark);
             return Ok(Heard::replied(welcome, Note::Greeted));
         }
         if mark.inc == inc {

@@ -1,15 +1,15 @@
 //! The hearing of a message: the row of the table that fits it.
 
-ghost use Rattle.std.specs.Prelude.{◌≡◌, IfOk, OnErr, IsErr, IsTrue};
+ghost use Rattle.std.specs.Prelude.{◌≡◌, Ok, Err, IfOk, IfErr, OnErr, IsErr, IsTrue};
 ghost use Rattle.scoop_message.specs.Message.{handler_of, is_for_handler};
-ghost use Rattle.scoop_handler.specs.Marks.{mark_of};
+ghost use Rattle.scoop_handler.specs.Marks.{mark_of, IsPlaceOf};
 ghost use Rattle.scoop_handler.specs.Hearing.{hear, mark_for, IsHeardAt};
 ghost use Rattle.scoop_handler.specs.Memory.{TakesMemory};
 ghost use Rattle.scoop_handler.specs.Replies.{RepliesTo, HasEntries};
 ghost use Rattle.scoop_handler.specs.State.{IsState};
 
 use crate::mark::Mark;
-use crate::marks::find_mark;
+use crate::marks::find_placed;
 use crate::note::{Heard, Reason};
 use crate::state::HandlerState;
 use scoop_message::{Block, Message, OutOfMemory};
@@ -50,22 +50,24 @@ impl<A: Allocator + Copy> HandlerState<A> {
         match *message {
             Message::Hello(_, client, inc) => self.hear_hello(client, inc),
             Message::Lock(_, block) => Ok(match self.mark_for(block) {
-                Ok(mark) => self.hear_lock(block, mark),
+                Ok((place, mark)) => self.hear_lock(block, place, mark),
                 Err(why) => Heard::dropped(why),
             }),
             Message::Open(_, block) => match self.mark_for(block) {
-                Ok(mark) => self.hear_open(block, mark),
+                Ok((place, mark)) => self.hear_open(block, place, mark),
                 Err(why) => Ok(Heard::dropped(why)),
             },
             Message::Unlock(_, block) => Ok(match self.mark_for(block) {
-                Ok(mark) => self.hear_unlock(block, mark),
+                Ok((place, mark)) => self.hear_unlock(block, place, mark),
                 Err(why) => Heard::dropped(why),
             }),
             Message::Log(_, block, number, entries) => {
                 // For the prover: there are entries, and only the last may be an End.
                 let _count = entries.len();
                 match self.mark_for(block) {
-                    Ok(mark) => self.hear_log(block, number, entries.as_slice(), mark),
+                    Ok((place, mark)) => {
+                        self.hear_log(block, number, entries.as_slice(), place, mark)
+                    }
                     Err(why) => Ok(Heard::dropped(why)),
                 }
             }
@@ -73,12 +75,14 @@ impl<A: Allocator + Copy> HandlerState<A> {
         }
     }
 
-    // The mark for a message of this block, or why the message is dropped.
-    fn mark_for(&self, block: Block) -> Result<Mark, Reason>
-        ensures mark { result ≡ mark_for block (mark_of block.client self.now.marks) }
-        ensures heard { IfOk result (IsHeardAt self.now block) }
+    // The mark for a message of this block, and its place, or why the message is dropped.
+    fn mark_for(&self, block: Block) -> Result<(usize, Mark), Reason>
+        ensures found { IfOk result (λ found. mark_for block (mark_of block.client self.now.marks) ≡ Ok found.1) }
+        ensures dropped { IfErr result (λ why. mark_for block (mark_of block.client self.now.marks) ≡ Err why) }
+        ensures place { IfOk result (λ found. IsPlaceOf block.client self.now.marks found.0) }
+        ensures heard { IfOk result (λ found. IsHeardAt self.now block found.1) }
     {
-        let Some(mark) = find_mark(&self.marks, block.client) else {
+        let Some((place, mark)) = find_placed(&self.marks, block.client) else {
             return Err(Reason::Ungreeted);
         };
         if mark.inc < block.inc {
@@ -87,6 +91,6 @@ impl<A: Allocator + Copy> HandlerState<A> {
         if block.inc < mark.inc || block.num < mark.num {
             return Err(Reason::Stale);
         }
-        Ok(mark)
+        Ok((place, mark))
     }
 }

@@ -1,6 +1,7 @@
 //! Requests for the lock, and its return.
 
 ghost use Rattle.std.specs.Prelude.{◌≡◌};
+ghost use Rattle.scoop_handler.specs.Marks.{IsPlaceOf};
 ghost use Rattle.scoop_handler.specs.State.{is_holder, is_unfinished};
 ghost use Rattle.scoop_handler.specs.Hearing.{hear_lock, hear_unlock, IsHeardAt};
 
@@ -11,14 +12,15 @@ use scoop_message::{Block, Message};
 use std::alloc::Allocator;
 
 impl<A: Allocator> HandlerState<A> {
-    // The block asks for the lock. `mark` is its client's.
-    pub(super) fn hear_lock(&mut self, block: Block, mark: Mark) -> Heard
-        requires { IsHeardAt self.old block mark }
+    // The block asks for the lock. `mark` is its client's, at this place.
+    pub(super) fn hear_lock(&mut self, block: Block, place: usize, mark: Mark) -> Heard
+        requires heard { IsHeardAt self.old block mark }
+        requires place { IsPlaceOf block.client self.old.marks place }
         ensures heard { hear_lock self.old block mark ≡ (self.new, result) }
     {
         if mark.num < block.num {
             if self.holder.is_none() && !self.is_unfinished(&mark) {
-                self.change(Some(block), Mark::fresh(block, Stage::Held));
+                self.change(Some(block), place, Mark::fresh(block, Stage::Held));
                 return Heard::replied(Message::Locked(self.number, block), Note::Granted);
             }
             return Heard::replied(Message::Busy(self.number, block), Note::Held);
@@ -29,9 +31,10 @@ impl<A: Allocator> HandlerState<A> {
         }
     }
 
-    // The block gives the lock back, or is past asking for it. `mark` is its client's.
-    pub(super) fn hear_unlock(&mut self, block: Block, mark: Mark) -> Heard
-        requires { IsHeardAt self.old block mark }
+    // The block gives the lock back, or is past asking for it. `mark` is its client's, at this place.
+    pub(super) fn hear_unlock(&mut self, block: Block, place: usize, mark: Mark) -> Heard
+        requires heard { IsHeardAt self.old block mark }
+        requires place { IsPlaceOf block.client self.old.marks place }
         ensures heard { hear_unlock self.old block mark ≡ (self.new, result) }
     {
         let unlocked = Message::Unlocked(self.number, block);
@@ -39,11 +42,11 @@ impl<A: Allocator> HandlerState<A> {
             if self.is_unfinished(&mark) {
                 return Heard::dropped(Reason::NotHolder);
             }
-            self.change(self.holder, Mark::fresh(block, Stage::Shut));
+            self.change(self.holder, place, Mark::fresh(block, Stage::Shut));
             return Heard::replied(unlocked, Note::Freed);
         }
         if self.holds(block) {
-            self.change(None, mark.without_hold());
+            self.change(None, place, mark.without_hold());
             return Heard::replied(unlocked, Note::Freed);
         }
         Heard::replied(unlocked, Note::Known)

@@ -4,6 +4,7 @@ ghost use Rattle.std.specs.Prelude.{◌≡◌, ◌<◌, ◌≤◌, ◌+◌, ◌^
 ghost use Rattle.scoop_message.specs.Entries.{EndOnlyLast, last_number};
 ghost use Rattle.scoop_handler.specs.State.{IsState};
 ghost use Rattle.scoop_handler.specs.Hearing.{hear_log, received_before, kept_answer, is_closed, new_entries, has_no_room, IsHeardAt};
+ghost use Rattle.scoop_handler.specs.Marks.{IsPlaceOf};
 ghost use Rattle.scoop_handler.specs.Rows.{IsNext};
 ghost use Rattle.scoop_handler.specs.Memory.{adds};
 
@@ -33,16 +34,18 @@ fn unreceived<'a>(mark: &Mark, number: u32, entries: &'a [Entry]) -> &'a [Entry]
 }
 
 impl<A: Allocator> HandlerState<A> {
-    // The block logs entries, the first of which has this number. `mark` is its client's. An `Err` comes only if
-    // entries would be taken, and changes nothing.
+    // The block logs entries, the first of which has this number. `mark` is its client's, at this place. An `Err`
+    // comes only if entries would be taken, and changes nothing.
     pub(super) fn hear_log(
         &mut self,
         block: Block,
         number: u32,
         entries: &[Entry],
+        place: usize,
         mark: Mark,
     ) -> Result<Heard, OutOfMemory>
         requires heard { IsHeardAt self.old block mark }
+        requires place { IsPlaceOf block.client self.old.marks place }
         requires some { 0 < length entries.now }
         requires few { length entries.now ≤ MAX_ENTRIES }
         requires end { EndOnlyLast entries.now }
@@ -68,7 +71,12 @@ impl<A: Allocator> HandlerState<A> {
             return Ok(Heard::dropped(Reason::PendingFull));
         }
         let received = last as u32;
-        self.put(block, new, mark.with_received(received, ends(entries)))?;
+        self.put(
+            block,
+            new,
+            place,
+            mark.with_received(received, ends(entries)),
+        )?;
         Ok(Heard::replied(
             Message::Logged(self.number, block, received),
             Note::Took(received),

@@ -1,6 +1,7 @@
 //! Requests for a private queue.
 
 ghost use Rattle.std.specs.Prelude.{◌≡◌, IfOk, OnErr, IsErr, IsTrue, Some};
+ghost use Rattle.scoop_handler.specs.Marks.{IsPlaceOf};
 ghost use Rattle.scoop_handler.specs.Hearing.{hear_open, IsHeardAt};
 ghost use Rattle.scoop_handler.specs.Memory.{adds};
 
@@ -12,10 +13,16 @@ use scoop_message::{Block, Message, OutOfMemory};
 use std::alloc::Allocator;
 
 impl<A: Allocator + Copy> HandlerState<A> {
-    // The block asks for a private queue. `mark` is its client's. An `Err` comes only if the block would get one,
-    // and changes nothing.
-    pub(super) fn hear_open(&mut self, block: Block, mark: Mark) -> Result<Heard, OutOfMemory>
-        requires { IsHeardAt self.old block mark }
+    // The block asks for a private queue. `mark` is its client's, at this place. An `Err` comes only if the block
+    // would get one, and changes nothing.
+    pub(super) fn hear_open(
+        &mut self,
+        block: Block,
+        place: usize,
+        mark: Mark,
+    ) -> Result<Heard, OutOfMemory>
+        requires heard { IsHeardAt self.old block mark }
+        requires place { IsPlaceOf block.client self.old.marks place }
         ensures ok { IfOk result (λ heard. hear_open self.old block mark ≡ (self.new, heard)) }
         ensures err { OnErr result (self.new ≡ self.old) }
         ensures memory { IsErr result → IsTrue (adds (Some mark) (hear_open self.old block mark).1.note) }
@@ -31,7 +38,7 @@ impl<A: Allocator + Copy> HandlerState<A> {
                 if self.queues.list_len() == MAX_QUEUES {
                     return Ok(Heard::dropped(Reason::QueueFull));
                 }
-                self.open(block, mark)?;
+                self.open(block, place, mark)?;
                 Ok(Heard::replied(opened, Note::Opened(block)))
             }
         }

@@ -8,9 +8,9 @@ none_from_is_some : {X : Type 0} (o : Option X) → is_some o ≡ false → o �
 none_from_is_some None e = refl
 none_from_is_some (Some x) e = cc
 
-pub change-requires : goal.change-requires
-change-requires g c =
+pub change-requires-clause-state : goal.change-requires-clause-state
+change-requires-clause-state g c =
     let is : IsState c.args.self.now = subst IsState c.self.view_is c.self.invariant in
     let free = ap (λ (s : HandlerState). s.holder) (sym c.self.view_is) ∙ none_from_is_some c.self.inside.holder (c.if-is_none.ensures {u = tt}) in
-    rw c.fresh.ensures (IsState-granted c.args.self.now c.args.block c.args.mark is c.requires c.if-mark-block.true free
+    rw c.fresh.ensures (IsState-granted c.args.self.now c.args.block c.args.mark is c.requires.heard c.if-mark-block.true free
     (sym c.is_unfinished.ensures ∙ c.if-not-is_unfinished.true))

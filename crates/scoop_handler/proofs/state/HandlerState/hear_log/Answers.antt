@@ -1,6 +1,9 @@
-use Rattle.std.proofs.Common.{◌≡◌, ◌<◌, ◌≤◌, ◌+◌, ◌-◌, List, length, false, sym, ap, ◌∙◌, arith}
+use Rattle.std.proofs.Common.{◌≡◌, ◌<◌, ◌≤◌, ◌+◌, ◌-◌, List, length, false, sym, ap, subst, ◌∙◌, arith}
 use Rattle.scoop_message.specs.declared.request.Entry.{Entry}
 use Rattle.scoop_message.specs.Entries.{last_number}
+use Rattle.scoop_message.specs.declared.name.ClientId.{ClientId}
+use Rattle.scoop_handler.specs.Marks.{IsPlaceOf}
+use Rattle.scoop_handler.proofs.MarkLists.{mark_of-client}
 use Rattle.scoop_handler.specs.Hearing.{is_closed, has_no_room, new_entries}
 use Rattle.scoop_handler.specs.Rows.{IsLogAt, IsNext}
 use Rattle.scoop_handler.proofs.States.{MayTake, may_take, open_stage}
@@ -35,3 +38,8 @@ put-requires-clause-state g c = rw (c.unreceived-new.ensures.new, c.with_receive
 
 pub put-requires-clause-fits : goal.put-requires-clause-fits
 put-requires-clause-fits g c = rw c.unreceived-new.ensures.new (may g c).fits
+
+pub put-requires-clause-place : goal.put-requires-clause-place
+put-requires-clause-place g c =
+    rw c.with_received.ensures (subst (λ (x : ClientId). IsPlaceOf x c.args.self.now.marks c.args.place)
+    (sym (mark_of-client c.args.block.client c.args.self.now.marks c.args.mark c.requires.heard.found)) c.requires.place)
