@@ -1,5 +1,5 @@
 -- Incarnations of clients, before and after a put.
-use Rattle.std.proofs.Common.{◌≡◌, ◌≢◌, ℕ, ◌==◌, ◌^◌, ◌<◌, nat_lt, true, false, List, [], ◌∷◌, length, Option, Some, None, refl, sym, ap, ◌∙◌, arith, rules}
+use Rattle.std.proofs.Common.{◌≡◌, ℕ, ◌==◌, ◌^◌, ◌<◌, nat_lt, true, false, [], ◌∷◌, length, Option, Some, None, refl, sym, ap, arith, rules}
 use Rattle.std.specs.Prelude.{if◌then◌else◌, option_map}
 use Rattle.std.specs.Fmt.{decimal}
 use Rattle.std.specs.List.{list_all}
@@ -9,7 +9,7 @@ use Rattle.std.proofs.lemmas.Bool.Decides.{nat_tests}
 use Rattle.std.proofs.lemmas.Fmt.{decimal_is_IsNumeral}
 use Rattle.std.proofs.lemmas.Str.Parse.{IsDigitsTest, IsNumeralModel, numerals_by_value}
 use Rattle.scoop_handler.proofs.Basics.{by_test}
-use Rattle.scoop_lines.specs.Number.{is_digit, decimal_below}
+use Rattle.scoop_lines.specs.Number.{is_digit}
 use Rattle.scoop_keeper.specs.Keeper.{IsSame, Sets}
 use Rattle.scoop_etcd.specs.Etcd.{Bytes, Contents, Kept, Puts, value_of}
 use Rattle.scoop_etcd.specs.Keys.{client_key}

@@ -1,5 +1,5 @@
 -- The states of handlers in an etcd: each value is that of one state at most, and what a put changes.
-use Rattle.std.proofs.Common.{◌≡◌, ◌≢◌, ◌↔◌, ℕ, ◌==◌, ◌^◌, ◌<◌, nat_lt, Bool, true, false, List, [], ◌∷◌, ◌++◌, map, length, take, drop, Option, Some, None, refl, sym, ap, ◌∙◌, subst, arith}
+use Rattle.std.proofs.Common.{◌≡◌, ◌≢◌, ◌↔◌, ℕ, ◌==◌, ◌^◌, ◌<◌, nat_lt, true, List, [], ◌∷◌, ◌++◌, map, length, take, drop, Option, Some, None, refl, sym, ap, ◌∙◌, subst}
 use Rattle.std.specs.Prelude.{if◌then◌else◌}
 use Rattle.std.specs.Option.{option_or}
 use Rattle.std.specs.List.{AllByRecursion}
@@ -128,6 +128,7 @@ last_is P handler (x ∷ xs) s all is = go (last_of handler xs) refl (last_is P 
   where
     here : x.number.0 ≡ handler → Some x ≡ Some s → IsLast P handler s
     here own e = let same : x ≡ s = cc in subst (IsLast P handler) same (record { number = own; holds = all.0 })
+
     go : (o : Option HandlerState) → last_of handler xs ≡ o → (last_of handler xs ≡ Some s → IsLast P handler s)
         → option_or o (if x.number.0 == handler then Some x else None) ≡ Some s → IsLast P handler s
     go (Some y) later more e = more (later ∙ e)

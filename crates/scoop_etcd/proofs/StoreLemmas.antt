@@ -1,6 +1,5 @@
 -- What the transactions of a store do to its contents, where nobody else writes.
-use Rattle.std.proofs.Common.{◌≡◌, ◌↔◌, ℕ, ◌+◌, ◌^◌, ◌<◌, ◌≤◌, List, [], ◌∷◌, ◌++◌, map, find, length, Option, Some, None, refl, sym, ap, ◌∙◌, subst, arith, length-append}
-use Rattle.std.specs.Prelude.{if◌then◌else◌}
+use Rattle.std.proofs.Common.{◌≡◌, ◌↔◌, ℕ, ◌+◌, ◌^◌, ◌<◌, ◌≤◌, List, [], ◌∷◌, find, length, Option, Some, None, Result, Ok, Err, OnOk, OnErr, sym, ap, ◌∙◌, subst, arith, length-append}
 use Rattle.std.proofs.lemmas.List.{length-map}
 use Rattle.scoop_handler.specs.State.{HandlerState}
 use Rattle.scoop_keeper.specs.Keeper.{Stored, Keeps, Stays, IsSame, Sets}
@@ -74,3 +73,24 @@ module _ {IsAlone : Type 0} (name : Bytes) (owner : Owner) (token : Bytes) (keys
 
   pub replaced_incs : IsSame (incs_in name old) (incs_in name new)
   replaced_incs = subst (λ c. IsSame (incs_in name c) (incs_in name new)) (replaces.own alone) (put_token_incs name owner replaces.met new _ puts)
+
+-- ---- a commit that may be refused
+
+same_stays : (old : ℕ → Stored → Type 0) → Stays old old
+same_stays old = record { each = λ handler v. ((λ h. h), (λ h. h)) }
+
+module _ {IsAlone E : Type 0} (old new : Contents) (keys : StoreKeys) (before after : List HandlerState) where
+  pub stored_states : (r : Result (Unit {0}) E) → OnOk r ((known : List (ℕ × ℕ)) × Commits IsAlone old new keys known before) → OnOk r (after ≡ [])
+      → OnErr r (new ≡ old) → OnErr r (after ≡ before) → IsAlone
+      → Stays (Over before (handlers_in keys.name old)) (Over after (handlers_in keys.name new))
+  stored_states (Ok _) commits none stays same alone =
+      subst (λ xs. Stays (Over before (handlers_in keys.name old)) (Over xs (handlers_in keys.name new))) (sym none)
+      (commit_states old new keys commits.0 before commits.1 alone)
+  stored_states (Err _) commits none stays same alone =
+      subst (λ xs. Stays (Over before (handlers_in keys.name old)) (Over xs (handlers_in keys.name new))) (sym same)
+      (subst (λ c. Stays (Over before (handlers_in keys.name old)) (Over before (handlers_in keys.name c))) (sym stays) (same_stays _))
+
+  pub stored_incs : (r : Result (Unit {0}) E) → OnOk r ((known : List (ℕ × ℕ)) × Commits IsAlone old new keys known before)
+      → OnErr r (new ≡ old) → IsAlone → IsSame (incs_in keys.name old) (incs_in keys.name new)
+  stored_incs (Ok _) commits stays alone = commit_incs old new keys commits.0 before commits.1 alone
+  stored_incs (Err _) commits stays alone = record { each = λ client. ap (λ c. incs_in keys.name c client) stays }

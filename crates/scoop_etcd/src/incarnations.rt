@@ -1,6 +1,6 @@
 //! The incarnations of clients in an etcd.
 
-ghost use Rattle.std.specs.Prelude.{◌≡◌, ◌∷◌, [], IfOk, OnErr, IfSome, Some, None, MatchOption, option_map};
+ghost use Rattle.std.specs.Prelude.{◌≡◌, ◌∷◌, ◌<◌, ◌^◌, [], IfOk, OnErr, IfSome, Some, None, option_map};
 ghost use Rattle.std.specs.Option.{option_map_or};
 ghost use Rattle.std.specs.Fmt.{decimal};
 ghost use Rattle.scoop_keeper.specs.Keeper.{last_incarnation};
@@ -73,6 +73,7 @@ pub(crate) fn advance<E: Etcd>(
 ) -> Result<Option<u32>, StoreFault>
     ensures advances { E.is_honest etcd.new → IfOk result (λ next. IfSome next
         (Advances (E.is_alone etcd.new) (E.contents etcd.old) (E.contents etcd.new) (keys_of keys.now) client.0)) }
+    ensures fits { IfOk result (λ next. IfSome next (λ inc. inc < 2 ^ 32)) }
     ensures spent { E.is_honest etcd.new → E.is_alone etcd.new → result ≡ Ok None
         → incs_in (keys_of keys.now).name (E.contents etcd.old) client.0 ≡ Some last_incarnation }
     ensures idle { E.is_alone etcd.new → result ≡ Ok None → E.contents etcd.new ≡ E.contents etcd.old }

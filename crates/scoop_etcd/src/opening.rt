@@ -56,12 +56,7 @@ impl From<OutOfMemory> for OpenError {
 }
 
 // The keys of the owner's store of this name.
-fn keys_for(
-    alloc: Global,
-    name: &str,
-    owner: Owner,
-    token: [u8; 16],
-) -> Result<Keys, OpenError>
+fn keys_for(alloc: Global, name: &str, owner: Owner, token: [u8; 16]) -> Result<Keys, OpenError>
     ensures named { OnOk result (IsTrue (is_name name.now)) }
     ensures bad_name { IsFalse (is_name name.now) → result ≡ Err OpenError.BadName }
     ensures keys { IfOk result (λ keys. keys_of keys ≡ keys_under name.now owner token) }

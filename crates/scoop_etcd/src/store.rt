@@ -1,6 +1,6 @@
 //! A keeper over an etcd.
 
-ghost use Rattle.std.specs.Prelude.{◌≡◌, ◌≢◌, ◌⊎◌, ℕ, ◌<◌, List, [], length, None, Some, Err, IfOk, IfErr, IfSome, OnOk, OnErr, IsTrue, IsFalse, IsSome};
+ghost use Rattle.std.specs.Prelude.{◌≡◌, ◌≢◌, ◌⊎◌, ℕ, ◌<◌, List, [], length, None, Some, Ok, Err, IfOk, IfErr, IfSome, OnOk, OnErr, IsTrue, IsFalse, IsSome};
 ghost use Rattle.scoop_keeper.specs.Keeper.{Damaged, Keeps, Stays, IsSame, IsTheOne, Sets, IsPutError, next_of, last_incarnation, stored_of};
 ghost use Rattle.scoop_keeper.specs.declared.keeper.KeeperError.{KeeperError};
 ghost use Rattle.scoop_record.specs.Gathering.{Gathers, Over};
@@ -204,6 +204,11 @@ impl<E: Etcd> EtcdStore<E> {
         ensures emptied { OnOk result (self.new.pending ≡ []) }
         ensures pending { OnErr result (self.new.pending ≡ self.old.pending) }
         ensures stays { E.is_honest self.new.etcd → E.is_alone self.new.etcd → OnErr result (E.contents self.new.etcd ≡ E.contents self.old.etcd) }
+        ensures handlers { E.is_honest self.new.etcd × E.is_alone self.new.etcd
+            → Stays (Over self.old.pending (handlers_in self.old.keys.name (E.contents self.old.etcd)))
+            (Over self.new.pending (handlers_in self.new.keys.name (E.contents self.new.etcd))) }
+        ensures incarnations { E.is_honest self.new.etcd × E.is_alone self.new.etcd
+            → IsSame (incs_in self.old.keys.name (E.contents self.old.etcd)) (incs_in self.new.keys.name (E.contents self.new.etcd)) }
         ensures keys { self.new.keys ≡ self.old.keys }
         ensures fault { OnErr result (IsSome self.new.fault) }
         ensures taken { E.is_honest self.new.etcd → OnErr result (self.new.fault ≡ Some StoreFault.TakenOver
@@ -225,6 +230,35 @@ impl<E: Etcd> EtcdStore<E> {
             }
             Err(fault) => Err(self.refuse(fault)),
         }
+    }
+}
+
+impl<E: Etcd> EtcdStore<E> {
+    // Has the states that wait stored, if as many wait as may.
+    fn make_room(&mut self) -> Result<(), KeeperError>
+        ensures room { OnOk result (length self.new.pending < 64) }
+        ensures same { length self.old.pending < 64 → (result ≡ Ok tt) × (self.new ≡ self.old) }
+        ensures handlers { E.is_honest self.new.etcd × E.is_alone self.new.etcd
+            → Stays (Over self.old.pending (handlers_in self.old.keys.name (E.contents self.old.etcd)))
+            (Over self.new.pending (handlers_in self.new.keys.name (E.contents self.new.etcd))) }
+        ensures incarnations { E.is_honest self.new.etcd × E.is_alone self.new.etcd
+            → IsSame (incs_in self.old.keys.name (E.contents self.old.etcd)) (incs_in self.new.keys.name (E.contents self.new.etcd)) }
+        ensures keys { self.new.keys ≡ self.old.keys }
+        ensures named { IfErr result IsPutError }
+        ensures honest { E.is_honest self.new.etcd → E.is_honest self.old.etcd }
+        ensures alone { E.is_alone self.new.etcd → E.is_alone self.old.etcd }
+    {
+        if self.waiting() < MAX_WAITING {
+            return Ok(());
+        }
+        self.store_waiting()
+    }
+
+    // How many states wait.
+    fn waiting(&self) -> usize
+        ensures { result ≡ length self.now.pending }
+    {
+        self.pending.len()
     }
 }
 
@@ -255,9 +289,7 @@ impl<E: Etcd> Keeper<Global> for EtcdStore<E> {
         ensures honest { E.is_honest self.new.etcd × E.is_alone self.new.etcd → E.is_honest self.old.etcd × E.is_alone self.old.etcd }
     {
         self.begin()?;
-        if self.pending.len() >= MAX_WAITING {
-            self.store_waiting()?;
-        }
+        self.make_room()?;
         gather(&mut self.pending, state)?;
         Ok(())
     }
@@ -331,8 +363,8 @@ impl<E: Etcd> Keeper<Global> for EtcdStore<E> {
         ensures pending { OnErr result (self.new.pending ≡ self.old.pending) }
         ensures keys { self.new.keys ≡ self.old.keys }
         ensures taken { self.old.fault ≡ Some StoreFault.TakenOver → (result ≡ Err KeeperError.Refused) × (self.new ≡ self.old) }
-        ensures taken_over { E.is_honest self.new.etcd → self.old.fault ≢ Some StoreFault.TakenOver → self.new.fault ≡ Some StoreFault.TakenOver
-            → Owns (E.contents self.new.etcd) self.old.keys → ⊥ }
+        ensures taken_over { E.is_honest self.new.etcd → self.old.fault ≢ Some StoreFault.TakenOver
+            → OnErr result (self.new.fault ≡ Some StoreFault.TakenOver → Owns (E.contents self.new.etcd) self.old.keys → ⊥) }
         ensures fault { OnErr result (IsSome self.new.fault) }
         ensures refused { E.is_honest self.new.etcd × E.is_alone self.new.etcd
             → OnErr result (E.contents self.new.etcd ≡ E.contents self.old.etcd) }
@@ -345,7 +377,7 @@ impl<E: Etcd> Keeper<Global> for EtcdStore<E> {
         ensures honest { E.is_honest self.new.etcd × E.is_alone self.new.etcd → E.is_honest self.old.etcd × E.is_alone self.old.etcd }
     {
         self.begin()?;
-        if self.pending.is_empty() {
+        if self.waiting() == 0 {
             return Ok(());
         }
         self.store_waiting()

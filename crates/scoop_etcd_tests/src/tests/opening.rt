@@ -11,8 +11,14 @@ fn a_name_has_up_to_64_letters_digits_and_signs(rt: HostRuntime) {
     let names = [
         ("shop", true),
         ("Shop-2_b.c", true),
-        ("0123456789012345678901234567890123456789012345678901234567890123", true),
-        ("01234567890123456789012345678901234567890123456789012345678901234", false),
+        (
+            "0123456789012345678901234567890123456789012345678901234567890123",
+            true,
+        ),
+        (
+            "01234567890123456789012345678901234567890123456789012345678901234",
+            false,
+        ),
         ("", false),
         ("a/b", false),
         ("a b", false),
@@ -96,16 +102,30 @@ fn a_store_that_is_taken_over_refuses_every_call(rt: HostRuntime) -> Result<(), 
     assert_eq!(rt; etcd.calls(), (2, 2));
     let acts = [Act::Next(7, Err(REFUSED)), taken_over];
     let etcd = created(&rt, alloc, &[Event::Answered, Event::TakenOver], &acts)?;
-    opened(&rt, alloc, etcd, &[Act::Load(1, Ok(None)), Act::Next(7, Ok(1))])?;
+    opened(
+        &rt,
+        alloc,
+        etcd,
+        &[Act::Load(1, Ok(None)), Act::Next(7, Ok(1))],
+    )?;
     Ok(())
 }
 
 #[test]
 fn a_fault_is_printed(rt: HostRuntime) -> Result<(), Fail> {
     let texts = [
-        (StoreFault::TakenOver, "another program has taken the store over"),
-        (StoreFault::Etcd(EtcdError::NoSpace), "the etcd has no space left"),
-        (StoreFault::Etcd(EtcdError::BadAnswer), "the etcd's answer can't be read"),
+        (
+            StoreFault::TakenOver,
+            "another program has taken the store over",
+        ),
+        (
+            StoreFault::Etcd(EtcdError::NoSpace),
+            "the etcd has no space left",
+        ),
+        (
+            StoreFault::Etcd(EtcdError::BadAnswer),
+            "the etcd's answer can't be read",
+        ),
     ];
     for (fault, text) in texts {
         assert!(rt; format!(in rt.alloc(); "{fault}")?.as_str() == text);

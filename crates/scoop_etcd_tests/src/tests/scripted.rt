@@ -3,6 +3,7 @@
 use super::memory::Memory;
 use scoop_etcd::{Etcd, EtcdError};
 use scoop_etcd_calls::{Found, Outcome, Put, Range, Txn};
+use scoop_message::OutOfMemory;
 use std::alloc::Global;
 
 /// What happens to a transaction.
@@ -50,15 +51,19 @@ impl ScriptedEtcd {
 
     /// Puts a value, as another program does.
     pub fn put(&mut self, key: &[u8], value: &[u8]) -> Result<Outcome, EtcdError> {
-        let txn = Txn {
-            compares: Vec::new(self.alloc),
-            puts: vec![in self.alloc; Put {
-                key: Vec::from_slice(self.alloc, key)?,
-                value: Vec::from_slice(self.alloc, value)?,
-            }]?,
-        };
+        let txn = putting(self.alloc, key, value)?;
         self.inner.transact(&txn)
     }
+}
+
+// Puts the value under the key.
+fn putting(alloc: Global, key: &[u8], value: &[u8]) -> Result<Txn, OutOfMemory> {
+    let key = Vec::from_slice(alloc, key)?;
+    let value = Vec::from_slice(alloc, value)?;
+    Ok(Txn {
+        compares: Vec::new(alloc),
+        puts: vec![in alloc; Put { key, value }]?,
+    })
 }
 
 impl Etcd for ScriptedEtcd {
@@ -78,7 +83,11 @@ impl Etcd for ScriptedEtcd {
     }
 
     fn transact(&mut self, txn: &Txn) -> Result<Outcome, EtcdError> {
-        let event = self.script.get(self.transactions).copied().unwrap_or(Event::Answered);
+        let event = self
+            .script
+            .get(self.transactions)
+            .copied()
+            .unwrap_or(Event::Answered);
         self.transactions = self.transactions.wrapping_add(1);
         match event {
             Event::Answered => self.inner.transact(txn),

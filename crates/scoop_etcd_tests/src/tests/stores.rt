@@ -24,10 +24,19 @@ fn a_commit_is_one_transaction(rt: HostRuntime) -> Result<(), Fail> {
     let etcd = created(&rt, rt.alloc(), &[], &acts)?;
     assert_eq!(rt; etcd.calls(), (3, 1));
     // a state that was loaded is stored by one transaction too, and another one by two
-    let acts = [Act::Load(1, Ok(Some(6))), Act::Put(1, 7), Act::Commit(Ok(()))];
+    let acts = [
+        Act::Load(1, Ok(Some(6))),
+        Act::Put(1, 7),
+        Act::Commit(Ok(())),
+    ];
     let etcd = opened(&rt, rt.alloc(), etcd, &acts)?;
     assert_eq!(rt; etcd.calls(), (5, 3));
-    let etcd = opened(&rt, rt.alloc(), etcd, &[Act::Put(2, 8), Act::Commit(Ok(()))])?;
+    let etcd = opened(
+        &rt,
+        rt.alloc(),
+        etcd,
+        &[Act::Put(2, 8), Act::Commit(Ok(()))],
+    )?;
     assert_eq!(rt; etcd.calls(), (8, 6));
     opened(&rt, rt.alloc(), etcd, &[Act::Load(2, Ok(Some(8)))])?;
     Ok(())
@@ -56,7 +65,12 @@ fn a_lost_transaction_is_made_by_the_next_commit(rt: HostRuntime) -> Result<(), 
 /// The states stand already: the next commit finds its own token, and reads the revisions anew.
 #[test]
 fn a_lost_answer_is_found_out_by_the_next_commit(rt: HostRuntime) -> Result<(), Fail> {
-    let etcd = created(&rt, rt.alloc(), &[Event::Answered, Event::AnswerLost], &TWICE)?;
+    let etcd = created(
+        &rt,
+        rt.alloc(),
+        &[Event::Answered, Event::AnswerLost],
+        &TWICE,
+    )?;
     assert_eq!(rt; etcd.calls(), (4, 3));
     opened(&rt, rt.alloc(), etcd, &[Act::Load(1, Ok(Some(5)))])?;
     Ok(())
@@ -69,7 +83,12 @@ fn an_incarnation_whose_answer_is_lost_is_passed_over(rt: HostRuntime) -> Result
         UNREACHABLE,
         Act::Next(7, Ok(2)),
     ];
-    created(&rt, rt.alloc(), &[Event::Answered, Event::AnswerLost], &acts)?;
+    created(
+        &rt,
+        rt.alloc(),
+        &[Event::Answered, Event::AnswerLost],
+        &acts,
+    )?;
     Ok(())
 }
 

@@ -1,4 +1,6 @@
-use Rattle.std.proofs.Common.{◌≡◌, Result, Err, IfErr, subst, refl}
+use Rattle.std.proofs.Common.{◌≡◌, ◌-◌, length, take, drop, Result, Err, IfErr, subst, refl}
+use Rattle.scoop_etcd.specs.Packed.{IsPacked}
+use Rattle.scoop_etcd.proofs.PackedLemmas.{parts_read}
 use Rattle.scoop_etcd.proofs.StateLemmas.{its_parts}
 use Rattle.scoop_etcd.proofs.loading.state_in.Goals as goal
 
@@ -7,4 +9,9 @@ if_err {X = X} r e is fact = subst (λ q. IfErr q (λ f. f ≡ e → X)) is fact
 
 pub returns-clause-bad : goal.returns-clause-bad
 returns-clause-bad c refused s is =
-    if_err _ _ refused c.read_image.ensures.bad s (its_parts c.args.handler c.args.value.now _ _ s c.in-Some.ensures.place is)
+    let v = c.args.value.now in
+    let at = c.in-Some.at in
+    let parts = parts_read v at c.in-Some.ensures.within.0 in
+    let packed = subst (λ image. IsPacked v image (take (length v - at) (drop at v))) parts.0
+    (subst (λ entries. IsPacked v (drop 8 (take at v)) entries) parts.1 c.in-Some.ensures.place) in
+    if_err _ _ refused c.read_image.ensures.bad s (its_parts c.args.handler v _ _ s packed is)
