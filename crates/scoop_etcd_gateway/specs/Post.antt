@@ -1,5 +1,5 @@
 -- The bytes of a request, and the body of its response.
-use Rattle.std.specs.Prelude.{ℕ, ◌≤◌, List, [], ◌∷◌, ◌++◌, length, codes, slice_range, ⊤}
+use Rattle.std.specs.Prelude.{ℕ, Bool, true, false, Result, Ok, Err, ◌≤◌, List, [], ◌∷◌, ◌++◌, length, codes, slice_range, ⊤}
 use Rattle.httparse.specs.declared.spans.ResponseSpans.{ResponseSpans}
 use Rattle.http1.specs.declared.conn.Event.{Event}
 use Rattle.http1.specs.declared.conn.Event.TheVariants.{NeedMore, Head, Informational, Data, End, Paused, Upgraded, Closed}
@@ -8,6 +8,10 @@ use Rattle.http1.specs.declared.conn.BodySize.TheVariants.{Known}
 use Rattle.http1.specs.Fields.{Header}
 use Rattle.http1.specs.Conn.{after_data, data_text, finish_text}
 use Rattle.http1.specs.Client.{new_client, planned_request, after_request, with_writing, writing}
+use Rattle.scoop_etcd_gateway.specs.declared.exchange.Step.{Step}
+use Rattle.scoop_etcd_gateway.specs.declared.exchange.Step.TheVariants as after
+use Rattle.scoop_etcd_gateway.specs.declared.exchange.HttpFault.{HttpFault}
+use Rattle.scoop_etcd_gateway.specs.declared.exchange.HttpFault.TheVariants.{OtherProtocol}
 
 abbrev pub post_headers : List ℕ → List Header
 post_headers host = (codes "host", host) ∷ (codes "content-type", codes "application/json") ∷ []
@@ -43,3 +47,30 @@ piece_of (End count) input = []
 piece_of Paused input = []
 piece_of Upgraded input = []
 piece_of Closed input = []
+
+-- the status of a head that was read, or else the one before
+abbrev pub status_after : ℕ → Event ResponseSpans → ℕ
+status_after status NeedMore = status
+status_after status (Head head) = head.code
+status_after status (Informational head) = status
+status_after status (Data span) = status
+status_after status (End count) = status
+status_after status Paused = status
+status_after status Upgraded = status
+status_after status Closed = status
+
+-- what follows an event: another one, more bytes, or the end of the response
+abbrev pub step_after : Event ResponseSpans → Result Step HttpFault
+step_after NeedMore = Ok after.NeedMore
+step_after (Head head) = Ok after.Again
+step_after (Informational head) = Ok after.Again
+step_after (Data span) = Ok after.Again
+step_after (End count) = Ok after.Whole
+step_after Paused = Err OtherProtocol
+step_after Upgraded = Err OtherProtocol
+step_after Closed = Err OtherProtocol
+
+-- the last step, by whether the response is whole
+abbrev pub last_step : Bool → Step
+last_step true = after.Whole
+last_step false = after.NeedMore

@@ -1,9 +1,8 @@
 //! A request and its response, as bytes.
 
-ghost use Rattle.std.specs.Prelude.{◌≡◌, ◌≤◌, ◌++◌, length, vec_len, OnOk, OnErr, IfOk};
-ghost use Rattle.http1.specs.declared.client.Client.{Client};
+ghost use Rattle.std.specs.Prelude.{◌≡◌, ◌≤◌, [], ◌++◌, length, vec_len, OnOk, OnErr, IfOk};
 ghost use Rattle.http1.specs.Client.{new_client};
-ghost use Rattle.scoop_etcd_gateway.specs.Post.{post_text, IsDataWithin, piece_of};
+ghost use Rattle.scoop_etcd_gateway.specs.Post.{post_text, IsDataWithin, piece_of, status_after, step_after, last_step};
 ghost use Rattle.scoop_etcd_gateway.specs.declared.exchange.TheConstants.{LIMITS, MAX_BODY_LEN};
 
 use bytes::{Buf, BytesMut};
@@ -110,7 +109,9 @@ fn write_post(
 }
 
 // The status of a head, or else the one before.
-fn status_after(status: u16, event: Event<ResponseSpans>) -> u16 {
+fn status_after(status: u16, event: Event<ResponseSpans>) -> u16
+    ensures { result ≡ status_after status event }
+{
     match event {
         Event::Head(head) => head.code,
         _ => status,
@@ -142,7 +143,9 @@ fn add(body: &mut Vec<u8>, piece: &[u8]) -> Result<(), HttpFault>
     Ok(())
 }
 
-fn step_after(event: Event<ResponseSpans>) -> Result<Step, HttpFault> {
+fn step_after(event: Event<ResponseSpans>) -> Result<Step, HttpFault>
+    ensures { result ≡ step_after event }
+{
     match event {
         Event::Head(_) | Event::Informational(_) | Event::Data(_) => Ok(Step::Again),
         Event::NeedMore => Ok(Step::NeedMore),
@@ -152,6 +155,9 @@ fn step_after(event: Event<ResponseSpans>) -> Result<Step, HttpFault> {
 }
 
 impl Exchange {
+    ghost use Rattle.scoop_etcd_gateway.specs.declared.exchange.Exchange.{Exchange};
+    ghost use Rattle.scoop_etcd_gateway.specs.Reading.{Comes, Steps, Runs};
+
     /// Writes a request with a JSON body, and waits for its response. `Request` and `OutOfMemory` are its faults.
     pub fn begin(
         alloc: Global,
@@ -160,7 +166,8 @@ impl Exchange {
         path: &[u8],
         body: &[u8],
     ) -> Result<Exchange, HttpFault>
-        ensures { OnOk result (out.new.items ≡ out.old.items ++ post_text LIMITS host.now path.now body.now) }
+        ensures sent { OnOk result (out.new.items ≡ out.old.items ++ post_text LIMITS host.now path.now body.now) }
+        ensures nothing { IfOk result (λ e. (e.unread.items ≡ []) × (e.body.items ≡ [])) }
     {
         let mut client = Client::new(LIMITS);
         match write_post(&mut client, out, host, path, body) {
@@ -176,7 +183,9 @@ impl Exchange {
     }
 
     // Reads the next event.
-    fn step(&mut self) -> Result<Step, HttpFault> {
+    fn step(&mut self) -> Result<Step, HttpFault>
+        ensures { IfOk result (Steps self.old self.new) }
+    {
         let mut headers = [EMPTY_HEADER_SPAN; MAX_HEADERS];
         let input = self.unread.as_slice();
         let read = match self.client.read(input, &mut headers) {
@@ -189,8 +198,10 @@ impl Exchange {
         step_after(read.event)
     }
 
-    /// Takes the next bytes from the peer. Returns whether the response is whole.
-    pub fn take(&mut self, piece: &[u8]) -> Result<bool, HttpFault> {
+    /// Takes the next bytes from the peer. Returns whether the response is whole. An exchange with a fault is of no more use.
+    pub fn take(&mut self, piece: &[u8]) -> Result<bool, HttpFault>
+        ensures { IfOk result (λ whole. (start : Exchange) × (now : Exchange) × Comes self.old piece.now start × Runs start now × Steps now self.new (last_step whole)) }
+    {
         self.unread.extend_from_slice(piece)?;
         for _ in 0..u64::MAX {
             match self.step()? {
@@ -202,7 +213,7 @@ impl Exchange {
         Err(HttpFault::BodyTooLong)
     }
 
-    /// Tells that the peer closed its side. Returns whether that ends the response; `CutOff` is its fault.
+    /// Tells that the peer closed its side. `CutOff` means that the response isn't whole.
     pub fn close(&mut self) -> Result<(), HttpFault> {
         match self.client.read_eof() {
             Ok(Event::End(_)) => Ok(()),
@@ -211,7 +222,9 @@ impl Exchange {
     }
 
     /// The response, once it is whole.
-    pub fn into_response(self) -> Response {
+    pub fn into_response(self) -> Response
+        ensures { (result.status ≡ self.status) × (result.body.items ≡ self.body.items) }
+    {
         Response {
             status: self.status,
             keeps_open: self.client.is_idle() && self.unread.is_empty(),

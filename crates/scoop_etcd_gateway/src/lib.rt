@@ -13,8 +13,8 @@
 //! fit its world. That a look-up is right about a lost answer is part of that premise. A program that states nothing of the
 //! server's contents names [`Unknown`].
 //!
-//! [`Exchange`] is one request with its response, as bytes: `http1` reads and writes them. No clause says that the body is that
-//! of the bytes which came.
+//! [`Exchange`] is one request with its response, as bytes. Its contracts say which events `http1` reads of the bytes that came,
+//! and that the body is made of their parts.
 //!
 //! ```
 //! let mut names = Vec::new(alloc);
