@@ -177,6 +177,7 @@ class NodeParty(Party):
         super().__init__(storm, "node", number)
         self.lives = 0
         self.journals = [self.journal]
+        self.cuts = {}        # how much of the journal of a life that was taken over counts
         self.taken = None     # an earlier life that may still run, and its output
 
     @property
@@ -203,8 +204,10 @@ class NodeParty(Party):
     def begin_elsewhere(self):
         """Begins it at its other address while this life still runs. Returns what is wrong with the life before this one."""
         wrong = self.end_taken()
-        self.taken = (self.process, self.out)
+        self.taken, journal = (self.process, self.out), self.journal
         self.begin()
+        # What the first life hears from now on, it doesn't reply to. That stays out of its journal: it may tell of this life.
+        self.cuts[journal] = os.path.getsize(journal) if os.path.exists(journal) else 0
         return wrong
 
     def end_taken(self):
@@ -224,10 +227,11 @@ class NodeParty(Party):
 
     def join_journals(self):
         """Puts the journals of all lives into the first one."""
-        with open(self.journals[0], "ab") as first:
-            for path in self.journals[1:]:
-                first.write(open(path, "rb").read())
+        texts = [open(path, "rb").read()[:self.cuts.get(path)] for path in self.journals if os.path.exists(path)]
         self.journal = self.journals[0]
+        with open(self.journal, "wb") as first:
+            for text in texts:
+                first.write(text[:text.rfind(b"\n") + 1])
 
 
 class ClientParty(Party, threading.Thread):

@@ -81,22 +81,14 @@ fn numbered(alloc: Global, name: &[u8], between: &[u8], number: u32) -> Result<V
 }
 
 /// The key of a handler's state.
-pub fn handler_key(
-    alloc: Global,
-    name: &[u8],
-    handler: HandlerId,
-) -> Result<Vec<u8>, OutOfMemory>
+pub fn handler_key(alloc: Global, name: &[u8], handler: HandlerId) -> Result<Vec<u8>, OutOfMemory>
     ensures { IfOk result (λ key. key.items ≡ handler_key name.now handler.0) }
 {
     numbered(alloc, name, b"/handlers/", handler.0)
 }
 
 /// The key of a client's incarnation.
-pub fn client_key(
-    alloc: Global,
-    name: &[u8],
-    client: ClientId,
-) -> Result<Vec<u8>, OutOfMemory>
+pub fn client_key(alloc: Global, name: &[u8], client: ClientId) -> Result<Vec<u8>, OutOfMemory>
     ensures { IfOk result (λ key. key.items ≡ client_key name.now client.0) }
 {
     numbered(alloc, name, b"/clients/", client.0)

@@ -34,7 +34,7 @@ pub enum EtcdFault {
     /// The etcd refused the call.
     #[error("store: Refused")]
     Refused,
-    /// What came is no answer of an etcd.
+    /// The answer is no etcd's.
     #[error("store: BadAnswer")]
     BadAnswer,
     /// The operating system gives no random bytes for a token.

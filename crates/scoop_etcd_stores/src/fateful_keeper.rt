@@ -1,5 +1,11 @@
 //! A keeper over a store in an etcd, which notes why it refuses.
 
+ghost use Rattle.std.specs.Prelude.{◌≡◌, [], IfErr, OnOk, OnErr};
+ghost use Rattle.scoop_keeper.specs.Keeper.{IsSame, IsPutError, Stays};
+ghost use Rattle.scoop_record.specs.Gathering.{Over};
+ghost use Rattle.scoop_etcd.specs.Incarnation.{incs_in};
+ghost use Rattle.scoop_etcd.specs.States.{handlers_in};
+
 use crate::fate::Fate;
 use scoop_etcd::{Etcd, EtcdStore};
 use scoop_handler::{HandlerState, Heard};
@@ -50,7 +56,20 @@ impl<'a, E: Etcd> FatefulKeeper<'a, E> {
     }
 
     // Commits what was put, or asks whether the store still owns its record if messages were heard alone.
-    fn settle(&mut self) -> Result<(), KeeperError> {
+    fn settle(&mut self) -> Result<(), KeeperError>
+        ensures emptied { OnOk result (self.new.pending ≡ []) }
+        ensures pending { OnErr result (self.new.pending ≡ self.old.pending) }
+        ensures keys { self.new.keys ≡ self.old.keys }
+        ensures refused { E.is_honest self.new.etcd × E.is_alone self.new.etcd
+            → OnErr result (E.contents self.new.etcd ≡ E.contents self.old.etcd) }
+        ensures handlers { E.is_honest self.new.etcd × E.is_alone self.new.etcd
+            → Stays (Over self.old.pending (handlers_in self.old.keys.name (E.contents self.old.etcd)))
+            (Over self.new.pending (handlers_in self.new.keys.name (E.contents self.new.etcd))) }
+        ensures incarnations { E.is_honest self.new.etcd × E.is_alone self.new.etcd
+            → IsSame (incs_in self.old.keys.name (E.contents self.old.etcd)) (incs_in self.new.keys.name (E.contents self.new.etcd)) }
+        ensures named { IfErr result IsPutError }
+        ensures honest { E.is_honest self.new.etcd × E.is_alone self.new.etcd → E.is_honest self.old.etcd × E.is_alone self.old.etcd }
+    {
         if self.has_heard && !self.has_put {
             self.store.confirm()?;
         }

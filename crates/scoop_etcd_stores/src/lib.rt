@@ -3,8 +3,8 @@
 //! - [`connect`] is for the members of an `EtcdPlace`, the members and the name that a text says.
 //! - [`create`] makes a party's store, [`create_after`] a client's that begins above an incarnation, and [`adopt`] takes a
 //!   store over.
-//! - A [`FatefulKeeper`] is the keeper over such a store. It notes why it refuses in a [`Fate`], which outlives it. It also asks
-//!   whether it still owns the record before replies go out that no put comes before.
+//! - A [`FatefulKeeper`] is the keeper over such a store. It notes why it refuses in a [`Fate`], which outlives it. Before replies
+//!   to messages that change no state, it asks whether it still owns the record.
 //! - [`read_text`] and [`put_text`] are for the text beside a store, under the key `NAME/system/node/N` or
 //!   `NAME/system/client/C`. It stays as the store's owner first puts it.
 //! - [`handlers_in`], [`clients_in`] and [`owners_in`] list what stands under a name. They and [`state_under`] change nothing.

@@ -1,4 +1,4 @@
-//! What stands under a store's name, without taking anything over.
+//! Lists of the states and incarnations under a store's name. Nothing is taken over.
 
 use scoop_etcd::{Etcd, EtcdError, Owner, handler_key, state_of};
 use scoop_etcd_calls::{Pair, Range};
@@ -101,7 +101,7 @@ pub fn owners_in<E: Etcd>(
     Ok(owners)
 }
 
-// What stands under a key, if there is anything.
+// The pair of a key, if there is one.
 fn find<E: Etcd>(alloc: Global, etcd: &mut E, key: &[u8]) -> Result<Option<Pair>, EtcdError> {
     let Ok(from) = Vec::from_slice(alloc, key) else {
         return Err(EtcdError::OutOfMemory);

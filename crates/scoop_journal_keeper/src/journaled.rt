@@ -151,6 +151,25 @@ fn refused<W: Write + Drop, A: Allocator>(
     }
 }
 
+// The refusal of the keeper that was told of a line which is written. In memory the journal can't go on either.
+fn unnoted<W: Write + Drop, A: Allocator>(
+    journal: &mut Journal<W, A>,
+    storage: Storage,
+    error: KeeperError,
+) -> KeeperError
+    requires { IsPutError error }
+    ensures named { IsPutError result }
+    ensures lost { storage ≡ Storage.Memory → (result ≡ KeeperError.Refused) × (journal.new.has_failed ≡ true) }
+{
+    match storage {
+        Storage::File => error,
+        Storage::Memory => {
+            journal.give_up();
+            KeeperError::Refused
+        }
+    }
+}
+
 // Writes the first lines of the node's life, if they aren't written yet.
 fn begin<A: Allocator + Copy, K: Keeper<A>, W: Write + Drop>(
     journaled: &mut JournaledKeeper<K, W, A>,
@@ -301,7 +320,14 @@ impl<A: Allocator + Copy, K: Keeper<A>, W: Write + Drop> Keeper<A> for Journaled
             Err(error) => return Err(error),
         }
         let appended = self.journal.append(&Line::Hear(*message, heard.reply));
-        noted(self, appended)
+        match noted(self, appended) {
+            Ok(()) => {}
+            Err(error) => return Err(error),
+        }
+        match self.keeper.note_heard(message, heard) {
+            Ok(()) => Ok(()),
+            Err(error) => Err(unnoted(&mut self.journal, self.storage, error)),
+        }
     }
 
     fn note_finished(&mut self, handler: HandlerId) -> Result<(), KeeperError>

@@ -55,7 +55,7 @@ pub(crate) fn etcd_owner(owner: Owner) -> EtcdOwner {
     }
 }
 
-/// What stands between the text of a store and the name of the text beside it: `FILE.system`, or `etcd://..NAME/system`.
+/// The end of the name of the text beside a store, which begins as the store: `FILE.system`, or `etcd://..NAME/system`.
 pub(crate) fn beside(text: &str) -> &'static str {
     if begins_as_etcd(text) {
         "/system"
