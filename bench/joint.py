@@ -1,27 +1,32 @@
 #!/usr/bin/env python3
-"""Measures running systems: python3 bench/joint.py [--program PATH] [--blocks N] [--journals | --pairs | --erlang]
+"""Measures running systems: python3 bench/joint.py [--program PATH] [--blocks N] [--journals | --pairs | --etcd | --erlang]
 
 Two nodes as processes of their own, with a cell each, and clients that set both cells in each of their blocks: how many
 blocks a second one client gets and eight get together, with the record in memory and in a file; how many blocks with one
 query, and how many queries, a second one client gets; what one client gets while a flood of repeated datagrams comes to one
 node; and beside them bare round trips of a datagram between two processes, and the same joint blocks in Erlang
-(`erlang_joint.escript`), where `escript` is there. On a machine that others use too, take the best of
+(`erlang_joint.escript`), where `escript` is there. `--etcd` puts the nodes' records into an etcd of three members, which it starts
+(`etcd.py`), beside records in files. On a machine that others use too, take the best of
 several runs.
 """
-import argparse, multiprocessing, os, re, shutil, socket, struct, subprocess, sys, tempfile, threading, time
+import argparse, itertools, multiprocessing, os, re, shutil, socket, struct, subprocess, sys, tempfile, threading, time
 
+from etcd import Cluster
 from ports import free_ports
 
 TOP = os.path.dirname(os.path.dirname(os.path.abspath(__file__)))
 NODES, CLIENTS = [1, 2], range(11, 20)
+# Each system in an etcd has a name of its own there.
+NAMES = itertools.count(1)
 
 
 class System:
-    """Two nodes, with their record in memory or in files, and this many pairs of handlers, one of each pair on each node. All
-    parties may write journals."""
+    """Two nodes, with their record in memory, in files or in an etcd at this address, and this many pairs of handlers, one of
+    each pair on each node. All parties may write journals."""
 
-    def __init__(self, program, in_file, journals=False, pairs=1, batch=1):
+    def __init__(self, program, in_file, journals=False, pairs=1, batch=1, etcd=None):
         self.program, self.folder, self.journals = program, tempfile.mkdtemp(prefix="joint"), journals
+        name = f"joint-{next(NAMES)}"
         ports = free_ports(len(NODES) + len(CLIENTS))
         self.ports = ports
         text = ""
@@ -37,7 +42,10 @@ class System:
         self.nodes = []
         for n in NODES:
             words = [program, "node", str(n), "--system", self.file]
-            words += ["--new", os.path.join(self.folder, f"node-{n}.db")] if in_file else ["--volatile"]
+            if etcd:
+                words += ["--new", f"{etcd}/{name}"]
+            else:
+                words += ["--new", os.path.join(self.folder, f"node-{n}.db")] if in_file else ["--volatile"]
             words += self.journal(f"node-{n}")
             node = subprocess.Popen(words, stdout=subprocess.PIPE, stderr=subprocess.DEVNULL)
             node.stdout.readline()
@@ -156,19 +164,31 @@ def journals(program, count):
         sys.stdout.flush()
 
 
-def pairs(program, count):
-    """Joint blocks in files, of one client and of eight with a pair of handlers each, in turn, five times."""
-    best = {1: [], 8: []}
+def pairs(program, count, etcd=None):
+    """Joint blocks in files, and in an etcd if there is one, of one client and of eight with a pair of handlers each, in turn,
+    five times."""
+    places = {"in files": None, **({"over etcd": etcd} if etcd else {})}
+    rates = {(where, some): [] for where in places for some in (1, 8)}
     for _ in range(5):
-        for some in best:
-            system = System(program, True, pairs=8)
+        for (where, some), found in rates.items():
+            system = System(program, True, pairs=8, etcd=places[where])
             taken = system.run_clients(list(CLIENTS)[:some], blocks(count // some), pairs=8)
-            best[some].append(count // some * some / taken)
+            found.append(count // some * some / taken)
             system.end()
-    for some, rates in best.items():
-        rates.sort()
-        print(f"joint blocks in files, {some} clients, a pair each: best {rates[-1]:.0f} a second, median {rates[2]:.0f}")
-    print(f"    eight do {best[8][-1] / best[1][-1]:.2f} times as many (medians {best[8][2] / best[1][2]:.2f})")
+    for (where, some), found in rates.items():
+        found.sort()
+        print(f"joint blocks {where}, {some} clients, a pair each: best {found[-1]:.0f} a second, median {found[2]:.0f}")
+    for where in places:
+        one, eight = rates[where, 1], rates[where, 8]
+        print(f"    {where} eight do {eight[-1] / one[-1]:.2f} times as many (medians {eight[2] / one[2]:.2f})")
+
+
+def over_etcd(program, count):
+    """Joint blocks over an etcd of three members, beside those in files."""
+    folder = tempfile.mkdtemp(prefix="etcd")
+    with Cluster(folder) as cluster:
+        pairs(program, count, cluster.address)
+    shutil.rmtree(folder)
 
 
 def rate_in_erlang(some, count):
@@ -204,6 +224,7 @@ def main():
     parser.add_argument("--blocks", type=int, default=500)
     parser.add_argument("--journals", action="store_true", help="measures what journals cost, and nothing else")
     parser.add_argument("--pairs", action="store_true", help="measures clients with handlers of their own over files, and nothing else")
+    parser.add_argument("--etcd", action="store_true", help="measures the same over an etcd of three members too, and nothing else")
     parser.add_argument("--erlang", action="store_true", help="measures beside Erlang's global:trans, and nothing else")
     given = parser.parse_args()
     program, count = os.path.abspath(given.program), given.blocks
@@ -211,6 +232,8 @@ def main():
         return journals(program, count)
     if given.pairs:
         return pairs(program, count)
+    if given.etcd:
+        return over_etcd(program, count)
     if given.erlang:
         return erlang(program, count)
     for in_file in (False, True):
