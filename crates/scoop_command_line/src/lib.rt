@@ -43,6 +43,9 @@ use std::alloc::{AllocError, Global};
 use system_commands::{CHECK, CLIENT, NODE, STORE};
 use up_command::UP;
 
+/// The version of the programs, as `--version` prints it.
+pub(crate) const VERSION: &str = "0.1.0";
+
 const COMMANDS: [CommandRow; 11] = [
     ANSWER, WORLD, FRAME, DEMO, CHECK, KEY_MAKER, NODE, CLIENT, UP, AUDIT, STORE,
 ];
@@ -69,7 +72,7 @@ fn program<'a>(alloc: Global) -> Result<Command<'a>, AllocError> {
     let command = Command::new(alloc, "scoop").bin_name("scoop")?;
     Ok(
         command
-            .version("0.1.0")
+            .version(VERSION)
             .about(
                 "Runs SCOOP systems: nodes whose handlers run objects, and clients that reserve them for blocks",
             )

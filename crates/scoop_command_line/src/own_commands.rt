@@ -2,7 +2,7 @@
 
 use crate::rows::CommandRow;
 use crate::system_commands::{CLIENT_ARGUMENTS, NODE_ARGUMENTS};
-use crate::{bare, with_argument};
+use crate::{VERSION, bare, with_argument};
 use clap::{ArgMatches, Command, Error};
 use std::alloc::{AllocError, Global};
 
@@ -42,7 +42,7 @@ pub fn parse_client<'a>(alloc: Global, words: &'a [String]) -> Result<ArgMatches
 
 // The command of the row. It is called by the program's name.
 fn own_command<'a>(alloc: Global, row: &CommandRow) -> Result<Command<'a>, AllocError> {
-    let mut command = bare(alloc, row).version("0.1.0");
+    let mut command = bare(alloc, row).version(VERSION);
     for argument in row.arguments {
         if !OF_LINES.contains(&argument.name) {
             command = with_argument(command, argument, &[], alloc)?;
