@@ -1,7 +1,7 @@
 #!/usr/bin/env python3
 """Tries the mutations that the gate leaves out: python3 bench/mutations.py [CRATE ..]
 
-They are in bench/mutations/CRATE. A gate checks a crate with mutations twice, so it tries those of seven cheap crates
+They are in bench/mutations/CRATE. A gate checks a crate with mutations twice, so it tries those of eight cheap crates
 alone. The script puts the others into crates/CRATE/must-fail, calls `rt must-fail CRATE`, and takes them out again. Without
 names it tries those of all these crates, one after another. It ends with 1 if a mutation isn't refused.
 """
