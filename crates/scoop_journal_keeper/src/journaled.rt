@@ -112,8 +112,8 @@ fn gather_run<W: Write + Drop, A: Allocator>(
     }
 }
 
-// Notes that an entry has run. It is written now, by one call of the writer, if the storage is a file.
-fn note_run<W: Write + Drop, A: Allocator>(
+/// Notes that an entry has run. It is written now, by one call of the writer, if the storage is a file.
+pub(crate) fn note_run<W: Write + Drop, A: Allocator>(
     journal: &mut Journal<W, A>,
     storage: Storage,
     handler: HandlerId,
