@@ -214,6 +214,7 @@ fn noted<K: Drop, W: Write + Drop, A: Allocator + Copy>(
     ensures lost { journaled.old.storage ≡ Storage.Memory
         → OnErr result ((result ≡ Err KeeperError.Refused) × (journaled.new.journal.has_failed ≡ true)) }
     ensures keeper { journaled.new.keeper ≡ journaled.old.keeper }
+    ensures storage { journaled.new.storage ≡ journaled.old.storage }
     ensures journal { OnOk result (journaled.new.journal ≡ journaled.old.journal) }
 {
     match noted {

@@ -27,7 +27,7 @@ fn gather<W: Write + Drop, A: Allocator>(
     journal: &mut Journal<W, A>,
     line: &Line<'_>,
 ) -> Result<(), KeeperError>
-    ensures { IfErr result IsPutError }
+    ensures named { IfErr result IsPutError }
     ensures writer { journal.new.writer ≡ journal.old.writer }
     ensures failed { journal.new.has_failed ≡ journal.old.has_failed }
 {
@@ -150,7 +150,7 @@ fn gather_state<A: Allocator + Copy, W: Write + Drop>(
     handler: HandlerId,
     state: &HandlerState<A>,
 ) -> Result<(), KeeperError>
-    ensures { IfErr result IsPutError }
+    ensures named { IfErr result IsPutError }
     ensures writer { journal.new.writer ≡ journal.old.writer }
     ensures failed { journal.new.has_failed ≡ journal.old.has_failed }
 {

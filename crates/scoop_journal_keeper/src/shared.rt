@@ -20,6 +20,7 @@ use std::marker::Model;
 
 /// A keeper of a record that another program may take over. It owns the record until then.
 pub trait SharedKeeper<A: Allocator>: Keeper<A> {
+    ghost use Rattle.std.specs.Prelude.{Result};
     ghost use Rattle.scoop_keeper.specs.declared.keeper.KeeperError.{KeeperError};
     ghost use Rattle.scoop_keeper.specs.Keeper.{IsPutError, IsSame, Stays};
 
