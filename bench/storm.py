@@ -177,7 +177,6 @@ class NodeParty(Party):
         super().__init__(storm, "node", number)
         self.lives = 0
         self.journals = [self.journal]
-        self.cuts = {}        # how much of the journal of a life that was taken over counts
         self.taken = None     # an earlier life that may still run, and its output
 
     @property
@@ -204,10 +203,8 @@ class NodeParty(Party):
     def begin_elsewhere(self):
         """Begins it at its other address while this life still runs. Returns what is wrong with the life before this one."""
         wrong = self.end_taken()
-        self.taken, journal = (self.process, self.out), self.journal
+        self.taken = (self.process, self.out)
         self.begin()
-        # What the first life hears from now on, it doesn't reply to. That stays out of its journal: it may tell of this life.
-        self.cuts[journal] = os.path.getsize(journal) if os.path.exists(journal) else 0
         return wrong
 
     def end_taken(self):
@@ -227,7 +224,7 @@ class NodeParty(Party):
 
     def join_journals(self):
         """Puts the journals of all lives into the first one."""
-        texts = [open(path, "rb").read()[:self.cuts.get(path)] for path in self.journals if os.path.exists(path)]
+        texts = [open(path, "rb").read() for path in self.journals if os.path.exists(path)]
         self.journal = self.journals[0]
         with open(self.journal, "wb") as first:
             for text in texts:

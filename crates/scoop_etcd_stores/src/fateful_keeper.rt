@@ -9,6 +9,7 @@ ghost use Rattle.scoop_etcd.specs.States.{handlers_in};
 use crate::fate::Fate;
 use scoop_etcd::{Etcd, EtcdStore};
 use scoop_handler::{HandlerState, Heard};
+use scoop_journal_keeper::SharedKeeper;
 use scoop_keeper::{Keeper, KeeperError};
 use scoop_message::{ClientId, HandlerId, Message};
 use std::alloc::Global;
@@ -16,15 +17,16 @@ use std::marker::Model;
 
 /// A keeper that passes every call on to the store under it, and notes why one is refused.
 ///
-/// A message that leaves its handler as it is makes no put. If a commit has heard such messages alone, it asks whether the
-/// store still owns its record, and is `Refused` if not. So a party that was taken over tells nothing of its old states.
+/// A message that leaves its handler as it is makes no put. If a commit has heard such messages alone since the store was asked
+/// last, it asks whether the store still owns its record, and is `Refused` if not. So a party that was taken over tells nothing
+/// of its old states.
 ///
 /// Contracts see the store under it.
 #[derive(Drop)]
 pub struct FatefulKeeper<'a, E: Etcd> {
     store: EtcdStore<E>,
     fate: &'a Fate,
-    // Whether a message was heard, and whether a state was put, since the last commit.
+    // Whether a message was heard since the store was asked last or committed, and whether a state was put since the last commit.
     has_heard: bool,
     has_put: bool,
 }
@@ -95,7 +97,7 @@ impl<'a, E: Etcd> Keeper<Global> for FatefulKeeper<'a, E> {
         if put.is_err() {
             self.note();
         }
-        self.has_put = true;
+        self.has_put = put.is_ok();
         put
     }
 
@@ -133,5 +135,22 @@ impl<'a, E: Etcd> Keeper<Global> for FatefulKeeper<'a, E> {
 
     fn note_finished(&mut self, handler: HandlerId) -> Result<(), KeeperError> {
         self.store.note_finished(handler)
+    }
+}
+
+impl<'a, E: Etcd> SharedKeeper<Global> for FatefulKeeper<'a, E> {
+    ghost use Rattle.std.specs.Prelude.{OnOk};
+    ghost use Rattle.scoop_etcd.specs.Owning.{Owns};
+
+    ghost confirm_gives = { λ _ result k. E.is_honest k.etcd → OnOk result (Owns (E.contents k.etcd) k.keys) };
+
+    fn confirm(&mut self) -> Result<(), KeeperError> {
+        let owned = self.store.confirm();
+        if owned.is_err() {
+            self.note();
+            return owned;
+        }
+        self.has_heard = false;
+        owned
     }
 }

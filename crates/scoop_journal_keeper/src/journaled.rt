@@ -112,8 +112,8 @@ fn gather_run<W: Write + Drop, A: Allocator>(
     }
 }
 
-// Notes that an entry has run. It is written now, by one call of the writer, if the storage is a file.
-fn note_run<W: Write + Drop, A: Allocator>(
+/// Notes that an entry has run. It is written now, by one call of the writer, if the storage is a file.
+pub(crate) fn note_run<W: Write + Drop, A: Allocator>(
     journal: &mut Journal<W, A>,
     storage: Storage,
     handler: HandlerId,
@@ -214,6 +214,7 @@ fn noted<K: Drop, W: Write + Drop, A: Allocator + Copy>(
     ensures lost { journaled.old.storage ≡ Storage.Memory
         → OnErr result ((result ≡ Err KeeperError.Refused) × (journaled.new.journal.has_failed ≡ true)) }
     ensures keeper { journaled.new.keeper ≡ journaled.old.keeper }
+    ensures storage { journaled.new.storage ≡ journaled.old.storage }
     ensures journal { OnOk result (journaled.new.journal ≡ journaled.old.journal) }
 {
     match noted {

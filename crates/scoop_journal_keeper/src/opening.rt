@@ -27,7 +27,9 @@ fn gather<W: Write + Drop, A: Allocator>(
     journal: &mut Journal<W, A>,
     line: &Line<'_>,
 ) -> Result<(), KeeperError>
-    ensures { IfErr result IsPutError }
+    ensures named { IfErr result IsPutError }
+    ensures writer { journal.new.writer ≡ journal.old.writer }
+    ensures failed { journal.new.has_failed ≡ journal.old.has_failed }
 {
     match journal.gather(line) {
         Ok(()) => Ok(()),
@@ -35,7 +37,7 @@ fn gather<W: Write + Drop, A: Allocator>(
     }
 }
 
-/// Writes the first lines of a life of this node: that it begins, and the state that the keeper has of each handler.
+/// Writes the first lines of a life of this node.
 pub(crate) fn write_opening<A: Allocator + Copy, K: Keeper<A>, W: Write + Drop>(
     alloc: A,
     keeper: &mut K,
@@ -75,8 +77,8 @@ fn commit<W: Write + Drop, A: Allocator>(
     }
 }
 
-// Gathers the first lines of a life.
-fn gather_opening<A: Allocator + Copy, K: Keeper<A>, W: Write + Drop>(
+/// Gathers the first lines of a life of this node: that it begins, and the state that the keeper has of each handler.
+pub(crate) fn gather_opening<A: Allocator + Copy, K: Keeper<A>, W: Write + Drop>(
     alloc: A,
     keeper: &mut K,
     journal: &mut Journal<W, A>,
@@ -87,6 +89,8 @@ fn gather_opening<A: Allocator + Copy, K: Keeper<A>, W: Write + Drop>(
     ensures handlers { K.is_honest keeper.new → Stays (K.handlers keeper.old) (K.handlers keeper.new) }
     ensures incarnations { K.is_honest keeper.new → IsSame (K.incarnations keeper.old) (K.incarnations keeper.new) }
     ensures honest { K.is_honest keeper.new → K.is_honest keeper.old }
+    ensures writer { journal.new.writer ≡ journal.old.writer }
+    ensures failed { journal.new.has_failed ≡ journal.old.has_failed }
 {
     match gather(journal, &Line::NodeLife(node)) {
         Ok(()) => gather_states(alloc, keeper, journal, handlers),
@@ -105,6 +109,8 @@ fn gather_states<A: Allocator + Copy, K: Keeper<A>, W: Write + Drop>(
     ensures handlers { K.is_honest keeper.new → Stays (K.handlers keeper.old) (K.handlers keeper.new) }
     ensures incarnations { K.is_honest keeper.new → IsSame (K.incarnations keeper.old) (K.incarnations keeper.new) }
     ensures honest { K.is_honest keeper.new → K.is_honest keeper.old }
+    ensures writer { journal.new.writer ≡ journal.old.writer }
+    ensures failed { journal.new.has_failed ≡ journal.old.has_failed }
 {
     match handlers {
         [] => Ok(()),
@@ -126,6 +132,8 @@ fn gather_handler<A: Allocator + Copy, K: Keeper<A>, W: Write + Drop>(
     ensures handlers { K.is_honest keeper.new → Stays (K.handlers keeper.old) (K.handlers keeper.new) }
     ensures incarnations { K.is_honest keeper.new → IsSame (K.incarnations keeper.old) (K.incarnations keeper.new) }
     ensures honest { K.is_honest keeper.new → K.is_honest keeper.old }
+    ensures writer { journal.new.writer ≡ journal.old.writer }
+    ensures failed { journal.new.has_failed ≡ journal.old.has_failed }
 {
     match keeper.load_handler(handler) {
         Ok(Some(state)) => gather_state(alloc, journal, handler, &state),
@@ -142,7 +150,9 @@ fn gather_state<A: Allocator + Copy, W: Write + Drop>(
     handler: HandlerId,
     state: &HandlerState<A>,
 ) -> Result<(), KeeperError>
-    ensures { IfErr result IsPutError }
+    ensures named { IfErr result IsPutError }
+    ensures writer { journal.new.writer ≡ journal.old.writer }
+    ensures failed { journal.new.has_failed ≡ journal.old.has_failed }
 {
     let Ok(image) = image_digits(alloc, state) else {
         return Err(KeeperError::OutOfMemory);

@@ -7,6 +7,7 @@ mod keepers;
 mod lines;
 mod named;
 mod programs;
+mod shared;
 
 use std::fmt::Debug;
 use std::process::Abort;

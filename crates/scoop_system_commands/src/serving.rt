@@ -15,10 +15,10 @@ use scoop_etcd_place::EtcdPlace;
 use scoop_etcd_stores::{Fate, FatefulKeeper};
 use scoop_files::{FiledStore, NamedKeeper, StoreName, close_named};
 use scoop_journal::{JournalFile, Owner};
-use scoop_journal_keeper::{JournaledKeeper, Storage};
+use scoop_journal_keeper::{JournaledKeeper, SharedJournaledKeeper, SharedKeeper, Storage};
 use scoop_keeper::{Keeper, MemoryKeeper};
 use scoop_link::{HoldingLink, Link, UdpLink};
-use scoop_message::OutOfMemory;
+use scoop_message::{HandlerId, OutOfMemory};
 use scoop_record::{GatheringStore, Store};
 use scoop_report::{Hints, Status, hint, report};
 use scoop_runtime::{
@@ -350,9 +350,44 @@ fn serve_shared<
     let mut store = open_shared_node(rt, choice, place, system, number)?;
     go_on(rt, choice, system, number, &mut store)?;
     let keeper = FatefulKeeper::new(store, &fate);
-    match serve_with(rt, threads, served, server, keeper, Storage::File, link) {
-        Ok(_) => Ok(()),
+    match serve_owned(rt, threads, served, server, keeper, link) {
+        Ok(()) => Ok(()),
         Err(error) => Err(fated_end(&fate, End::Runtime(error))),
+    }
+}
+
+// Serves the node over a keeper whose record another program may take over. The node writes its journal, if it has one.
+fn serve_owned<K, L, T, O>(
+    rt: &HostRuntime,
+    threads: &T,
+    served: &Served<'_, O>,
+    server: &mut Option<Server>,
+    keeper: K,
+    link: L,
+) -> Result<(), RuntimeError>
+where
+    K: SharedKeeper<Global> + Send,
+    L: Link + RefusesForged + Send,
+    T: Threads + Wait + Clock + Net + Sync,
+    O: Objects + Sync,
+{
+    let Some(journal) = served.journal else {
+        run_watched(rt, threads, served, server, keeper, link)?;
+        return Ok(());
+    };
+    let alloc = rt.alloc();
+    let handlers = copy_of(alloc, served.plan.handlers())?;
+    let number = served.shown.about.place.number;
+    let keeper = SharedJournaledKeeper::new(alloc, keeper, journal, number, handlers);
+    run_watched(rt, threads, served, server, keeper, link)?;
+    Ok(())
+}
+
+// A copy of this list.
+fn copy_of(alloc: Global, handlers: &[HandlerId]) -> Result<Vec<HandlerId>, OutOfMemory> {
+    match Vec::from_slice(alloc, handlers) {
+        Ok(copy) => Ok(copy),
+        Err(_) => Err(OutOfMemory),
     }
 }
 
@@ -398,9 +433,7 @@ where
         return run_watched(rt, threads, served, server, keeper, link);
     };
     let alloc = rt.alloc();
-    let Ok(handlers) = Vec::from_slice(alloc, served.plan.handlers()) else {
-        return Err(RuntimeError::from(OutOfMemory));
-    };
+    let handlers = copy_of(alloc, served.plan.handlers())?;
     let keeper = JournaledKeeper::new(
         alloc,
         keeper,

@@ -11,11 +11,11 @@ use std::io;
 use std::io::{Error, ErrorKind, Write};
 use std::process::Abort;
 
-const ONE: HandlerId = HandlerId(1);
+pub(super) const ONE: HandlerId = HandlerId(1);
 
-const HELLO: Message = Message::Hello(ONE, ClientId(7), 1);
+pub(super) const HELLO: Message = Message::Hello(ONE, ClientId(7), 1);
 
-const GREETED: Heard = Heard {
+pub(super) const GREETED: Heard = Heard {
     reply: Some(Message::Welcome(ONE, ClientId(7), 1)),
     note: Note::Greeted,
 };
@@ -23,18 +23,19 @@ const GREETED: Heard = Heard {
 // Handler 1 as it is new: its one word is 5.
 const IMAGE: [u8; 17] = *b"\x02\0\0\0\x01\x01\0\0\0\0\0\0\0\x05\0\0\0";
 
-const FIRST: &str = "scoop journal 1 node 1\nopen 1 0200000001010000000000000005000000 -\n";
+pub(super) const FIRST: &str =
+    "scoop journal 1 node 1\nopen 1 0200000001010000000000000005000000 -\n";
 
-const RUN: &str = "begin 1\nfinish 1\n";
+pub(super) const RUN: &str = "begin 1\nfinish 1\n";
 
-const HEARD: &str = "hear 5351020100000001000000070000000100000000000000000000 \
+pub(super) const HEARD: &str = "hear 5351020100000001000000070000000100000000000000000000 \
     5351020200000001000000070000000100000000000000000000\n";
 
 // A writer that takes a number of writes, and refuses every later one.
 #[derive(Drop)]
-struct Failing<'a> {
-    text: &'a mut Vec<u8>,
-    left: u32,
+pub(super) struct Failing<'a> {
+    pub(super) text: &'a mut Vec<u8>,
+    pub(super) left: u32,
 }
 
 // A keeper in memory of handler 1, with a journal that takes a number of writes.
@@ -65,7 +66,7 @@ impl Write for Failing<'_> {
 }
 
 // A keeper of handler 1.
-fn kept(rt: &impl Abort, alloc: Global) -> MemoryKeeper {
+pub(super) fn kept(rt: &impl Abort, alloc: Global) -> MemoryKeeper {
     let mut keeper = MemoryKeeper::new(alloc);
     let state = read_image(alloc, ONE, &IMAGE, &[]).expect(rt, "no image");
     keeper.put_handler(&state).expect(rt, "refused");
