@@ -1,10 +1,10 @@
 -- What the transactions of a store do to its contents, where nobody else writes.
-use Rattle.std.proofs.Common.{◌≡◌, ◌↔◌, ℕ, ◌+◌, ◌^◌, ◌<◌, ◌≤◌, List, [], ◌∷◌, find, length, Option, Some, None, Result, Ok, Err, OnOk, OnErr, sym, ap, ◌∙◌, subst, arith, length-append}
+use Rattle.std.proofs.Common.{◌≡◌, ◌↔◌, ℕ, ◌+◌, ◌^◌, ◌<◌, ◌≤◌, List, [], ◌∷◌, find, length, Option, Some, None, ap, ◌∙◌, subst, arith, length-append}
 use Rattle.std.proofs.lemmas.List.{length-map}
 use Rattle.scoop_handler.specs.State.{HandlerState}
 use Rattle.scoop_keeper.specs.Keeper.{Stored, Keeps, Stays, IsSame, Sets}
 use Rattle.scoop_record.specs.Gathering.{last_of, Over, OverOne, Gathers, GathersAt, is_of}
-use Rattle.scoop_etcd.specs.Etcd.{Bytes, Contents, Kept, Puts, SameKeys, contents}
+use Rattle.scoop_etcd.specs.Etcd.{Bytes, Contents, Kept, Puts, contents}
 use Rattle.scoop_etcd.specs.Owning.{StoreKeys, Replaces, keys_under}
 use Rattle.hex.specs.Hex.{encode_lower}
 use Rattle.scoop_etcd.specs.Keys.{owner_key}
@@ -14,8 +14,8 @@ use Rattle.scoop_etcd.specs.States.{Commits, handlers_in}
 use Rattle.scoop_etcd.proofs.IncarnationLemmas.{put_inc}
 use Rattle.scoop_etcd.proofs.StateLemmas.{put_states, put_states_incs, put_inc_states, put_token_states, put_token_incs}
 
--- contents with these keys. A store reads no revision of the server.
-abbrev with_keys : (Bytes → Option Kept) → Contents
+-- contents with this under each key: what a store holds doesn't depend on the server's revision
+abbrev pub with_keys : (Bytes → Option Kept) → Contents
 with_keys under = contents 0 under
 
 module _ {IsAlone : Type 0} (old new : Contents) (keys : StoreKeys) (known : List (ℕ × ℕ)) (states : List HandlerState)
@@ -77,24 +77,3 @@ module _ {IsAlone : Type 0} (name : Bytes) (owner : Owner) (token : Bytes) (keys
 
   pub replaced_incs : IsSame (incs_in name old) (incs_in name new)
   replaced_incs = subst (λ u. IsSame (incs_in name (with_keys u)) (incs_in name new)) (replaces.own alone) (put_token_incs name owner replaces.met new _ puts)
-
--- ---- a commit that may be refused
-
-same_stays : (old : ℕ → Stored → Type 0) → Stays old old
-same_stays old = record { each = λ handler v. ((λ h. h), (λ h. h)) }
-
-module _ {IsAlone E : Type 0} (old new : Contents) (keys : StoreKeys) (before after : List HandlerState) where
-  pub stored_states : (r : Result (Unit {0}) E) → OnOk r ((known : List (ℕ × ℕ)) × Commits IsAlone old new keys known before) → OnOk r (after ≡ [])
-      → OnErr r (SameKeys old new) → OnErr r (after ≡ before) → IsAlone
-      → Stays (Over before (handlers_in keys.name old)) (Over after (handlers_in keys.name new))
-  stored_states (Ok _) commits none stays same alone =
-      subst (λ xs. Stays (Over before (handlers_in keys.name old)) (Over xs (handlers_in keys.name new))) (sym none)
-      (commit_states old new keys commits.0 before commits.1 alone)
-  stored_states (Err _) commits none stays same alone =
-      subst (λ xs. Stays (Over before (handlers_in keys.name old)) (Over xs (handlers_in keys.name new))) (sym same)
-      (subst (λ u. Stays (Over before (handlers_in keys.name old)) (Over before (handlers_in keys.name (with_keys u)))) (sym stays) (same_stays _))
-
-  pub stored_incs : (r : Result (Unit {0}) E) → OnOk r ((known : List (ℕ × ℕ)) × Commits IsAlone old new keys known before)
-      → OnErr r (SameKeys old new) → IsAlone → IsSame (incs_in keys.name old) (incs_in keys.name new)
-  stored_incs (Ok _) commits stays alone = commit_incs old new keys commits.0 before commits.1 alone
-  stored_incs (Err _) commits stays alone = record { each = λ client. ap (λ u. incs_in keys.name (with_keys u) client) stays }
