@@ -17,7 +17,7 @@ use Rattle.scoop_record.specs.Reading.{IsStored}
 use Rattle.scoop_record.proofs.Firsts.{word_apart}
 use Rattle.scoop_record.proofs.Stored.{same_state}
 use Rattle.scoop_record.proofs.StoredLemmas.{same_id}
-use Rattle.scoop_etcd.specs.Etcd.{Answers, Bytes, Contents, HasValue, Holds as HoldsIn, Puts, TransactsAs, conditions_of, entries_of, kept, value_of}
+use Rattle.scoop_etcd.specs.Etcd.{Answers, Bytes, Contents, HasValue, Holds as HoldsIn, Puts, SameKeys, TransactsAs, conditions_of, entries_of, kept, value_of}
 use Rattle.scoop_etcd.specs.Keys.{handler_key, client_key, owner_key}
 use Rattle.scoop_etcd.specs.declared.keys.Owner.{Owner}
 use Rattle.scoop_etcd.specs.Packed.{IsPacked, packed}
@@ -106,7 +106,7 @@ commits_by old new keys known states txn outcome conditions entries writable ans
 
 -- where nothing has changed before it
 pub commits_after : {IsAlone : Type 0} (old mid new : Contents) (keys : StoreKeys) (known : List (ℕ × ℕ)) (states : List HandlerState)
-    → Commits IsAlone mid new keys known states → (IsAlone → mid ≡ old) → Commits IsAlone old new keys known states
+    → Commits IsAlone mid new keys known states → (IsAlone → SameKeys old mid) → Commits IsAlone old new keys known states
 commits_after old mid new keys known states commits same = record {
   met = commits.met;
   own = λ alone. commits.own alone ∙ same alone;

@@ -1,10 +1,10 @@
 -- What the transactions of a store do to its contents, where nobody else writes.
-use Rattle.std.proofs.Common.{◌≡◌, ◌↔◌, ℕ, ◌+◌, ◌^◌, ◌<◌, ◌≤◌, List, [], ◌∷◌, find, length, Option, Some, None, Result, Ok, Err, OnOk, OnErr, sym, ap, ◌∙◌, subst, arith, length-append}
+use Rattle.std.proofs.Common.{◌≡◌, ◌↔◌, ℕ, ◌+◌, ◌^◌, ◌<◌, ◌≤◌, List, [], ◌∷◌, find, length, Option, Some, None, ap, ◌∙◌, subst, arith, length-append}
 use Rattle.std.proofs.lemmas.List.{length-map}
 use Rattle.scoop_handler.specs.State.{HandlerState}
 use Rattle.scoop_keeper.specs.Keeper.{Stored, Keeps, Stays, IsSame, Sets}
 use Rattle.scoop_record.specs.Gathering.{last_of, Over, OverOne, Gathers, GathersAt, is_of}
-use Rattle.scoop_etcd.specs.Etcd.{Bytes, Contents, Puts}
+use Rattle.scoop_etcd.specs.Etcd.{Bytes, Contents, Kept, Puts, contents}
 use Rattle.scoop_etcd.specs.Owning.{StoreKeys, Replaces, keys_under}
 use Rattle.hex.specs.Hex.{encode_lower}
 use Rattle.scoop_etcd.specs.Keys.{owner_key}
@@ -14,28 +14,32 @@ use Rattle.scoop_etcd.specs.States.{Commits, handlers_in}
 use Rattle.scoop_etcd.proofs.IncarnationLemmas.{put_inc}
 use Rattle.scoop_etcd.proofs.StateLemmas.{put_states, put_states_incs, put_inc_states, put_token_states, put_token_incs}
 
+-- contents with this under each key: what a store holds doesn't depend on the server's revision
+abbrev pub with_keys : (Bytes → Option Kept) → Contents
+with_keys under = contents 0 under
+
 module _ {IsAlone : Type 0} (old new : Contents) (keys : StoreKeys) (known : List (ℕ × ℕ)) (states : List HandlerState)
     (commits : Commits IsAlone old new keys known states) (alone : IsAlone) where
   pub commit_states : Stays (Over states (handlers_in keys.name old)) (handlers_in keys.name new)
   commit_states =
-      subst (λ c. Stays (Over states (handlers_in keys.name c)) (handlers_in keys.name new)) (commits.own alone)
+      subst (λ u. Stays (Over states (handlers_in keys.name (with_keys u))) (handlers_in keys.name new)) (commits.own alone)
       (put_states keys.name commits.met new states commits.writable commits.puts)
 
   pub commit_incs : IsSame (incs_in keys.name old) (incs_in keys.name new)
   commit_incs =
-      subst (λ c. IsSame (incs_in keys.name c) (incs_in keys.name new)) (commits.own alone)
+      subst (λ u. IsSame (incs_in keys.name (with_keys u)) (incs_in keys.name new)) (commits.own alone)
       (put_states_incs keys.name commits.met new states commits.writable commits.puts)
 
 module _ {IsAlone : Type 0} (old new : Contents) (keys : StoreKeys) (client inc : ℕ) (advances : Advances IsAlone old new keys client inc)
     (alone : IsAlone) where
   pub advance_sets : client < 2 ^ 32 → inc < 2 ^ 32 → Sets (incs_in keys.name old) (incs_in keys.name new) client inc
   advance_sets lt below =
-      subst (λ c. Sets (incs_in keys.name c) (incs_in keys.name new) client inc) (advances.own alone)
+      subst (λ u. Sets (incs_in keys.name (with_keys u)) (incs_in keys.name new) client inc) (advances.own alone)
       (put_inc keys.name advances.met new client inc lt below advances.puts)
 
   pub advance_states : Stays (handlers_in keys.name old) (handlers_in keys.name new)
   advance_states =
-      subst (λ c. Stays (handlers_in keys.name c) (handlers_in keys.name new)) (advances.own alone)
+      subst (λ u. Stays (handlers_in keys.name (with_keys u)) (handlers_in keys.name new)) (advances.own alone)
       (put_inc_states keys.name advances.met new client _ advances.puts)
 
 -- ---- what waits over what is stored
@@ -69,28 +73,7 @@ module _ {IsAlone : Type 0} (name : Bytes) (owner : Owner) (token : Bytes) (keys
   puts = subst (λ k. Puts replaces.met new ((k.owner, k.token) ∷ [])) same replaces.puts
 
   pub replaced_states : Stays (handlers_in name old) (handlers_in name new)
-  replaced_states = subst (λ c. Stays (handlers_in name c) (handlers_in name new)) (replaces.own alone) (put_token_states name owner replaces.met new _ puts)
+  replaced_states = subst (λ u. Stays (handlers_in name (with_keys u)) (handlers_in name new)) (replaces.own alone) (put_token_states name owner replaces.met new _ puts)
 
   pub replaced_incs : IsSame (incs_in name old) (incs_in name new)
-  replaced_incs = subst (λ c. IsSame (incs_in name c) (incs_in name new)) (replaces.own alone) (put_token_incs name owner replaces.met new _ puts)
-
--- ---- a commit that may be refused
-
-same_stays : (old : ℕ → Stored → Type 0) → Stays old old
-same_stays old = record { each = λ handler v. ((λ h. h), (λ h. h)) }
-
-module _ {IsAlone E : Type 0} (old new : Contents) (keys : StoreKeys) (before after : List HandlerState) where
-  pub stored_states : (r : Result (Unit {0}) E) → OnOk r ((known : List (ℕ × ℕ)) × Commits IsAlone old new keys known before) → OnOk r (after ≡ [])
-      → OnErr r (new ≡ old) → OnErr r (after ≡ before) → IsAlone
-      → Stays (Over before (handlers_in keys.name old)) (Over after (handlers_in keys.name new))
-  stored_states (Ok _) commits none stays same alone =
-      subst (λ xs. Stays (Over before (handlers_in keys.name old)) (Over xs (handlers_in keys.name new))) (sym none)
-      (commit_states old new keys commits.0 before commits.1 alone)
-  stored_states (Err _) commits none stays same alone =
-      subst (λ xs. Stays (Over before (handlers_in keys.name old)) (Over xs (handlers_in keys.name new))) (sym same)
-      (subst (λ c. Stays (Over before (handlers_in keys.name old)) (Over before (handlers_in keys.name c))) (sym stays) (same_stays _))
-
-  pub stored_incs : (r : Result (Unit {0}) E) → OnOk r ((known : List (ℕ × ℕ)) × Commits IsAlone old new keys known before)
-      → OnErr r (new ≡ old) → IsAlone → IsSame (incs_in keys.name old) (incs_in keys.name new)
-  stored_incs (Ok _) commits stays alone = commit_incs old new keys commits.0 before commits.1 alone
-  stored_incs (Err _) commits stays alone = record { each = λ client. ap (λ c. incs_in keys.name c client) stays }
+  replaced_incs = subst (λ u. IsSame (incs_in name (with_keys u)) (incs_in name new)) (replaces.own alone) (put_token_incs name owner replaces.met new _ puts)

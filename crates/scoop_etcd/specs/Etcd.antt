@@ -35,6 +35,10 @@ pub record Contents : Type 0 where
 abbrev pub contents : ℕ → (Bytes → Option Kept) → Contents
 contents revision under = record { revision = revision; under = under }
 
+-- The same stands under each key. The server's revision may differ: puts under any key of the server raise it.
+abbrev pub SameKeys : Contents → Contents → Type 0
+SameKeys old new = new.under ≡ old.under
+
 abbrev pub value_of : Option Kept → Option Bytes
 value_of found = option_map (λ k. k.value) found
 
@@ -88,10 +92,10 @@ pub record Transacts (old new : Contents) (txn : Txn) (outcome : Outcome) : Type
   pub result : TransactsAs outcome.succeeded old new (conditions_of txn) (entries_of txn)
   pub revision : outcome.revision ≡ new.revision
 
--- The transaction met these contents. Before it others may have written, unless the caller is alone.
+-- The transaction met these contents. Before it others may have written the caller's keys, unless it is alone.
 pub record Answers (IsAlone : Type 0) (old new : Contents) (txn : Txn) (outcome : Outcome) : Type 0 where
   pub met : Contents
-  pub own : IsAlone → met ≡ old
+  pub own : IsAlone → SameKeys old met
   pub transacts : Transacts met new txn outcome
 
 -- ---- ranges

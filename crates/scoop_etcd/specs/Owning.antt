@@ -1,7 +1,7 @@
 -- The ownership of a store: a token under its owner's key.
 use Rattle.std.specs.Prelude.{◌≡◌, ℕ, [], ◌∷◌, Some, Option}
 use Rattle.hex.specs.Hex.{encode_lower}
-use Rattle.scoop_etcd.specs.Etcd.{Bytes, Contents, Puts, value_of, revision_of}
+use Rattle.scoop_etcd.specs.Etcd.{Bytes, Contents, Puts, SameKeys, value_of, revision_of}
 use Rattle.scoop_etcd.specs.Keys.{owner_key}
 use Rattle.scoop_etcd.specs.declared.keys.Keys.{Keys}
 use Rattle.scoop_etcd.specs.declared.keys.Owner.{Owner}
@@ -32,12 +32,12 @@ Owns c keys = value_under c keys.owner ≡ Some keys.token
 -- The token was put.
 pub record Replaces (IsAlone : Type 0) (old new : Contents) (keys : StoreKeys) : Type 0 where
   pub met : Contents
-  pub own : IsAlone → met ≡ old
+  pub own : IsAlone → SameKeys old met
   pub puts : Puts met new ((keys.owner, keys.token) ∷ [])
 
 -- The token was put where the owner's key stood at this revision.
 pub record Takes (IsAlone : Type 0) (old new : Contents) (keys : StoreKeys) (revision : ℕ) : Type 0 where
   pub met : Contents
-  pub own : IsAlone → met ≡ old
+  pub own : IsAlone → SameKeys old met
   pub stood : revision_of (met.under keys.owner) ≡ revision
   pub puts : Puts met new ((keys.owner, keys.token) ∷ [])

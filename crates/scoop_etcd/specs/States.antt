@@ -8,7 +8,7 @@ use Rattle.scoop_handler.specs.State.{HandlerState}
 use Rattle.scoop_keeper.specs.Keeper.{Stored, Missing, Holds, Damaged}
 use Rattle.scoop_record.specs.Image.{image, pending_row}
 use Rattle.scoop_record.specs.Reading.{IsStored}
-use Rattle.scoop_etcd.specs.Etcd.{Bytes, Condition, HasRevision, Contents, Puts, revision_of}
+use Rattle.scoop_etcd.specs.Etcd.{Bytes, Condition, HasRevision, Contents, Puts, SameKeys, revision_of}
 use Rattle.scoop_etcd.specs.Keys.{handler_key}
 use Rattle.scoop_etcd.specs.Owning.{StoreKeys, Owns, value_under}
 use Rattle.scoop_etcd.specs.Packed.{IsPacked, packed}
@@ -58,7 +58,7 @@ state_condition name revisions s = HasRevision (handler_key name s.number.0) (kn
 -- The states were put in one step. The store still owned the record, and each key stood at its known revision.
 pub record Commits (IsAlone : Type 0) (old new : Contents) (keys : StoreKeys) (revisions : List (ℕ × ℕ)) (states : List HandlerState) : Type 0 where
   pub met : Contents
-  pub own : IsAlone → met ≡ old
+  pub own : IsAlone → SameKeys old met
   pub owns : Owns met keys
   pub stood : AllByRecursion (λ s. revision_of (met.under (handler_key keys.name s.number.0)) ≡ known_revision revisions s.number.0) states
   pub writable : AllByRecursion IsWritable states

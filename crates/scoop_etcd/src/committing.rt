@@ -2,7 +2,7 @@
 
 ghost use Rattle.std.specs.Prelude.{◌≡◌, List, ℕ, ◌∷◌, ◌++◌, [], map, IfOk, IfErr, OnOk, OnErr, IfSome, None, ◌≢◌};
 ghost use Rattle.std.specs.List.{AllByRecursion};
-ghost use Rattle.scoop_etcd.specs.Etcd.{HasValue, conditions_of, entries_of};
+ghost use Rattle.scoop_etcd.specs.Etcd.{HasValue, SameKeys, conditions_of, entries_of};
 ghost use Rattle.scoop_etcd.specs.Owning.{Owns, keys_of};
 ghost use Rattle.scoop_etcd.specs.States.{Commits, IsWritable, known_revision, state_condition, state_entry};
 ghost use Rattle.scoop_etcd.specs.declared.fault.StoreFault.{StoreFault};
@@ -89,8 +89,8 @@ fn try_storing<E: Etcd>(
 ) -> Result<Option<u64>, EtcdError>
     ensures commits { E.is_honest etcd.new → IfOk result (λ made. IfSome made (λ _. Commits (E.is_alone etcd.new) (E.contents etcd.old)
         (E.contents etcd.new) (keys_of keys.now) revisions.now.entries states.now)) }
-    ensures idle { E.is_honest etcd.new → E.is_alone etcd.new → result ≡ Ok None → E.contents etcd.new ≡ E.contents etcd.old }
-    ensures stays { E.is_alone etcd.new → OnErr result (E.contents etcd.new ≡ E.contents etcd.old) }
+    ensures idle { E.is_honest etcd.new → E.is_alone etcd.new → result ≡ Ok None → SameKeys (E.contents etcd.old) (E.contents etcd.new) }
+    ensures stays { E.is_alone etcd.new → OnErr result (SameKeys (E.contents etcd.old) (E.contents etcd.new)) }
     ensures honest { E.is_honest etcd.new → E.is_honest etcd.old }
     ensures alone { E.is_alone etcd.new → E.is_alone etcd.old }
 {
@@ -111,7 +111,7 @@ fn reread<E: Etcd>(
     revisions: &mut Revisions,
     states: &[HandlerState],
 ) -> Result<(), StoreFault>
-    ensures stays { E.is_alone etcd.new → E.contents etcd.new ≡ E.contents etcd.old }
+    ensures stays { E.is_alone etcd.new → SameKeys (E.contents etcd.old) (E.contents etcd.new) }
     ensures honest { E.is_honest etcd.new → E.is_honest etcd.old }
     ensures alone { E.is_alone etcd.new → E.is_alone etcd.old }
     ensures named { IfErr result (λ fault. fault ≢ StoreFault.TakenOver) }
@@ -148,7 +148,7 @@ pub(crate) fn store_states<E: Etcd>(
 ) -> Result<(), StoreFault>
     ensures commits { E.is_honest etcd.new → OnOk result ((known : List (ℕ × ℕ)) × Commits (E.is_alone etcd.new) (E.contents etcd.old)
         (E.contents etcd.new) (keys_of keys.now) known states.now) }
-    ensures stays { E.is_honest etcd.new → E.is_alone etcd.new → OnErr result (E.contents etcd.new ≡ E.contents etcd.old) }
+    ensures stays { E.is_honest etcd.new → E.is_alone etcd.new → OnErr result (SameKeys (E.contents etcd.old) (E.contents etcd.new)) }
     ensures taken { E.is_honest etcd.new → result ≡ Err StoreFault.TakenOver → Owns (E.contents etcd.new) (keys_of keys.now) → ⊥ }
     ensures honest { E.is_honest etcd.new → E.is_honest etcd.old }
     ensures alone { E.is_alone etcd.new → E.is_alone etcd.old }

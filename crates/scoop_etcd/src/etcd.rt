@@ -1,7 +1,7 @@
 //! The contract of every etcd.
 
-ghost use Rattle.std.specs.Prelude.{◌≡◌, IfOk, OnErr};
-ghost use Rattle.scoop_etcd.specs.Etcd.{Contents, Answers, Finds};
+ghost use Rattle.std.specs.Prelude.{IfOk, OnErr};
+ghost use Rattle.scoop_etcd.specs.Etcd.{Contents, Answers, Finds, SameKeys};
 
 use scoop_etcd_calls::{Found, Outcome, Range, Txn};
 use thiserror::Error;
@@ -28,18 +28,23 @@ pub enum EtcdError {
 
 /// A store of bytes under keys, on a server that other programs write too.
 ///
-/// Contracts see what stands on the server after the last call. A call that returns an error has changed nothing, as far as
-/// the caller knows: the server may have made a transaction whose answer was lost. A transaction that was made so counts
-/// as another's, and so does one whose fate could not be found out. From then on the caller isn't alone, and what is said
-/// of one that is alone no longer speaks. What an honest server's answers say holds all the same.
+/// Contracts see what stands on the server after the last call, under the keys that the caller writes or asks for. Other keys
+/// may be taken to stand as they first did. The revision is the server's: every program's puts raise it. So a caller is alone
+/// while nobody else writes its keys, whatever others write under theirs.
+///
+/// A call that returns an error has changed nothing, as far as the caller knows: the server may have made a transaction whose
+/// answer was lost. A transaction that was made so counts as another's, and so does one whose fate could not be found out.
+/// From then on the caller isn't alone, and what is said of one that is alone no longer speaks. What an honest server's
+/// answers say holds all the same.
 pub trait Etcd: Drop {
-    // What stands on the server.
+    // What stands on the server under the keys that this caller writes or asks for. Other keys may stand as they first did.
     ghost contents: { Self → Contents };
 
     // The server does what it answers, and keeps what it answered.
     ghost is_honest: { Self → Type 0 };
 
-    // Only this caller has written since it began, and no transaction of its own was made that it saw fail.
+    // Only this caller has written the keys that it writes or asks for, since it began; and no transaction of its own was made
+    // that it saw fail.
     ghost is_alone: { Self → Type 0 };
 
     /// The pairs of the keys that the range asks for.
@@ -47,7 +52,7 @@ pub trait Etcd: Drop {
     /// Refused, with the errors of [`EtcdError`].
     fn range(&mut self, range: &Range) -> Result<Found, EtcdError>
         ensures found { is_honest self.new → IfOk result (Finds (contents self.new) range.now) }
-        ensures stays { is_alone self.new → contents self.new ≡ contents self.old }
+        ensures stays { is_alone self.new → SameKeys (contents self.old) (contents self.new) }
         ensures honest { is_honest self.new → is_honest self.old }
         ensures alone { is_alone self.new → is_alone self.old };
 
@@ -56,7 +61,7 @@ pub trait Etcd: Drop {
     /// Refused, with the errors of [`EtcdError`].
     fn transact(&mut self, txn: &Txn) -> Result<Outcome, EtcdError>
         ensures answered { is_honest self.new → IfOk result (Answers (is_alone self.new) (contents self.old) (contents self.new) txn.now) }
-        ensures stays { is_alone self.new → OnErr result (contents self.new ≡ contents self.old) }
+        ensures stays { is_alone self.new → OnErr result (SameKeys (contents self.old) (contents self.new)) }
         ensures honest { is_honest self.new → is_honest self.old }
         ensures alone { is_alone self.new → is_alone self.old };
 }

@@ -1,7 +1,7 @@
 //! Reads of one key.
 
 ghost use Rattle.std.specs.Prelude.{◌≡◌, IfOk, option_map};
-ghost use Rattle.scoop_etcd.specs.Etcd.{kept_of, revision_of};
+ghost use Rattle.scoop_etcd.specs.Etcd.{SameKeys, kept_of, revision_of};
 
 use crate::etcd::{Etcd, EtcdError};
 use scoop_etcd_calls::{Pair, Range};
@@ -14,7 +14,7 @@ pub(crate) fn find<E: Etcd>(
     key: &[u8],
 ) -> Result<Option<Pair>, EtcdError>
     ensures found { E.is_honest etcd.new → IfOk result (λ pair. (E.contents etcd.new).under key.now ≡ option_map kept_of pair) }
-    ensures stays { E.is_alone etcd.new → E.contents etcd.new ≡ E.contents etcd.old }
+    ensures stays { E.is_alone etcd.new → SameKeys (E.contents etcd.old) (E.contents etcd.new) }
     ensures honest { E.is_honest etcd.new → E.is_honest etcd.old }
     ensures alone { E.is_alone etcd.new → E.is_alone etcd.old }
 {

@@ -4,7 +4,7 @@ ghost use Rattle.std.specs.Prelude.{◌≡◌, ◌∷◌, ◌<◌, ◌^◌, [], 
 ghost use Rattle.std.specs.Option.{option_map_or};
 ghost use Rattle.std.specs.Fmt.{decimal};
 ghost use Rattle.scoop_keeper.specs.Keeper.{last_incarnation};
-ghost use Rattle.scoop_etcd.specs.Etcd.{HasRevision, HasValue, conditions_of, entries_of, kept_of};
+ghost use Rattle.scoop_etcd.specs.Etcd.{HasRevision, HasValue, SameKeys, conditions_of, entries_of, kept_of};
 ghost use Rattle.scoop_etcd.specs.Incarnation.{Advances, inc_of, incs_in};
 ghost use Rattle.scoop_etcd.specs.Owning.{Owns, keys_of};
 ghost use Rattle.scoop_etcd.specs.declared.fault.StoreFault.{StoreFault};
@@ -76,8 +76,8 @@ pub(crate) fn advance<E: Etcd>(
     ensures fits { IfOk result (λ next. IfSome next (λ inc. inc < 2 ^ 32)) }
     ensures spent { E.is_honest etcd.new → E.is_alone etcd.new → result ≡ Ok None
         → incs_in (keys_of keys.now).name (E.contents etcd.old) client.0 ≡ Some last_incarnation }
-    ensures idle { E.is_alone etcd.new → result ≡ Ok None → E.contents etcd.new ≡ E.contents etcd.old }
-    ensures stays { E.is_honest etcd.new → E.is_alone etcd.new → OnErr result (E.contents etcd.new ≡ E.contents etcd.old) }
+    ensures idle { E.is_alone etcd.new → result ≡ Ok None → SameKeys (E.contents etcd.old) (E.contents etcd.new) }
+    ensures stays { E.is_honest etcd.new → E.is_alone etcd.new → OnErr result (SameKeys (E.contents etcd.old) (E.contents etcd.new)) }
     ensures taken { E.is_honest etcd.new → result ≡ Err StoreFault.TakenOver → Owns (E.contents etcd.new) (keys_of keys.now) → ⊥ }
     ensures honest { E.is_honest etcd.new → E.is_honest etcd.old }
     ensures alone { E.is_alone etcd.new → E.is_alone etcd.old }

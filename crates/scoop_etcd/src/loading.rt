@@ -3,6 +3,7 @@
 ghost use Rattle.std.specs.Prelude.{◌≡◌, ◌⊎◌, IfOk, IfErr, IfSome, option_map};
 ghost use Rattle.scoop_handler.specs.State.{HandlerState as State};
 ghost use Rattle.scoop_keeper.specs.Keeper.{Damaged, IsPutError, IsTheOne, stored_of};
+ghost use Rattle.scoop_etcd.specs.Etcd.{SameKeys};
 ghost use Rattle.scoop_etcd.specs.Owning.{keys_of};
 ghost use Rattle.scoop_etcd.specs.States.{Has, IsStateOf, state_value};
 ghost use Rattle.scoop_record.specs.declared.images.error.ReadError.{ReadError};
@@ -28,7 +29,7 @@ pub(crate) fn find_value<E: Etcd>(
 ) -> Result<Option<Vec<u8>>, EtcdError>
     ensures value { E.is_honest etcd.new → IfOk result
         (λ value. option_map (λ v. v.items) value ≡ state_value (keys_of keys.now).name (E.contents etcd.new) handler.0) }
-    ensures stays { E.is_alone etcd.new → E.contents etcd.new ≡ E.contents etcd.old }
+    ensures stays { E.is_alone etcd.new → SameKeys (E.contents etcd.old) (E.contents etcd.new) }
     ensures honest { E.is_honest etcd.new → E.is_honest etcd.old }
     ensures alone { E.is_alone etcd.new → E.is_alone etcd.old }
 {

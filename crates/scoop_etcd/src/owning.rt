@@ -1,7 +1,7 @@
 //! The token under a store's owner's key.
 
 ghost use Rattle.std.specs.Prelude.{◌≡◌, ◌∷◌, [], IfOk, OnOk, IsTrue};
-ghost use Rattle.scoop_etcd.specs.Etcd.{HasRevision, conditions_of, entries_of};
+ghost use Rattle.scoop_etcd.specs.Etcd.{HasRevision, SameKeys, conditions_of, entries_of};
 ghost use Rattle.scoop_etcd.specs.Owning.{Owns, Takes, keys_of};
 ghost use Rattle.scoop_etcd.specs.declared.fault.StoreFault.{StoreFault};
 
@@ -21,7 +21,7 @@ pub(crate) fn check_owner<E: Etcd>(
 ) -> Result<(), StoreFault>
     ensures owns { E.is_honest etcd.new → OnOk result (Owns (E.contents etcd.new) (keys_of keys.now)) }
     ensures taken { E.is_honest etcd.new → result ≡ Err StoreFault.TakenOver → Owns (E.contents etcd.new) (keys_of keys.now) → ⊥ }
-    ensures stays { E.is_alone etcd.new → E.contents etcd.new ≡ E.contents etcd.old }
+    ensures stays { E.is_alone etcd.new → SameKeys (E.contents etcd.old) (E.contents etcd.new) }
     ensures honest { E.is_honest etcd.new → E.is_honest etcd.old }
     ensures alone { E.is_alone etcd.new → E.is_alone etcd.old }
 {

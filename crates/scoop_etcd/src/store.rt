@@ -4,6 +4,7 @@ ghost use Rattle.std.specs.Prelude.{◌≡◌, ◌≢◌, ◌⊎◌, ℕ, ◌<�
 ghost use Rattle.scoop_keeper.specs.Keeper.{Damaged, Keeps, Stays, IsSame, IsTheOne, Sets, IsPutError, next_of, last_incarnation, stored_of};
 ghost use Rattle.scoop_keeper.specs.declared.keeper.KeeperError.{KeeperError};
 ghost use Rattle.scoop_record.specs.Gathering.{Gathers, Over};
+ghost use Rattle.scoop_etcd.specs.Etcd.{SameKeys};
 ghost use Rattle.scoop_etcd.specs.Incarnation.{Advances, incs_in};
 ghost use Rattle.scoop_etcd.specs.Keys.{is_name};
 ghost use Rattle.scoop_etcd.specs.Owning.{Owns, Replaces, Takes, keys_under};
@@ -148,7 +149,7 @@ impl<E: Etcd> EtcdStore<E> {
         ensures taken { self.old.fault ≡ Some StoreFault.TakenOver → (result ≡ Err KeeperError.Refused) × (self.new ≡ self.old) }
         ensures taken_over { E.is_honest self.new.etcd → self.old.fault ≢ Some StoreFault.TakenOver → self.new.fault ≡ Some StoreFault.TakenOver
             → Owns (E.contents self.new.etcd) self.old.keys → ⊥ }
-        ensures stays { E.is_alone self.new.etcd → E.contents self.new.etcd ≡ E.contents self.old.etcd }
+        ensures stays { E.is_alone self.new.etcd → SameKeys (E.contents self.old.etcd) (E.contents self.new.etcd) }
         ensures pending { self.new.pending ≡ self.old.pending }
         ensures keys { self.new.keys ≡ self.old.keys }
         ensures fault { OnErr result (IsSome self.new.fault) }
@@ -203,7 +204,7 @@ impl<E: Etcd> EtcdStore<E> {
             (E.contents self.old.etcd) (E.contents self.new.etcd) self.old.keys known self.old.pending) }
         ensures emptied { OnOk result (self.new.pending ≡ []) }
         ensures pending { OnErr result (self.new.pending ≡ self.old.pending) }
-        ensures stays { E.is_honest self.new.etcd → E.is_alone self.new.etcd → OnErr result (E.contents self.new.etcd ≡ E.contents self.old.etcd) }
+        ensures stays { E.is_honest self.new.etcd → E.is_alone self.new.etcd → OnErr result (SameKeys (E.contents self.old.etcd) (E.contents self.new.etcd)) }
         ensures handlers { E.is_honest self.new.etcd × E.is_alone self.new.etcd
             → Stays (Over self.old.pending (handlers_in self.old.keys.name (E.contents self.old.etcd)))
             (Over self.new.pending (handlers_in self.new.keys.name (E.contents self.new.etcd))) }
@@ -304,7 +305,7 @@ impl<E: Etcd> Keeper<Global> for EtcdStore<E> {
         ensures pending { self.new.pending ≡ self.old.pending }
         ensures keys { self.new.keys ≡ self.old.keys }
         ensures taken { self.old.fault ≡ Some StoreFault.TakenOver → (result ≡ Err KeeperError.Refused) × (self.new ≡ self.old) }
-        ensures stays { E.is_alone self.new.etcd → E.contents self.new.etcd ≡ E.contents self.old.etcd }
+        ensures stays { E.is_alone self.new.etcd → SameKeys (E.contents self.old.etcd) (E.contents self.new.etcd) }
         ensures honest { E.is_honest self.new.etcd × E.is_alone self.new.etcd → E.is_honest self.old.etcd × E.is_alone self.old.etcd }
     {
         self.begin()?;
@@ -367,7 +368,7 @@ impl<E: Etcd> Keeper<Global> for EtcdStore<E> {
             → OnErr result (self.new.fault ≡ Some StoreFault.TakenOver → Owns (E.contents self.new.etcd) self.old.keys → ⊥) }
         ensures fault { OnErr result (IsSome self.new.fault) }
         ensures refused { E.is_honest self.new.etcd × E.is_alone self.new.etcd
-            → OnErr result (E.contents self.new.etcd ≡ E.contents self.old.etcd) }
+            → OnErr result (SameKeys (E.contents self.old.etcd) (E.contents self.new.etcd)) }
         ensures handlers { E.is_honest self.new.etcd × E.is_alone self.new.etcd
             → Stays (Over self.old.pending (handlers_in self.old.keys.name (E.contents self.old.etcd)))
             (Over self.new.pending (handlers_in self.new.keys.name (E.contents self.new.etcd))) }

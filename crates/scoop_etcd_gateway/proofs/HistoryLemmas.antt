@@ -7,7 +7,7 @@ use Rattle.scoop_etcd_calls.specs.declared.calls.Txn.{Txn}
 use Rattle.scoop_etcd_calls.specs.declared.calls.Outcome.{Outcome}
 use Rattle.scoop_etcd_calls.specs.Asking.{txn_data}
 use Rattle.scoop_etcd.specs.declared.etcd.EtcdError.{EtcdError}
-use Rattle.scoop_etcd.specs.Etcd.{Finds, Answers}
+use Rattle.scoop_etcd.specs.Etcd.{Finds, Answers, SameKeys}
 use Rattle.scoop_etcd_gateway.specs.declared.call.Call.{Call}
 use Rattle.scoop_etcd_gateway.specs.declared.call.Call.TheVariants.{Ranges, Transacts}
 use Rattle.scoop_etcd_gateway.specs.declared.call.Answer.{Answer}
@@ -39,9 +39,9 @@ range_finds after calls range (Ranges text) (Made revision) found told honest = 
 range_finds after calls range (Ranges text) Lost found told honest = absurd told
 range_finds after calls range (Transacts text) answer found told honest = absurd told
 
--- a range left what stood there
+-- a range left what stood under each key
 pub range_leaves : (after : History) (calls : Calls) (range : Range) (call : Call) (answer : Answer) (found : Found) → TellsFound range call answer found
-    → IsAlone after (calls ++ (call, answer) ∷ []) → after (calls ++ (call, answer) ∷ []) ≡ after calls
+    → IsAlone after (calls ++ (call, answer) ∷ []) → SameKeys (after calls) (after (calls ++ (call, answer) ∷ []))
 range_leaves after calls range (Ranges text) answer found told alone = alone_last after calls (Ranges text) answer alone
 range_leaves after calls range (Transacts text) answer found told alone = absurd told
 
@@ -64,14 +64,14 @@ txn_answers after calls txn (Transacts text) answer (Ok outcome) told honest = t
 txn_answers after calls txn (Transacts text) answer (Err error) told honest = tt
 
 lost_leaves : (after : History) (calls : Calls) (text : String Global) (answer : Answer) (error : EtcdError) → TellsOutcome answer (Err error)
-    → IsAlone after (calls ++ (Transacts text, answer) ∷ []) → after (calls ++ (Transacts text, answer) ∷ []) ≡ after calls
+    → IsAlone after (calls ++ (Transacts text, answer) ∷ []) → SameKeys (after calls) (after (calls ++ (Transacts text, answer) ∷ []))
 lost_leaves after calls text (Body body) error told alone = absurd told
 lost_leaves after calls text (Made revision) error told alone = absurd told
 lost_leaves after calls text Lost error told alone = alone_last after calls (Transacts text) Lost alone
 
--- a transaction that failed left what stood there
+-- a transaction that failed left what stood under each key
 pub txn_leaves : (after : History) (calls : Calls) (txn : Txn) (call : Call) (answer : Answer) (outcome : Result Outcome EtcdError) → Tells txn call answer outcome
-    → IsAlone after (calls ++ (call, answer) ∷ []) → OnErr outcome (after (calls ++ (call, answer) ∷ []) ≡ after calls)
+    → IsAlone after (calls ++ (call, answer) ∷ []) → OnErr outcome (SameKeys (after calls) (after (calls ++ (call, answer) ∷ [])))
 txn_leaves after calls txn (Ranges text) answer outcome told alone = absurd told
 txn_leaves after calls txn (Transacts text) answer (Ok outcome) told alone = tt
 txn_leaves after calls txn (Transacts text) answer (Err error) told alone = lost_leaves after calls text answer error told.1 alone

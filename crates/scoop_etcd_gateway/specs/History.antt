@@ -8,8 +8,7 @@ use Rattle.scoop_etcd_calls.specs.declared.calls.Outcome.{Outcome}
 use Rattle.scoop_etcd_calls.specs.Asking.{range_data, txn_data}
 use Rattle.scoop_etcd_calls.specs.Stored.{listed}
 use Rattle.scoop_etcd_calls.specs.Answer.{found_in, outcome_in}
-use Rattle.scoop_etcd.specs.Etcd as etcd
-use Rattle.scoop_etcd.specs.Etcd.{Contents, Finds, Answers}
+use Rattle.scoop_etcd.specs.Etcd.{Contents, Finds, Answers, SameKeys}
 use Rattle.scoop_etcd_gateway.specs.declared.call.Call.{Call}
 use Rattle.scoop_etcd_gateway.specs.declared.call.Call.TheVariants.{Ranges, Transacts}
 use Rattle.scoop_etcd_gateway.specs.declared.call.Answer.{Answer}
@@ -23,22 +22,23 @@ made_at revision = record { succeeded = true; revision = revision }
 abbrev pub Calls : Type 0
 Calls = List (Call × Answer)
 
--- what stands on a server after some calls
+-- What stands on a server after some calls, under the keys that these write or ask for. Other keys may stand as they first did.
 abbrev pub History : Type 0
 History = Calls → Contents
 
--- Since the calls in front only this one has written: what stands there changed by it alone, if at all.
+-- Since the calls in front only this one has written the keys that the calls write or ask for: what stands there changed by it
+-- alone, if at all. The server's revision may have grown before it.
 abbrev pub WritesAlone : History → Calls → Call → Answer → Type 0
-WritesAlone after front (Ranges text) answer = after (front ++ (Ranges text, answer) ∷ []) ≡ after front
+WritesAlone after front (Ranges text) answer = SameKeys (after front) (after (front ++ (Ranges text, answer) ∷ []))
 WritesAlone after front (Transacts text) (Body body) =
     (txn : Txn) (outcome : Outcome) → string_bytes text ≡ compact_text (txn_data txn) → outcome_in body.items ≡ Ok outcome
-    → etcd.Transacts (after front) (after (front ++ (Transacts text, Body body) ∷ [])) txn outcome
+    → Answers ⊤ (after front) (after (front ++ (Transacts text, Body body) ∷ [])) txn outcome
 WritesAlone after front (Transacts text) (Made revision) =
     (txn : Txn) → string_bytes text ≡ compact_text (txn_data txn)
-    → etcd.Transacts (after front) (after (front ++ (Transacts text, Made revision) ∷ [])) txn (made_at revision)
-WritesAlone after front (Transacts text) Lost = after (front ++ (Transacts text, Lost) ∷ []) ≡ after front
+    → Answers ⊤ (after front) (after (front ++ (Transacts text, Made revision) ∷ [])) txn (made_at revision)
+WritesAlone after front (Transacts text) Lost = SameKeys (after front) (after (front ++ (Transacts text, Lost) ∷ []))
 
--- no other program has written since the first call, and no transaction was made whose answer is lost
+-- no other program has written the keys of these calls since the first one, and no transaction was made whose answer is lost
 abbrev pub IsAlone : History → Calls → Type 0
 IsAlone after calls =
     (front : Calls) (call : Call) (answer : Answer) (back : Calls) → calls ≡ front ++ (call, answer) ∷ back → WritesAlone after front call answer

@@ -5,6 +5,7 @@ use Rattle.scoop_record.specs.Gathering.{Over, is_of}
 use Rattle.scoop_record.proofs.GatheringLemmas.{below_if, below_one, waits_one}
 use Rattle.scoop_etcd.specs.Owning.{keys_of}
 use Rattle.scoop_etcd.specs.States.{Has, handlers_in, state_value}
+use Rattle.scoop_etcd.proofs.StoreLemmas.{with_keys}
 use Rattle.scoop_etcd.proofs.store.EtcdStoreKeeperGlobal.load_handler.Goals as goal
 
 pub returns-in-Some-clause-loaded : goal.returns-in-Some-clause-loaded
@@ -29,7 +30,7 @@ returns-in-Ok-clause-loaded g c sound =
     let none = subst (λ ys. find (is_of c.args.handler) ys ≡ None) c.deref.ensures.value c.in_default.ensures in
     let below = handlers_in c.args.self.now.keys.name (g.E.Etcd.contents c.args.self.now.etcd) in
     let value = c.in-Ok.ensures.value sound.0
-    ∙ ap (λ found. state_value (keys_of c.self.inside.keys).name found c.args.handler.0) (c.in-Ok.ensures.stays sound.1)
+    ∙ ap (λ under. state_value (keys_of c.self.inside.keys).name (with_keys under) c.args.handler.0) (c.in-Ok.ensures.stays sound.1)
     ∙ ap (λ r. state_value r.keys.name (g.E.Etcd.contents r.etcd) c.args.handler.0) same in
     subst (λ xs. IfOk c.state_of.result (λ found. IsTheOne (Over xs below c.args.handler.0) (stored_of found))) (ap (λ r. r.pending) same)
     (below_if c.state_of.result c.self.inside.pending.items c.args.handler below c.self.invariant.0 none
@@ -41,7 +42,7 @@ returns-in-Ok-clause-bad g c sound is =
     let none = subst (λ ys. find (is_of c.args.handler) ys ≡ None) c.deref.ensures.value c.in_default.ensures in
     let below = handlers_in c.args.self.now.keys.name (g.E.Etcd.contents c.args.self.now.etcd) in
     let value = c.in-Ok.ensures.value sound.0
-    ∙ ap (λ found. state_value (keys_of c.self.inside.keys).name found c.args.handler.0) (c.in-Ok.ensures.stays sound.1)
+    ∙ ap (λ under. state_value (keys_of c.self.inside.keys).name (with_keys under) c.args.handler.0) (c.in-Ok.ensures.stays sound.1)
     ∙ ap (λ r. state_value r.keys.name (g.E.Etcd.contents r.etcd) c.args.handler.0) same in
     subst (λ xs. IsTheOne (Over xs below c.args.handler.0) Damaged) (ap (λ r. r.pending) same)
     (below_one c.self.inside.pending.items c.args.handler below Damaged c.self.invariant.0 none
