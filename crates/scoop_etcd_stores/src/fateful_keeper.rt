@@ -3,6 +3,7 @@
 ghost use Rattle.std.specs.Prelude.{◌≡◌, [], IfErr, OnOk, OnErr};
 ghost use Rattle.scoop_keeper.specs.Keeper.{IsSame, IsPutError, Stays};
 ghost use Rattle.scoop_record.specs.Gathering.{Over};
+ghost use Rattle.scoop_etcd.specs.Etcd.{SameKeys};
 ghost use Rattle.scoop_etcd.specs.Incarnation.{incs_in};
 ghost use Rattle.scoop_etcd.specs.States.{handlers_in};
 
@@ -63,7 +64,7 @@ impl<'a, E: Etcd> FatefulKeeper<'a, E> {
         ensures pending { OnErr result (self.new.pending ≡ self.old.pending) }
         ensures keys { self.new.keys ≡ self.old.keys }
         ensures refused { E.is_honest self.new.etcd × E.is_alone self.new.etcd
-            → OnErr result (E.contents self.new.etcd ≡ E.contents self.old.etcd) }
+            → OnErr result (SameKeys (E.contents self.old.etcd) (E.contents self.new.etcd)) }
         ensures handlers { E.is_honest self.new.etcd × E.is_alone self.new.etcd
             → Stays (Over self.old.pending (handlers_in self.old.keys.name (E.contents self.old.etcd)))
             (Over self.new.pending (handlers_in self.new.keys.name (E.contents self.new.etcd))) }
