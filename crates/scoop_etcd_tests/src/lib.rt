@@ -8,4 +8,7 @@ mod examples;
 #[cfg(test)]
 mod tests;
 
-pub use examples::{absent_keys, both_are_found, both_are_put, nothing_is_put, others_write};
+pub use examples::{
+    absent_keys, both_are_found, both_are_put, both_if_met, nothing_is_put, others_write,
+    prefix_range,
+};

@@ -1,6 +1,7 @@
 //! The tests of stores over an etcd.
 
 mod acts;
+mod computed;
 mod fates;
 mod faults;
 mod lent;
