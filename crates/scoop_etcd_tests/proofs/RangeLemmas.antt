@@ -12,7 +12,7 @@ use Rattle.scoop_etcd_tests.proofs.ExampleLemmas.{all_pairs, keys_are, pairs_all
 abbrev pub keys : List (Bytes × Kept) → List Bytes
 keys pairs = map (λ e. e.0) pairs
 
--- what `Finds` says of a range and of the parts of the pairs
+-- the parts of `Finds`, over keys and values in place of pairs
 pub record FindsParts (from : Bytes) (to : Option Bytes) (pairs : List (Bytes × Kept)) : Type 0 where
   pub own : AllByRecursion (λ e. AsksFor from to e.0 × (after.under e.0 ≡ Some e.1)) pairs
   pub all : (key : Bytes) → AsksFor from to key → IfSome (after.under key) (λ k. Contains (keys pairs) key)

@@ -38,8 +38,8 @@ fn bytes(alloc: Global, text: &[u8]) -> Result<Vec<u8>, OutOfMemory>
     Ok(Vec::from_slice(alloc, text)?)
 }
 
-/// A transaction of the examples: it puts `y` under `h/1` and `z` under `h/2`, if `h/1` was put at revision 3, `h/2` is absent
-/// and `t` stands under `h0`.
+/// The transaction of the examples puts `y` under `h/1` and `z` under `h/2`. It wants `h/1` put at revision 3, `h/2` absent,
+/// and `t` under `h0`.
 pub fn both_if_met(alloc: Global) -> Result<Txn, OutOfMemory>
     ensures { IfOk result (λ txn. PutsBothIf txn met) }
 {

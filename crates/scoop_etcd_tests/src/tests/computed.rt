@@ -6,8 +6,7 @@ use crate::tests::are_equal;
 use scoop_etcd::Etcd;
 use scoop_etcd_calls::Outcome;
 
-/// It does what the examples say of an etcd: both values are put at revision 5, the same transaction fails from then on, and a
-/// range finds both keys.
+/// Both values are put at revision 5, and the same transaction fails from then on. A range finds both keys.
 #[test]
 fn an_etcd_in_memory_does_as_computed(rt: HostRuntime) {
     let alloc = rt.alloc();

@@ -145,7 +145,7 @@ fn a_keeper_passes_each_call_on(rt: HostRuntime) {
         Step::Next(7, Ok(1)),
         Step::Next(7, Ok(2)),
         Step::Noted(None),
-        // what was committed is there for the next program, and refused to this one from now on
+        // from here on, this program is refused every call
         Step::TakenOver,
         Step::Changes(6),
         Step::Commits(Err(REFUSED)),

@@ -1,4 +1,4 @@
-//! What stands under a store's name.
+//! Lists of the states, incarnations and owners under a name.
 
 use super::acts::state;
 use super::lent::FailingEtcd;

@@ -6,7 +6,7 @@ use std::net::{TcpListener, TcpStream};
 use std::thread;
 use std::time::{Clock, Duration};
 
-/// What the member does with a request.
+/// The member's act on a request.
 #[derive(Clone, Copy)]
 pub enum Act {
     /// Answers with this status line and body, and closes.

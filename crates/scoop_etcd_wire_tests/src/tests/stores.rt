@@ -18,7 +18,7 @@ const NODE: Owner = Owner::Node(1);
 
 const CLIENT: ClientId = ClientId(7);
 
-/// What is done at the place.
+/// A call at the place.
 #[derive(Clone, Copy)]
 enum Call {
     /// Makes the store of node 1.
