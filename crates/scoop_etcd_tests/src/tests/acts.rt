@@ -31,14 +31,14 @@ pub enum Act {
 }
 
 /// The state of a handler that no client has greeted, with one word.
-pub fn state(alloc: Global, handler: u32, word: u64) -> Result<HandlerState, Fail> {
-    let words = Words::of(&[word])?;
+pub fn state(rt: &impl Abort, alloc: Global, handler: u32, word: u64) -> HandlerState {
+    let words = Words::of(&[word]).expect(rt, "no words");
     let queues = QueueOfQueues::new(alloc);
-    Ok(HandlerState::of(alloc, HandlerId(handler), words, None, &[], queues)?)
+    HandlerState::of(alloc, HandlerId(handler), words, None, &[], queues).expect(rt, "no state")
 }
 
 /// The word of the handler's state, as it is loaded.
-fn word<K: Keeper<Global>>(keeper: &mut K, handler: u32) -> Result<Option<u64>, KeeperError> {
+pub fn word<K: Keeper<Global>>(keeper: &mut K, handler: u32) -> Result<Option<u64>, KeeperError> {
     match keeper.load_handler(HandlerId(handler)) {
         Ok(Some(state)) => Ok(state.words().get(0)),
         Ok(None) => Ok(None),
@@ -47,28 +47,24 @@ fn word<K: Keeper<Global>>(keeper: &mut K, handler: u32) -> Result<Option<u64>, 
 }
 
 /// Makes the call, and returns whether its result is the expected one.
-fn acts(alloc: Global, store: &mut EtcdStore<ScriptedEtcd>, act: Act) -> Result<bool, Fail> {
-    Ok(match act {
-        Act::Put(handler, number) => store.put_handler(&state(alloc, handler, number)?).is_ok(),
-        Act::NoPut => store.put_handler(&state(alloc, 1, 0)?) == Err(KeeperError::Refused),
+fn acts(rt: &impl Abort, alloc: Global, store: &mut EtcdStore<ScriptedEtcd>, act: Act) -> bool {
+    match act {
+        Act::Put(handler, number) => store
+            .put_handler(&state(rt, alloc, handler, number))
+            .is_ok(),
+        Act::NoPut => store.put_handler(&state(rt, alloc, 1, 0)) == Err(KeeperError::Refused),
         Act::Commit(done) => store.commit() == done,
         Act::Load(handler, found) => word(store, handler) == found,
         Act::Next(client, next) => store.next_incarnation(ClientId(client)) == next,
         Act::Fault(fault) => store.fault() == fault,
-    })
+    }
 }
 
 /// All calls of the store have their expected results.
-pub fn plays(
-    rt: &impl Abort,
-    alloc: Global,
-    store: &mut EtcdStore<ScriptedEtcd>,
-    rows: &[Act],
-) -> Result<(), Fail> {
+pub fn plays(rt: &impl Abort, alloc: Global, store: &mut EtcdStore<ScriptedEtcd>, rows: &[Act]) {
     for (i, act) in rows.iter().enumerate() {
-        assert!(rt; acts(alloc, store, *act)?, "act {i}");
+        assert!(rt; acts(rt, alloc, store, *act), "act {i}");
     }
-    Ok(())
 }
 
 /// A new store over an etcd with this script, after these calls; its etcd is returned.
@@ -80,7 +76,7 @@ pub fn created(
 ) -> Result<ScriptedEtcd, Fail> {
     let etcd = ScriptedEtcd::new(alloc, script);
     let mut store = EtcdStore::create(alloc, etcd, "shop", OWNER, [7; 16])?;
-    plays(rt, alloc, &mut store, rows)?;
+    plays(rt, alloc, &mut store, rows);
     Ok(store.into_etcd())
 }
 
@@ -92,7 +88,7 @@ pub fn opened(
     rows: &[Act],
 ) -> Result<ScriptedEtcd, Fail> {
     let mut store = EtcdStore::open(alloc, etcd, "shop", OWNER, [8; 16])?;
-    plays(rt, alloc, &mut store, rows)?;
+    plays(rt, alloc, &mut store, rows);
     Ok(store.into_etcd())
 }
 

@@ -15,8 +15,12 @@ pub enum Event {
     AnswerLost,
     /// It is lost, and not made.
     Lost,
+    /// It is refused with this error, and not made.
+    Refused(EtcdError),
     /// Another program puts its own token first, as it does when it takes the store over.
     TakenOver,
+    /// A call that the program had given up is made first: it puts handler 1's state.
+    Late,
 }
 
 /// An etcd in memory with an event for each of the first transactions. The later ones are answered. It counts the transactions
@@ -32,6 +36,9 @@ pub struct ScriptedEtcd {
 
 /// The key at which another program puts its token.
 const OWNER: &[u8] = b"shop/owner/node/1";
+
+/// The key at which a late call puts a state.
+const HANDLER: &[u8] = b"shop/handlers/1";
 
 impl ScriptedEtcd {
     pub fn new(alloc: Global, script: &'static [Event]) -> ScriptedEtcd {
@@ -96,8 +103,13 @@ impl Etcd for ScriptedEtcd {
                 Err(EtcdError::Unreachable)
             }
             Event::Lost => Err(EtcdError::Unreachable),
+            Event::Refused(error) => Err(error),
             Event::TakenOver => {
                 let _ = self.put(OWNER, b"another")?;
+                self.inner.transact(txn)
+            }
+            Event::Late => {
+                let _ = self.put(HANDLER, b"late")?;
                 self.inner.transact(txn)
             }
         }

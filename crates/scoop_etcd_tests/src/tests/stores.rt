@@ -93,17 +93,11 @@ fn an_incarnation_whose_answer_is_lost_is_passed_over(rt: HostRuntime) -> Result
 }
 
 // The store puts the states of these handlers, with ten times their numbers.
-fn puts_all(
-    rt: &impl Abort,
-    alloc: Global,
-    store: &mut EtcdStore<ScriptedEtcd>,
-    handlers: u32,
-) -> Result<(), Fail> {
+fn puts_all(rt: &impl Abort, alloc: Global, store: &mut EtcdStore<ScriptedEtcd>, handlers: u32) {
     for handler in 1..=handlers {
-        let state = state(alloc, handler, 10 * u64::from(handler))?;
+        let state = state(rt, alloc, handler, 10 * u64::from(handler));
         assert!(rt; store.put_handler(&state).is_ok());
     }
-    Ok(())
 }
 
 // The store has these states.
@@ -126,7 +120,7 @@ fn up_to_64_states_wait(rt: HostRuntime) -> Result<(), Fail> {
     let alloc = rt.alloc();
     let etcd = ScriptedEtcd::new(alloc, &[]);
     let mut store = EtcdStore::create(alloc, etcd, "shop", Owner::Client(ClientId(3)), [7; 16])?;
-    puts_all(&rt, alloc, &mut store, 130)?;
+    puts_all(&rt, alloc, &mut store, 130);
     has_all(&rt, &mut store, 130)?;
     store.commit()?;
     has_all(&rt, &mut store, 130)?;

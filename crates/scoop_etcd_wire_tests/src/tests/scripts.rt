@@ -1,35 +1,16 @@
 //! A gateway over a member that follows a script.
 
+use super::member::{Act, BAD, FULL, MADE, NOT_MADE, OK, follow};
 use scoop_etcd::{Etcd, EtcdError};
 use scoop_etcd_calls::{Compare, Outcome, Put, Range, Txn};
 use scoop_etcd_gateway::{Gateway, Unknown};
 use std::alloc::Global;
-use std::io::{ErrorKind, Read, Write};
 use std::net::{Net, TcpListener, TcpStream};
 use std::process::Abort;
 use std::test::Fail;
 use std::thread;
 use std::thread::Threads;
 use std::time::{Clock, Duration, Instant};
-
-// What the member does with a request.
-#[derive(Clone, Copy)]
-enum Act {
-    // Answers with this status line and body, and closes.
-    Answers(&'static str, &'static str),
-    // Answers with a body that ends too soon.
-    CutsOff,
-    // Closes with no answer.
-    Closes,
-    // The same after so many milliseconds.
-    Waits(u64),
-}
-
-const OK: &str = "200 OK";
-
-const MADE: &str = "{\"header\":{\"revision\":\"7\"},\"succeeded\":true}";
-
-const NOT_MADE: &str = "{\"header\":{\"revision\":\"7\"}}";
 
 // `b` stands under `a`, put at revision 6.
 const AT_SIX: &str =
@@ -39,83 +20,8 @@ const AT_SIX: &str =
 const AT_FIVE: &str =
     "{\"header\":{\"revision\":\"8\"},\"kvs\":[{\"key\":\"YQ==\",\"mod_revision\":\"5\",\"value\":\"eg==\"}]}";
 
-const FULL: &str = "{\"error\":\"etcdserver: mvcc: database space exceeded\",\
-\"message\":\"etcdserver: mvcc: database space exceeded\",\"code\":8}";
-
 const NO_LEADER: &str =
     "{\"error\":\"etcdserver: no leader\",\"message\":\"etcdserver: no leader\",\"code\":14}";
-
-const BAD: &str = "{\"error\":\"etcdserver: key is not provided\",\
-\"message\":\"etcdserver: key is not provided\",\"code\":3}";
-
-// The next connection. `None` if none comes in ten seconds.
-fn accepted<R: Clock>(rt: &R, listener: &TcpListener) -> Option<TcpStream> {
-    for _ in 0..2_000 {
-        match listener.accept() {
-            Ok((stream, _)) => return Some(stream),
-            Err(error) if error.kind() == ErrorKind::WouldBlock => {
-                thread::sleep(rt, Duration::from_millis(5));
-            }
-            Err(_) => return None,
-        }
-    }
-    None
-}
-
-// Reads a request, which ends with its JSON.
-fn has_request(stream: &mut TcpStream) -> bool {
-    let mut buffer = [0; 4096];
-    for _ in 0..100 {
-        match stream.read(&mut buffer) {
-            Ok(0) | Err(_) => return false,
-            Ok(len) => {
-                if buffer[len - 1] == b'}' {
-                    return true;
-                }
-            }
-        }
-    }
-    false
-}
-
-fn perform<R: Clock>(rt: &R, alloc: Global, stream: &mut TcpStream, act: Act) -> bool {
-    match act {
-        Act::Answers(status, body) => {
-            let len = body.len();
-            let head = format!(in alloc;
-                "HTTP/1.1 {status}\r\nConnection: close\r\nContent-Length: {len}\r\n\r\n"
-            );
-            match head {
-                Ok(head) => {
-                    stream.write_all(head.as_bytes()).is_ok()
-                        && stream.write_all(body.as_bytes()).is_ok()
-                }
-                Err(_) => false,
-            }
-        }
-        Act::CutsOff => stream
-            .write_all(b"HTTP/1.1 200 OK\r\nContent-Length: 9\r\n\r\n{")
-            .is_ok(),
-        Act::Closes => true,
-        Act::Waits(millis) => {
-            thread::sleep(rt, Duration::from_millis(millis));
-            true
-        }
-    }
-}
-
-// Follows the script, a connection for each act. Returns whether all acts came to their turn.
-fn follow<R: Clock>(rt: &R, alloc: Global, listener: &TcpListener, script: &[Act]) -> bool {
-    for next in script {
-        let Some(mut stream) = accepted(rt, listener) else {
-            return false;
-        };
-        if !has_request(&mut stream) || !perform(rt, alloc, &mut stream, *next) {
-            return false;
-        }
-    }
-    true
-}
 
 fn bytes(alloc: Global, text: &str) -> Option<Vec<u8>> {
     Vec::from_slice(alloc, text.as_bytes()).ok()
