@@ -5,7 +5,7 @@ use Rattle.scoop_etcd_calls.specs.declared.calls.Range.{Range}
 use Rattle.scoop_etcd_calls.specs.declared.calls.Found.{Found}
 use Rattle.scoop_etcd_calls.specs.declared.calls.Txn.{Txn}
 use Rattle.scoop_etcd_calls.specs.declared.calls.Outcome.{Outcome}
-use Rattle.scoop_etcd.specs.Etcd.{Bytes, Kept, kept, Contents, contents, Condition, HasValue, HasRevision, conditions_of, entries_of, key_of, kept_of, Holds, Transacts, Answers, Finds}
+use Rattle.scoop_etcd.specs.Etcd.{Bytes, Kept, kept, Contents, contents, Condition, HasValue, HasRevision, SameKeys, conditions_of, entries_of, key_of, kept_of, Holds, Transacts, Answers, Finds}
 
 -- these contents, with a value under this key that was put at this revision
 abbrev pub with_key : Bytes → Bytes → ℕ → (Bytes → Option Kept) → Bytes → Option Kept
@@ -78,11 +78,31 @@ pub record AbsentKeys : Type 0 where
   pub not_there : Holds before (HasRevision one 0) → ⊥
   pub no_value : Holds before (HasValue two []) → ⊥
 
--- A caller that isn't alone may find what others wrote. One that is alone finds its own contents.
+-- A caller that isn't alone may find what others wrote. One that is alone finds what stood under its keys, also at a higher
+-- revision.
 pub record OthersWrite : Type 0 where
   pub others : (txn : Txn) → PutsBothIf txn met → Answers ⊥ empty after txn (outcome true 5)
   pub alone : (txn : Txn) → PutsBothIf txn met → Answers ⊤ before after txn (outcome true 5)
+  pub raised : (txn : Txn) → PutsBothIf txn met → Answers ⊤ (contents 3 before.under) after txn (outcome true 5)
   pub not_alone : (txn : Txn) → PutsBothIf txn met → Answers ⊤ empty after txn (outcome true 5) → ⊥
+
+-- what a caller sees that writes and asks for this key alone: other keys stand as they first did
+abbrev pub seen : Bytes → Contents → Contents → Contents
+seen key first now = contents now.revision (λ asked. if bytes_eq asked key then now.under asked else first.under asked)
+
+-- after a put under the last key, and after one under the first key
+abbrev pub last_put : Contents
+last_put = contents 5 (with_key end (codes "u") 5 before.under)
+
+abbrev pub first_put : Contents
+first_put = contents 5 (with_key one (codes "y") 5 before.under)
+
+-- Two callers have a key each. The put under the last key raises the revision, and leaves the caller of the first key alone.
+-- A put of another under the first key doesn't.
+pub record TwoCallers : Type 0 where
+  pub raised : (seen one before last_put).revision ≡ 5
+  pub alone : SameKeys (seen one before before) (seen one before last_put)
+  pub not_alone : SameKeys (seen one before before) (seen one before first_put) → ⊥
 
 -- the range over all keys that begin with `h/`
 abbrev pub IsPrefix : Range → Type 0

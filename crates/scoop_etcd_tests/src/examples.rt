@@ -1,7 +1,7 @@
 //! Examples that the definitions of an etcd compute.
 
 ghost use Rattle.std.specs.Prelude.{◌≡◌, IfOk};
-ghost use Rattle.scoop_etcd_tests.specs.Examples.{AbsentKeys, BothAreFound, BothArePut, IsPrefix, NothingIsPut, OthersWrite, PutsBothIf, met};
+ghost use Rattle.scoop_etcd_tests.specs.Examples.{AbsentKeys, BothAreFound, BothArePut, IsPrefix, NothingIsPut, OthersWrite, PutsBothIf, TwoCallers, met};
 
 use scoop_etcd_calls::{Compare, Put, Range, Txn};
 use scoop_message::OutOfMemory;
@@ -25,6 +25,11 @@ pub fn absent_keys()
 /// Others write before a transaction of a caller that isn't alone.
 pub fn others_write()
     ensures { OthersWrite }
+{}
+
+/// A caller of one key stays alone while another writes another key.
+pub fn two_callers()
+    ensures { TwoCallers }
 {}
 
 /// A range over a prefix finds exactly its keys.

@@ -10,5 +10,5 @@ mod tests;
 
 pub use examples::{
     absent_keys, both_are_found, both_are_put, both_if_met, nothing_is_put, others_write,
-    prefix_range,
+    prefix_range, two_callers,
 };
