@@ -220,7 +220,25 @@ class NodeParty(Party):
         if process.returncode == 3 and "store: TakenOver" in said:
             self.storm.taken += 1
             return []
+        if self.was_cut_off(process, said):
+            return []
         return [f"node {self.number}: a life that was taken over ended with {process.returncode}: {said}"]
+
+    def was_cut_off(self, process, said):
+        """Whether it ended since no member of the etcd had answered in time."""
+        is_so = self.storm.place is not None and process.returncode == 3 and "store: Unreachable" in said
+        self.storm.cut_off += is_so
+        return is_so
+
+    def look(self):
+        """Begins it again if it was cut off from the etcd, as its operator would. Returns what is wrong with another end."""
+        if self.process.poll() is None:
+            return []
+        said = open(self.out).read()
+        if not self.was_cut_off(self.process, said):
+            return [f"node {self.number} ended with {self.process.returncode}: {said}"]
+        self.begin()
+        return []
 
     def join_journals(self):
         """Puts the journals of all lives into the first one."""
@@ -353,7 +371,7 @@ class Storm:
         self.random = random.Random(seed)
         self.cluster, self.down = cluster, None
         self.place = cluster and cluster.address + f"/storm-{seed}-{os.getpid()}"
-        self.taken = 0
+        self.taken = self.cut_off = 0
         names = [("node", n) for n in NODES] + [("client", c) for c in CLIENTS]
         ports = free_ports(len(names) + len(NODES))
         self.real = {name: [port] for name, port in zip(names, ports)}
@@ -396,12 +414,16 @@ class Storm:
                 time.sleep(self.random.choice([0, 0, self.random.uniform(0, 0.5)]))
                 wrong += party.end_taken()
                 party.begin()
+            for n in nodes:
+                wrong += n.look()
         self.over = True
         for c in clients:
             c.join(60)
             if c.is_alive():
                 c.errors.append(f"client {c.number} hangs")
                 c.kill()
+        for n in nodes:
+            wrong += n.look()
         # What killed clients left is cut by a run with no line, and then read by a last client.
         for c in clients:
             self.greet(c)
@@ -417,7 +439,7 @@ class Storm:
               f" clients killed {killed['client']}, datagrams {self.relay.counts}: {'WRONG' if errors else 'right'}")
         if self.cluster:
             print(f"  nodes begun elsewhere {killed['moved']}, of which {self.taken} first lives ended with TakenOver;"
-                  f" members killed {killed['member']}")
+                  f" members killed {killed['member']}, nodes cut off {self.cut_off}")
         for e in errors[:20]:
             print(" ", e)
         if errors:
