@@ -42,9 +42,19 @@ pub(crate) struct Shown<'a> {
 impl<'a> Shown<'a> {
     /// The same of the node at this place.
     pub(crate) fn at(&self, place: NodePlace) -> Shown<'a> {
-        let mut shown = *self;
-        shown.about.place = place;
-        shown
+        let about = About {
+            system: self.about.system,
+            place,
+            store: self.about.store,
+            is_sealed: self.about.is_sealed,
+            started: self.about.started,
+        };
+        Shown {
+            about,
+            log: self.log,
+            status: self.status,
+            may_lack_page: self.may_lack_page,
+        }
     }
 }
 
