@@ -47,15 +47,39 @@ pub(crate) fn copy_store(
 // Copies the store in this file.
 fn copy_filed(rt: &HostRuntime, from: &str, to: &str, party: Option<Owner>) -> Result<(), Status> {
     let text = found_text(rt, from, Owner::Node(0))?;
-    let party = party.or_else(|| party_in(text.as_deref().unwrap_or("")));
+    copy_beside(rt, from, to, party, text.as_deref())
+}
+
+// Copies the store in this file, beside which this text stands.
+fn copy_beside(
+    rt: &HostRuntime,
+    from: &str,
+    to: &str,
+    party: Option<Owner>,
+    text: Option<&str>,
+) -> Result<(), Status> {
+    let party = match party {
+        Some(party) => Some(party),
+        None => party_in(text.unwrap_or("")),
+    };
     match open_filed(rt, from) {
-        Ok((store, contents)) => {
-            let mut keeper = store;
-            let made = make_copy(rt, to, party, &mut keeper, &contents, text.as_deref());
-            ended(rt, from, to, made)
-        }
+        Ok((store, contents)) => copy_kept(rt, from, to, party, store, &contents, text),
         Err(end) => Err(report_side(rt, from, end)),
     }
+}
+
+// Copies what this keeper has.
+fn copy_kept<K: Keeper<Global>>(
+    rt: &HostRuntime,
+    from: &str,
+    to: &str,
+    party: Option<Owner>,
+    mut keeper: K,
+    contents: &Contents,
+    text: Option<&str>,
+) -> Result<(), Status> {
+    let made = make_copy(rt, to, party, &mut keeper, contents, text);
+    ended(rt, from, to, made)
 }
 
 // Copies the store of a party at this place in an etcd, which is taken over.
@@ -71,14 +95,37 @@ fn copy_shared(
         None => only_party(rt, from, place)?,
     };
     let text = found_text(rt, from, party)?;
-    let text = text.as_deref();
-    let (store, contents) = match open_shared(rt, place, party, text.unwrap_or("")) {
-        Ok(opened) => opened,
-        Err(fault) => return Err(report_etcd(rt, Hints::Always, from, fault)),
-    };
+    copy_taken(rt, from, place, to, party, text.as_deref())
+}
+
+// Copies the store of this party, beside which this text stands.
+fn copy_taken(
+    rt: &HostRuntime,
+    from: &str,
+    place: &EtcdPlace<'_>,
+    to: &str,
+    party: Owner,
+    text: Option<&str>,
+) -> Result<(), Status> {
+    match open_shared(rt, place, party, text.unwrap_or("")) {
+        Ok((store, contents)) => copy_owned(rt, from, to, party, store, &contents, text),
+        Err(fault) => Err(report_etcd(rt, Hints::Always, from, fault)),
+    }
+}
+
+// Copies what the store has, which is this program's now.
+fn copy_owned(
+    rt: &HostRuntime,
+    from: &str,
+    to: &str,
+    party: Owner,
+    store: SharedStore<'_>,
+    contents: &Contents,
+    text: Option<&str>,
+) -> Result<(), Status> {
     let fate = Fate::new();
     let mut keeper = FatefulKeeper::new(store, &fate);
-    let made = make_copy(rt, to, Some(party), &mut keeper, &contents, text);
+    let made = make_copy(rt, to, Some(party), &mut keeper, contents, text);
     match (made, fate.fault()) {
         (Err(Side::From(_)), Some(fault)) => Err(report_etcd(rt, Hints::Always, from, fault)),
         (made, _) => ended(rt, from, to, made),
