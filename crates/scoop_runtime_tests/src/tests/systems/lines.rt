@@ -56,18 +56,22 @@ fn told(alloc: Global, system: &System, line: &[u8]) -> Result<String, Fail> {
     }
 }
 
+// Operation 1 with the argument 5.
+fn request_of_5(rt: &impl Abort) -> Request {
+    Request {
+        op: 1,
+        args: Args::of(&[5]).expect(rt, "failed"),
+    }
+}
+
 fn asks_a_client(rt: &impl Abort, system: &System) {
     let handlers = NamedHandlers::of(&[HandlerId(3), HandlerId(1)]).expect(rt, "failed");
     let reserve = read_line(system, b"reserve 3  1\r").expect(rt, "failed");
     are_equal(rt, reserve, ClientLine::Reserve(handlers));
-    let request = Request {
-        op: 1,
-        args: Args::of(&[5]).expect(rt, "failed"),
-    };
     let call = read_line(system, b" call 1 order 5 ").expect(rt, "failed");
-    are_equal(rt, call, ClientLine::Call(HandlerId(1), request));
+    are_equal(rt, call, ClientLine::Call(HandlerId(1), request_of_5(rt)));
     let query = read_line(system, b"query 2 1 5").expect(rt, "failed");
-    are_equal(rt, query, ClientLine::Query(HandlerId(2), request));
+    are_equal(rt, query, ClientLine::Query(HandlerId(2), request_of_5(rt)));
     are_equal(
         rt,
         read_line(system, b"end").expect(rt, "failed"),
