@@ -113,7 +113,7 @@ fn enter(
 }
 
 // Makes the entries of a life that hears this many messages. Returns the number of them that leads to the states with which
-// the next life opens, the highest if there are several. `None` if there is none, or an entry can't be made.
+// the next life opens. Of several it is the highest. `None` if there is none, or an entry can't be made.
 fn reach(
     alloc: Global,
     node: &mut NodeReplay,

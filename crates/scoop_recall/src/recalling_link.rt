@@ -40,13 +40,13 @@ enum Taken {
     Passed(usize),
 }
 
-/// A link that answers a datagram by itself, if it remembers the reply to the same bytes, and no state was stored for the
-/// handler since it passed these bytes on. Every other datagram passes on.
+/// A link that answers a datagram by itself, if it remembers the reply to the same bytes. No state may have been stored for
+/// the handler since it passed these bytes on. Every other datagram passes on.
 ///
 /// It remembers the last reply to each client of each handler, as far as there is room. There is room for 256 replies, for four
 /// of them to clients whose numbers are equal modulo 64. A reply is the first datagram that is sent after one was passed on; so a link that holds
-/// replies back has to be under this one. What has no reply isn't remembered, so its repeats pass on: the node may not have heard
-/// it.
+/// replies back has to be under this one. A datagram without a reply isn't remembered, so its repeats pass on: the node may not
+/// have heard it.
 ///
 /// A receive takes datagrams from the inner link until one passes on, at most 64, and returns nothing if each was answered. If
 /// a remembered reply can't be sent, its datagram is lost, and the receive returns the fault. Contracts see the inner link, the

@@ -204,7 +204,7 @@ fn behind<S: Alter + Drop>(
     store.into_connection()
 }
 
-/// The same under a keeper that gathers. What it didn't commit is dropped.
+/// The same under a keeper that gathers. States that it didn't commit are dropped.
 fn gathered<S: Alter + Drop>(
     rt: &impl Abort,
     alloc: Global,

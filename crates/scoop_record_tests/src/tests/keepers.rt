@@ -108,7 +108,7 @@ fn a_put_replaces_the_pending_entries(rt: HostRuntime) {
     steps_in_memory(&rt, rt.alloc(), &REPLACED);
 }
 
-// Of the states that weren't committed the next store has none, and of the others the last. An incarnation stays either way.
+// The next store has no state that wasn't committed, and the last of the others. An incarnation stays either way.
 const GATHERED: [Step; 6] = [
     Step::Create(&[Act::Put(5), Act::Commit, Act::Load(Ok(Some(5)))]),
     Step::Gather(&[
