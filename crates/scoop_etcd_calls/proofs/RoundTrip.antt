@@ -1,4 +1,4 @@
--- What is written of an answer reads back.
+-- Round trips: the written parts of an answer read back as they were.
 use Rattle.std.proofs.Common.{◌≡◌, ◌≢◌, ◌∙◌, ℕ, ◌^◌, ◌<◌, ◌==◌, nat_lt, not, true, false, List, [], ◌∷◌, length, map, Some, Ok, refl, ap, arith, rules}
 use Rattle.std.specs.List.{AllByRecursion, list_all}
 use Rattle.std.specs.Fmt.{decimal}

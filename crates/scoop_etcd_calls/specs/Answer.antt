@@ -1,4 +1,4 @@
--- What the JSON of an answer says.
+-- The meaning of an answer's JSON.
 use Rattle.std.specs.Prelude.{◌≡◌, ◌≢◌, ℕ, ◌==◌, if◌then◌else◌, Bool, false, is_some, List, [], ◌∷◌, codes, Option, Some, None, Result, Ok, Err}
 use Rattle.std.specs.Option.{ok_or, option_and_then}
 use Rattle.base64.specs.Engines.{standard}
@@ -16,7 +16,7 @@ use Rattle.scoop_etcd_calls.specs.declared.fault.AnswerFault.TheVariants.{NotJso
 use Rattle.scoop_etcd_calls.specs.declared.fault.Field.{Field}
 use Rattle.scoop_etcd_calls.specs.declared.fault.Field.TheVariants.{Header, Revision, Pairs, Key, Value, ModRevision, Succeeded, Code, Message}
 
--- what was read, or the fault
+-- the value that was read, or the fault
 abbrev pub Told : Type 0 → Type 0
 Told A = Read AnswerFault A
 

@@ -6,7 +6,7 @@ use Rattle.scoop_etcd_calls.specs.declared.calls.Pair.{Pair}
 use Rattle.scoop_etcd_calls.specs.declared.calls.Found.{Found}
 use Rattle.scoop_etcd_calls.specs.declared.calls.Refusal.{Refusal}
 
--- what is stored under a key, since the revision at which it was put
+-- a key, the bytes stored under it, and the revision at which they were put
 pub record Stored : Type 0 where
   pub key : List ℕ
   pub value : List ℕ

@@ -1,11 +1,11 @@
-//! What an etcd is asked, and what it answers.
+//! The calls to an etcd, and its answers.
 
 /// A key, the bytes stored under it, and the store's revision when they were put.
 #[derive(Drop)]
 pub struct Pair {
     /// The key.
     pub key: Vec<u8>,
-    /// What is stored under it.
+    /// The bytes stored under it.
     pub value: Vec<u8>,
     /// The store's revision just after the put, from 1 on.
     pub revision: u64,
@@ -20,7 +20,7 @@ pub struct Range {
     pub to: Option<Vec<u8>>,
 }
 
-/// What a range found, by ascending keys.
+/// The answer to a range: the pairs found, by ascending keys.
 #[derive(Drop)]
 pub struct Found {
     /// The store's revision.
@@ -43,7 +43,7 @@ pub enum Compare {
 pub struct Put {
     /// The key.
     pub key: Vec<u8>,
-    /// What is stored under it.
+    /// The bytes stored under it.
     pub value: Vec<u8>,
 }
 
@@ -52,7 +52,7 @@ pub struct Put {
 pub struct Txn {
     /// The conditions.
     pub compares: Vec<Compare>,
-    /// What is put.
+    /// The puts, made if all conditions hold.
     pub puts: Vec<Put>,
 }
 

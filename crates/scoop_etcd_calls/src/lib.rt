@@ -1,4 +1,4 @@
-//! The calls of an etcd: what is asked and answered, and both as JSON.
+//! The calls of an etcd and its answers, and both as JSON.
 //!
 //! A [`Range`] reads keys; a [`Txn`] compares some keys and, if all comparisons hold, puts others in one step.
 //!
