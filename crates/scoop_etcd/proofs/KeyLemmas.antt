@@ -7,7 +7,7 @@ use Rattle.scoop_etcd.specs.Keys.{handler_key, client_key, owner_key}
 use Rattle.scoop_etcd.specs.declared.keys.Owner.{Owner}
 use Rattle.scoop_etcd.specs.declared.keys.Owner.TheVariants.{Node, Client}
 
--- what follows the same name is the same
+-- equal texts that begin with the same name have the same rest
 rest_same : (name a b : Bytes) → name ++ a ≡ name ++ b → a ≡ b
 rest_same name a b e = sym (drop_at name a (length name) refl) ∙ ap (drop (length name)) e ∙ drop_at name b (length name) refl
 

@@ -104,7 +104,7 @@ commits_by old new keys known states txn outcome conditions entries writable ans
       puts = subst (Puts answers.met new) entries made.1;
     }
 
--- where nothing has changed before it
+-- a commit, seen from contents before it, if nothing has changed in between
 pub commits_after : {IsAlone : Type 0} (old mid new : Contents) (keys : StoreKeys) (known : List (ℕ × ℕ)) (states : List HandlerState)
     → Commits IsAlone mid new keys known states → (IsAlone → SameKeys old mid) → Commits IsAlone old new keys known states
 commits_after old mid new keys known states commits same = record {
@@ -148,7 +148,7 @@ last_none handler (x ∷ xs) none = go (last_of handler xs) refl (last_none hand
       more later,
     )
 
--- ---- what a put changes
+-- ---- the changes by a put
 
 -- handlers whose keys stay keep their states
 pub same_states : (name : Bytes) (old new : Contents) → ((handler : ℕ) → new.under (handler_key name handler) ≡ old.under (handler_key name handler))

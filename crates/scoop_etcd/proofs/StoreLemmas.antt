@@ -1,4 +1,4 @@
--- What the transactions of a store do to its contents, where nobody else writes.
+-- The effect of a store's transactions on its contents, while no other program writes.
 use Rattle.std.proofs.Common.{◌≡◌, ◌↔◌, ℕ, ◌+◌, ◌^◌, ◌<◌, ◌≤◌, List, [], ◌∷◌, find, length, Option, Some, None, ap, ◌∙◌, subst, arith, length-append}
 use Rattle.std.proofs.lemmas.List.{length-map}
 use Rattle.scoop_handler.specs.State.{HandlerState}
@@ -42,7 +42,7 @@ module _ {IsAlone : Type 0} (old new : Contents) (keys : StoreKeys) (client inc 
       subst (λ u. Stays (handlers_in keys.name (with_keys u)) (handlers_in keys.name new)) (advances.own alone)
       (put_inc_states keys.name advances.met new client _ advances.puts)
 
--- ---- what waits over what is stored
+-- ---- pending states over stored ones
 
 pub over_stays : (states : List HandlerState) (old new : ℕ → Stored → Type 0) → Stays old new → Stays (Over states old) (Over states new)
 over_stays states old new stays = record { each = λ handler v. go (last_of handler states) handler v }

@@ -19,7 +19,7 @@ use Rattle.scoop_etcd_calls.specs.declared.calls.Compare.TheVariants.{Value, Rev
 abbrev pub Bytes : Type 0
 Bytes = List ℕ
 
--- what stands under a key, and the store's revision after its last put
+-- the value under a key, and the store's revision after its last put
 pub record Kept : Type 0 where
   pub value : Bytes
   pub revision : ℕ
@@ -92,7 +92,7 @@ pub record Transacts (old new : Contents) (txn : Txn) (outcome : Outcome) : Type
   pub result : TransactsAs outcome.succeeded old new (conditions_of txn) (entries_of txn)
   pub revision : outcome.revision ≡ new.revision
 
--- The transaction met these contents. Before it others may have written the caller's keys, unless it is alone.
+-- The transaction met these contents. Others may have written the caller's keys before it, unless the caller is alone.
 pub record Answers (IsAlone : Type 0) (old new : Contents) (txn : Txn) (outcome : Outcome) : Type 0 where
   pub met : Contents
   pub own : IsAlone → SameKeys old met

@@ -21,23 +21,23 @@ pub enum EtcdError {
     /// The etcd refused the call for another reason.
     #[error("the etcd refused the call")]
     Refused,
-    /// What came is no answer to the call.
+    /// The response is no answer to the call.
     #[error("the etcd's answer can't be read")]
     BadAnswer,
 }
 
 /// A store of bytes under keys, on a server that other programs write too.
 ///
-/// Contracts see what stands on the server after the last call, under the keys that the caller writes or asks for. Other keys
-/// may be taken to stand as they first did. The revision is the server's: every program's puts raise it. So a caller is alone
-/// while nobody else writes its keys, whatever others write under theirs.
+/// Contracts see the server's contents after the last call, under the keys that the caller writes or asks for. Other
+/// keys may be taken to stand as they first did. The revision is the server's: every program's puts raise it. So a
+/// caller is alone while no other program writes its keys, whatever others write under theirs.
 ///
 /// A call that returns an error has changed nothing, as far as the caller knows: the server may have made a transaction whose
 /// answer was lost. A transaction that was made so counts as another's, and so does one whose fate could not be found out.
-/// From then on the caller isn't alone, and what is said of one that is alone no longer speaks. What an honest server's
-/// answers say holds all the same.
+/// From then on the caller isn't alone, and clauses about a caller that is alone no longer apply. Clauses about the
+/// answers of an honest server still apply.
 pub trait Etcd: Drop {
-    // What stands on the server under the keys that this caller writes or asks for. Other keys may stand as they first did.
+    // The server's contents under the keys that this caller writes or asks for. Other keys may stand as they first did.
     ghost contents: { Self → Contents };
 
     // The server does what it answers, and keeps what it answered.

@@ -7,7 +7,7 @@ use crate::etcd::{Etcd, EtcdError};
 use scoop_etcd_calls::{Pair, Range};
 use std::alloc::Global;
 
-/// What stands under the key, `None` if there is nothing. Refused with the errors of a range.
+/// The pair under the key, `None` if it is absent. Refused with the errors of a range.
 pub(crate) fn find<E: Etcd>(
     alloc: Global,
     etcd: &mut E,
@@ -26,7 +26,7 @@ pub(crate) fn find<E: Etcd>(
     Ok(pairs.pop())
 }
 
-/// The revision of what was found, 0 if nothing was.
+/// The revision of the pair that was found, 0 if none was.
 pub(crate) fn revision_of(found: &Option<Pair>) -> u64
     ensures { result ≡ revision_of (option_map kept_of found.now) }
 {

@@ -6,7 +6,7 @@ use Rattle.scoop_etcd.specs.States.{handlers_in}
 use Rattle.scoop_etcd.proofs.StoreLemmas.{gathers_few, keeps_after}
 use Rattle.scoop_etcd.proofs.store.EtcdStoreKeeperGlobal.put_handler.Goals as goal
 
--- what was asked of the states that waited, before this one
+-- the invariant of the pending states, with this one gathered
 pub invariant_of-self-2 : goal.invariant_of-self-2
 invariant_of-self-2 g c =
     let few = subst (λ r. length r.pending < 64) (sym c.self.view_is) c.in_ok-make_room.ensures.room in (
