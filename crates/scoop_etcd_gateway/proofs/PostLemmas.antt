@@ -1,4 +1,4 @@
--- What a request appends in three steps.
+-- The bytes that a request appends, in three steps.
 use Rattle.std.proofs.Common.{◌≡◌, ℕ, List, [], ◌++◌, ◌∙◌, ap, append_assoc, length, codes, Result, OnOk}
 use Rattle.std.proofs.lemmas.Result.{on_ok_weaker}
 use Rattle.http1.specs.declared.client.Client.{Client}

@@ -1,4 +1,4 @@
--- What a look-up says of a transaction whose answer was lost.
+-- The fate of a transaction whose answer was lost, by a look-up.
 use Rattle.std.specs.Prelude.{ℕ, ◌==◌, Bool, if◌then◌else◌, List, [], ◌∷◌, Option, Some, None}
 use Rattle.std.specs.Cmp.Lexicographic.{pointwise}
 use Rattle.scoop_etcd_calls.specs.declared.calls.Compare.{Compare}

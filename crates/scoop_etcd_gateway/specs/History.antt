@@ -1,4 +1,4 @@
--- What stands on a server after some calls, and what an honest server answers.
+-- The contents of a server after some calls, and the answers of an honest server.
 use Rattle.std.specs.Prelude.{◌≡◌, ℕ, true, List, [], ◌∷◌, ◌++◌, Ok, string_bytes, ⊤}
 use Rattle.serde_json.specs.Written.{compact_text}
 use Rattle.scoop_etcd_calls.specs.declared.calls.Range.{Range}
@@ -22,12 +22,13 @@ made_at revision = record { succeeded = true; revision = revision }
 abbrev pub Calls : Type 0
 Calls = List (Call × Answer)
 
--- What stands on a server after some calls, under the keys that these write or ask for. Other keys may stand as they first did.
+-- The contents of a server after some calls, under the keys that these write or ask for. Other keys may stand as they
+-- first did.
 abbrev pub History : Type 0
 History = Calls → Contents
 
--- Since the calls in front only this one has written the keys that the calls write or ask for: what stands there changed by it
--- alone, if at all. The server's revision may have grown before it.
+-- Since the calls in front, only this one has written the keys that the calls write or ask for. The contents under them
+-- changed by it alone, if at all. The server's revision may have grown before it.
 abbrev pub WritesAlone : History → Calls → Call → Answer → Type 0
 WritesAlone after front (Ranges text) answer = SameKeys (after front) (after (front ++ (Ranges text, answer) ∷ []))
 WritesAlone after front (Transacts text) (Body body) =

@@ -59,7 +59,7 @@ status_after status Paused = status
 status_after status Upgraded = status
 status_after status Closed = status
 
--- what follows an event: another one, more bytes, or the end of the response
+-- the step after an event: another event, more bytes, or the end of the response
 abbrev pub step_after : Event ResponseSpans → Result Step HttpFault
 step_after NeedMore = Ok after.NeedMore
 step_after (Head head) = Ok after.Again

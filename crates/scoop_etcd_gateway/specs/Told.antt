@@ -1,4 +1,4 @@
--- What calls are told.
+-- The results of calls, by their answers.
 use Rattle.std.specs.Prelude.{◌≡◌, Ok, Err, Result, string_bytes}
 use Rattle.serde_json.specs.Written.{compact_text}
 use Rattle.scoop_etcd_calls.specs.declared.calls.Range.{Range}

@@ -1,6 +1,6 @@
 //! Calls and their answers, as clauses see them.
 
-/// What was sent.
+/// A call that was sent.
 #[derive(Drop)]
 pub enum Call {
     /// A range, by the body of its request.
@@ -9,7 +9,7 @@ pub enum Call {
     Transacts(String),
 }
 
-/// What came of a call.
+/// The answer to a call, or its fate if the answer was lost.
 #[derive(Drop)]
 pub enum Answer {
     /// The body of the response.

@@ -30,7 +30,7 @@ pub enum HttpFault {
     /// The request can't be written: its host or path has a byte that HTTP doesn't allow there.
     #[error("{0}")]
     Request(WriteError),
-    /// What came is no response of HTTP/1, or one of its parts is too long.
+    /// The bytes that came are no response of HTTP/1, or one of its parts is too long.
     #[error("{0}")]
     Response(ReadError),
     /// The body is longer than [`MAX_BODY_LEN`].
@@ -64,7 +64,7 @@ pub struct Response {
     pub keeps_open: bool,
 }
 
-/// A request that was written, and what came of its response.
+/// A request that was written, and the part of its response that has come.
 #[derive(Drop)]
 pub struct Exchange {
     client: Client,
@@ -74,7 +74,7 @@ pub struct Exchange {
     ghost bounded: { vec_len body ≤ MAX_BODY_LEN },
 }
 
-// What follows an event.
+// The step after an event: another event, more bytes, or the end of the response.
 enum Step {
     Again,
     NeedMore,

@@ -1,4 +1,4 @@
-//! What became of a transaction whose answer was lost.
+//! The fate of a transaction whose answer was lost.
 
 ghost use Rattle.std.specs.Prelude.{◌≡◌, option_map};
 ghost use Rattle.scoop_etcd_calls.specs.Stored.{stored};
@@ -6,7 +6,7 @@ ghost use Rattle.scoop_etcd_gateway.specs.Fate.{same_bytes, asked_revision, guar
 
 use scoop_etcd_calls::{Compare, Pair, Put, Txn};
 
-/// What a look-up says of a transaction.
+/// The fate of a transaction, by a look-up.
 #[derive(Clone, Copy, Debug, PartialEq, Eq)]
 pub enum Fate {
     /// It wasn't made until then.
@@ -64,7 +64,7 @@ pub fn guard_of(txn: &Txn) -> Option<Guard<'_>>
     guard_among(txn.compares.as_slice(), txn.puts.as_slice())
 }
 
-/// What the pair under the guard's key says, `None` if there is none.
+/// The fate of the guard's transaction, by the pair under the guard's key, `None` if there is none.
 pub fn fate_of(guard: Guard<'_>, found: Option<&Pair>) -> Fate
     ensures { result ≡ fate_of guard.entry.put.now.value.items guard.entry.revision (option_map (λ pair. stored pair.now) found.entry) }
 {

@@ -95,7 +95,7 @@ fn find<R: Net + Clock>(
     }
 }
 
-// What the body of an answer says of a transaction.
+// The answer to a transaction and its outcome, by the body of the response.
 fn told(alloc: Global, body: Vec<u8>) -> (Answer, Result<Outcome, EtcdError>)
     ensures { TellsOutcome result.0 result.1 }
 {

@@ -8,10 +8,10 @@
 //! transaction was made. At most one of several tries takes effect, since each of them asks for the old revision. A transaction
 //! with no guard is tried once.
 //!
-//! What a server does can't be proved. So the gateway has a [`World`], which says what stands on the server after each sequence
-//! of calls with their answers. The gateway records its calls for contracts alone, and contracts speak of a server whose answers
-//! fit its world. That a look-up is right about a lost answer is part of that premise. A program that states nothing of the
-//! server's contents names [`Unknown`].
+//! The behaviour of a server can't be proved. So the gateway has a [`World`], which gives the server's contents after
+//! each sequence of calls with their answers. The gateway records its calls for contracts alone, and contracts speak of
+//! a server whose answers fit its world. That a look-up is right about a lost answer is part of that premise. A program
+//! that states nothing of the server's contents names [`Unknown`].
 //!
 //! [`Exchange`] is one request with its response, as bytes. Its contracts say which events `http1` reads of the bytes that came,
 //! and that the body is made of their parts.

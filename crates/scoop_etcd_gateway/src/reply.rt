@@ -1,4 +1,4 @@
-//! What one try of a call gave.
+//! The result of one try of a call.
 
 ghost use Rattle.std.specs.Prelude.{◌≡◌};
 ghost use Rattle.scoop_etcd_gateway.specs.Refusal.{is_final};
@@ -15,7 +15,7 @@ pub(crate) const FINAL_CODES: [u64; 9] = [3, 5, 6, 7, 8, 9, 11, 12, 16];
 // The code of a store with no room left, and of a member with too many calls.
 const NO_ROOM: u64 = 8;
 
-/// What one try of a call gave.
+/// The result of one try of a call.
 pub(crate) enum Reply {
     /// The body of the answer.
     Body(Vec<u8>),
@@ -54,7 +54,7 @@ fn error_of(refusal: &Refusal) -> Option<EtcdError> {
     }
 }
 
-/// What a response says.
+/// The reply that a response stands for.
 pub(crate) fn reply_of(alloc: Global, response: Response) -> Reply {
     if response.status == 200 {
         return Reply::Body(response.body);

@@ -16,7 +16,7 @@ const TXN_PATH: &[u8] = b"/v3/kv/txn";
 // Tries of one call, at most.
 const MAX_TRIES: u32 = 1_000;
 
-/// What came of a transaction.
+/// The result of a transaction, after all its tries.
 pub(crate) enum Settled {
     /// The body of its answer.
     Body(Vec<u8>),
@@ -69,7 +69,8 @@ fn has_failed(alloc: Global, answer: &[u8]) -> bool {
     }
 }
 
-// What an answer says, if an earlier try may have been made, by its guard. If this try failed, that one may be why.
+// The result of a transaction that was answered. `doubt` is its guard if an earlier try may have been made. If this try
+// failed, that one may be why.
 fn answered<R: Net + Clock>(
     alloc: Global,
     members: &mut Members<'_, R>,
@@ -90,7 +91,7 @@ fn answered<R: Net + Clock>(
     }
 }
 
-// What a failure says, if a try may have been made.
+// The result of a transaction that failed. `doubt` is its guard if a try may have been made.
 fn failed(doubt: Option<Guard<'_>>, error: EtcdError) -> Settled {
     match doubt {
         Some(_) => Settled::Lost(error),

@@ -1,10 +1,10 @@
-//! What is supposed of a server.
+//! The assumptions about a server.
 
 ghost use Rattle.scoop_etcd_gateway.specs.History.{History};
 
-/// What stands on a server after each sequence of calls with their answers, under the keys of these calls. Other keys may stand
-/// as they first did: so a caller is alone while others write other keys alone. A function over `W: World` is proved for every
-/// server. A clause speaks of a server that answers honestly.
+/// The contents of a server after each sequence of calls with their answers, under the keys of these calls. Other keys
+/// may stand as they first did: so a caller is alone while others write other keys alone. A function over `W: World` is
+/// proved for every server. A clause speaks of a server that answers honestly.
 pub trait World: Drop {
     ghost after: { History };
 }
