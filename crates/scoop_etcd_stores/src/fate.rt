@@ -1,4 +1,4 @@
-//! Why the keeper of a store refused, for those who ask after it is gone.
+//! The reason why the keeper of a store refused, for callers that ask after it is gone.
 
 use crate::error::EtcdFault;
 use scoop_etcd::{EtcdError, StoreFault};

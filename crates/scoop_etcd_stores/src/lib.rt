@@ -1,6 +1,7 @@
 //! Stores in an etcd, for the commands: made, taken over, and looked into.
 //!
-//! - [`connect`] is for the members of an `EtcdPlace`, the members and the name that a text says.
+//! - [`connect`] makes the etcd of an `EtcdPlace`, which has the members and the name that a text says. It sends
+//!   nothing.
 //! - [`create`] makes a party's store, [`create_after`] a client's that begins above an incarnation, and [`adopt`] takes a
 //!   store over.
 //! - A [`FatefulKeeper`] is the keeper over such a store. It notes why it refuses in a [`Fate`], which outlives it. Before replies

@@ -79,9 +79,9 @@ pub fn adopt<'a>(
     }
 }
 
-/// Makes this client's store at the place, in which `last` is its incarnation: the next one is one more. `Exists` if it has a
-/// store there, or another incarnation. The incarnation is put first: a program that is killed in between leaves no store, and
-/// may be run again.
+/// Makes this client's store at the place, in which `last` is its incarnation. So the next one is one more. `Exists` if
+/// it has a store there, or another incarnation. The incarnation is put first: a program that is killed in between
+/// leaves no store, and may be run again.
 pub fn create_after<'a>(
     rt: &'a HostRuntime,
     place: &EtcdPlace<'_>,
