@@ -1,4 +1,4 @@
--- What is shown of a handler: one state of it, part by part.
+-- The view of a handler: one state of it, part by part.
 use Rattle.std.specs.Prelude.{◌≡◌, ℕ, true, List, map, length, Option, Some, None}
 use Rattle.std.specs.Option.{option_map}
 use Rattle.scoop_message.specs.declared.name.Block.{Block}

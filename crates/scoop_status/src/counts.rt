@@ -19,7 +19,7 @@ pub const COUNTS: [&str; 12] = [
     "states_missed",
 ];
 
-/// What the counts say, in the same order.
+/// The meanings of the counts, in the same order.
 pub(crate) const MEANINGS: [&str; 12] = [
     "Datagrams that came and that the seal didn't refuse.",
     "Datagrams that were sent.",

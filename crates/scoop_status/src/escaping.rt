@@ -7,7 +7,7 @@ ghost use Rattle.scoop_status.specs.Escaped.{escaped, escaped_byte};
 use std::io;
 use std::io::Write;
 
-// What stands for a byte.
+// Writes the text that stands for a byte.
 fn print_byte<W: Write>(byte: u8, writer: &mut W) -> io::Result<()>
     ensures { OnOk result (Appends (W.contents writer.old) (W.contents writer.new) (escaped_byte byte)) }
 {

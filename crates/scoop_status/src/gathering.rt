@@ -1,4 +1,4 @@
-//! How what is shown of a node is gathered.
+//! The gathering of a node's view.
 
 ghost use Rattle.std.specs.Prelude.{◌≡◌, map, IfOk};
 ghost use Rattle.std.specs.Option.{option_map};
@@ -19,7 +19,7 @@ use std::alloc::Global;
 use std::sync::Wait;
 use std::time::Clock;
 
-/// What is known of a node before it runs.
+/// The parts of a node's view that are known before it runs.
 #[derive(Clone, Copy)]
 pub struct About<'a> {
     pub system: &'a System,

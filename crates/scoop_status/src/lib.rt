@@ -1,7 +1,7 @@
-//! What an operator sees of a node that runs: a page, the same as metrics and as a value that serializes, and a log.
+//! The operator's view of a node that runs: a page, the same as metrics and as a value that serializes, and a log.
 //!
-//! [`gather`] says what is shown of the node at one moment, a [`NodeView`]: it reads the node's [`Watch`] alone.
-//! [`print_page`] and [`print_metrics`] write it. A [`Log`] writes the node's events.
+//! [`gather`] returns a [`NodeView`] of the node at one moment. It reads the node's [`Watch`] alone. [`print_page`] and
+//! [`print_metrics`] write the view. A [`Log`] writes the node's events.
 //!
 //! ```
 //! let view = gather(rt, alloc, &watch, &about)?;

@@ -26,7 +26,7 @@ pub struct Log<W: Write + Drop> {
     strangers: Counted,
 }
 
-// A count that is told when it has risen, at most once a second.
+// A count that the log tells when it has risen, at most once a second.
 #[derive(Clone, Copy)]
 struct Counted {
     told: u64,
@@ -43,7 +43,7 @@ impl Counted {
         }
     }
 
-    // By how much the count has risen, if that is to be told at this millisecond.
+    // The rise of the count since the log last told it, if the log is to tell it at this millisecond.
     fn rise(&mut self, count: u64, millis: u64) -> Option<u64> {
         let risen = count.saturating_sub(self.told);
         let is_early = match self.last {

@@ -1,4 +1,4 @@
-//! What is shown of a node, as metrics in Prometheus' text form.
+//! The view of a node, as metrics in Prometheus' text form.
 
 use crate::counts::{COUNTS, CountsView, MEANINGS};
 use crate::view::{HandlerView, NodeView};
@@ -6,7 +6,7 @@ use scoop_watch::{NOTES, REASONS};
 use std::io;
 use std::io::Write;
 
-// What is measured of each handler of which a state is known.
+// The gauges of each handler of which a state is known.
 const GAUGES: [(Gauge, &str, &str); 4] = [
     (
         Gauge::Locked,

@@ -1,4 +1,4 @@
-//! What is shown of a node, as a page for people.
+//! The view of a node, as a page for people.
 
 use crate::escaping::print_escaped;
 use crate::style::STYLE;
@@ -80,7 +80,7 @@ fn print_store<W: Write>(store: Option<&str>, writer: &mut W) -> io::Result<()> 
     }
 }
 
-// What an operator should look at.
+// Writes the alerts that an operator should look at.
 fn print_alerts<W: Write>(view: &NodeView<'_>, writer: &mut W) -> io::Result<()> {
     let (tally, link) = (&view.counts.tally, &view.counts.link);
     print_alert(

@@ -122,7 +122,7 @@ fn print_client<W: Write>(client: &ClientView, writer: &mut W) -> io::Result<()>
     writeln!(writer, "<td>{handlers}<td>{named}</tr>")
 }
 
-/// What the handlers keep of their clients.
+/// Writes the marks that the handlers keep of their clients.
 pub(crate) fn print_marks<W: Write>(handlers: &[HandlerView], writer: &mut W) -> io::Result<()> {
     begin_table(
         "Marks",

@@ -1,4 +1,4 @@
-//! What is shown of a node at one moment, in the shape of `/status.json`.
+//! The view of a node at one moment, in the shape of `/status.json`.
 
 use crate::counts::CountsView;
 use scoop_handler::Stage;
@@ -79,7 +79,7 @@ pub struct QueueView {
 #[derive(Clone, Copy)]
 pub struct StateView(pub QueueState);
 
-/// What a handler keeps of a client.
+/// The mark that a handler keeps of a client.
 #[derive(Clone, Copy, Serialize)]
 pub struct MarkView {
     pub client: u32,
