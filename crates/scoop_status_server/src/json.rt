@@ -1,4 +1,4 @@
-//! What is shown of a node, as JSON.
+//! The view of a node, as JSON.
 
 use scoop_status::NodeView;
 use std::alloc::Global;

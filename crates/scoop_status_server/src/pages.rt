@@ -13,7 +13,7 @@ use std::alloc::{AllocError, Global};
 use std::sync::Wait;
 use std::time::Clock;
 
-/// What a request asks for.
+/// The page that a request asks for, or why it gets none.
 #[derive(Clone, Copy, Debug, PartialEq, Eq)]
 pub enum Page {
     /// The page for people, `/`.

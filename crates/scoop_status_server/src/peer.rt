@@ -9,7 +9,7 @@ use std::io;
 use std::io::{ErrorKind, Read};
 use std::net::Shutdown;
 
-// What a peer may send: a short head, and no body.
+// The limits on a peer's requests: a short head, and no body.
 const CONFIG: Config = Config {
     limits: Limits {
         max_head_len: 4096,
@@ -29,7 +29,7 @@ pub(crate) const TIME_LIMIT_MS: u64 = 1_500;
 pub(crate) struct Peer {
     stream: TcpStream,
     connection: Connection,
-    // All was sent. What still comes is read and dropped, so that the answer isn't lost with it.
+    // All was sent. Bytes that still come are read and dropped, so that the answer isn't lost with them.
     is_answered: bool,
 }
 
