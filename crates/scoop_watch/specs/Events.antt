@@ -1,4 +1,4 @@
--- The events of a node since somebody last took them.
+-- The events of a node since they were last taken.
 use Rattle.std.specs.Prelude.{ℕ, ◌+◌, ◌-◌, ◌^◌, min, nat_lt, List, [], ◌∷◌, ◌++◌, length, if◌then◌else◌}
 use Rattle.scoop_watch.specs.declared.event.Event.{Event}
 use Rattle.scoop_watch.specs.declared.event_list.TheConstants.{MAX_EVENTS}

@@ -13,7 +13,7 @@ use scoop_message::{Block, ClientId, HandlerId, Message, OutOfMemory};
 use scoop_queue::QueueState;
 use std::alloc::Global;
 
-/// The latest state of each handler, counts, and the events that nobody has taken yet.
+/// The latest state of each handler, counts, and the events that weren't taken yet.
 #[derive(Drop)]
 pub(crate) struct Board {
     pub(crate) states: MemoryKeeper,

@@ -1,4 +1,4 @@
-//! What happens at a node that a log tells, and how much of it.
+//! The events of a node that a log tells, and the levels of a log.
 
 use scoop_handler::Reason;
 use scoop_keeper::KeeperError;

@@ -1,4 +1,4 @@
-//! The events of a node since somebody last took them.
+//! The events of a node since they were last taken.
 
 ghost use Rattle.std.specs.Prelude.{◌≡◌, slice_get};
 ghost use Rattle.scoop_watch.specs.Events.{no_events, with_event};
@@ -11,7 +11,7 @@ use std::mem;
 /// The most events that a list has.
 pub const MAX_EVENTS: usize = 32;
 
-/// The first `MAX_EVENTS` events since somebody last took them, and how many came after these.
+/// The first `MAX_EVENTS` events since events were last taken, and how many came after these.
 #[derive(Drop)]
 pub struct EventList {
     events: ArrayVec<Event, MAX_EVENTS>,

@@ -1,9 +1,10 @@
-//! Watchers of a node that runs: what passes through its keeper, its link and its output is copied onto a board and counted.
+//! Watchers of a node that runs. They copy onto a board, and count, what passes through its keeper, its link and its
+//! output.
 //!
 //! A [`Watch`] is shared by the node's threads and the one that shows it. A [`WatchedKeeper`] stands over the node's keeper: it
 //! passes every call on, copies each stored state onto the board, and counts what was heard and run. A [`WatchedLink`] counts
 //! datagrams, [`WatchedStrangers`] count frames of unknown clients, and a [`WatchedOutput`] the openings of the node. None of
-//! them changes what it passes on, and nobody who reads a watch can change the node.
+//! them changes what it passes on, and no reader of a watch can change the node.
 //!
 //! ```
 //! let watch = Watch::new(alloc, settings);

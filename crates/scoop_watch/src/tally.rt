@@ -49,8 +49,8 @@ pub struct Tally {
     pub missed: u64,
     /// Reopenings of the node.
     pub reopened: u64,
-    /// Entries of the node's history since it was last opened: one for each message that was heard, two for each entry that has
-    /// run, and one for each time that a handler found nothing to run.
+    /// Entries of the node's history since it was last opened. It has one for each message that was heard, two for each
+    /// entry that has run, and one for each time that a handler found nothing to run.
     pub history: u64,
 }
 

@@ -1,4 +1,4 @@
-//! What threads share to watch a node.
+//! The watch of a node, which threads share.
 
 ghost use Rattle.std.specs.Prelude.{◌≡◌};
 
@@ -15,7 +15,7 @@ use std::marker::Model;
 use std::sync::atomic::{AtomicBool, Ordering};
 use std::sync::{Mutex, Wait};
 
-/// What a watch looks at.
+/// The extent of a watch: which events it keeps for a log, and whether it copies states.
 #[derive(Drop)]
 pub struct Settings {
     /// The log's level.

@@ -10,8 +10,8 @@ use std::alloc::Global;
 use std::marker::Model;
 use std::sync::Wait;
 
-/// A keeper that passes every call on to the one under it, and notes it in a watch. What it returns and what is stored come
-/// from that keeper alone. Contracts see the keeper under it.
+/// A keeper that passes every call on to the one under it, and notes it in a watch. All that it returns and stores
+/// comes from that keeper alone. Contracts see the keeper under it.
 #[derive(Drop)]
 pub struct WatchedKeeper<'a, K, R> {
     keeper: K,

@@ -37,7 +37,7 @@ impl<'a, W: Write, R: Wait> WatchedOutput<'a, W, R> {
         }
     }
 
-    // What the line says that was written.
+    // The event that the written line tells.
     fn line(&self) -> Event {
         if self.tail.as_slice() == REOPENED {
             Event::Reopened
