@@ -13,7 +13,7 @@ use std::{fs, io};
 /// A database in copies of its files.
 pub type CopiedStore = Connection<FileStore<Memory>>;
 
-// The salt of the copy's log, which nobody reads.
+// The salt of the copy's log, which no other program reads.
 const SEED: u64 = 1;
 
 /// The database in the file and in the log beside it, as they are now, in memory. Both files stay as they are.
@@ -47,7 +47,7 @@ fn read_file(rt: &HostRuntime, path: &str) -> Result<Option<Memory>, FileError> 
     }
 }
 
-// What it means that a file can't be read.
+// The result for a file that can't be read: none if it is missing, or else the refusal.
 fn unread(error: &io::Error) -> Result<Option<Memory>, FileError> {
     match error.kind() {
         ErrorKind::NotFound => Ok(None),

@@ -1,5 +1,5 @@
-//! What is in a store in a file, in words. The store is read from copies of its files in memory, so that nothing on the disk
-//! changes.
+//! The contents of a store in a file, in words. The store is read from copies of its files in memory, so that nothing
+//! on the disk changes.
 //!
 //! ```
 //! let mut store = read_copy(rt, path)?;
