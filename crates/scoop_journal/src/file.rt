@@ -18,7 +18,7 @@ const FIRST_LEN: usize = 64;
 // Bytes that are read at once when the last newline is looked for.
 const CHUNK_LEN: usize = 4096;
 
-// What every journal begins with.
+// The first bytes of every journal.
 const FRONT: &[u8] = b"scoop journal 1 ";
 
 /// The party that a journal belongs to. Printed as `node 1` or `client 7`.
@@ -70,7 +70,7 @@ impl OpenError {
     }
 }
 
-/// A journal in a file. It is lent to the writer of its lines, and then says whether a write failed.
+/// A journal in a file. The writer of its lines borrows it. After that it says whether a write failed.
 #[derive(Drop)]
 pub struct JournalFile {
     file: File,

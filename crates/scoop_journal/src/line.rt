@@ -8,7 +8,7 @@ use scoop_client::Command;
 use scoop_frame::Version;
 use scoop_message::{ClientId, HandlerId, Message};
 
-/// What a client's turn received.
+/// The result of the receive in a client's turn.
 #[derive(Clone, Copy, Debug, PartialEq, Eq)]
 pub enum Arrival {
     /// Nothing came.

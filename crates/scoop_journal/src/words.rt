@@ -31,7 +31,7 @@ fn word_len(text: &[u8]) -> usize
     }
 }
 
-/// The first word of a text, and the text after the space behind it, if there is one.
+/// The first word of a text, and the text after the space that follows it, if there is one.
 pub(crate) fn cut(text: &[u8]) -> (&[u8], Option<&[u8]>)
     ensures { text.now ≡ result.0.now ++ following (option_copied result.1) }
 {
@@ -52,7 +52,7 @@ pub(crate) fn none(rest: Option<&[u8]>) -> Result<(), LineFault>
     }
 }
 
-/// One more word, and what follows it.
+/// One more word, and the rest after it.
 pub(crate) fn next(rest: Option<&[u8]>) -> Result<(&[u8], Option<&[u8]>), LineFault>
     ensures { IfOk result (λ x. following (option_copied rest.entry) ≡ 32 ∷ (x.0.now ++ following (option_copied x.1))) }
 {
@@ -71,7 +71,7 @@ pub(crate) fn last(rest: Option<&[u8]>) -> Result<&[u8], LineFault>
     Ok(word)
 }
 
-// Whether a word is what is written of this number.
+// Whether a word is this number in decimal digits, as a journal writes it.
 fn writes(word: &[u8], number: u64) -> bool
     ensures { IsTrue result → word.now ≡ decimal number }
 {
