@@ -39,7 +39,7 @@ owes j = if j.has_begun then j.is_waiting else true
 abbrev pub IsFront : {K W : Type 0} → SharedRecord K W → List ℕ → Type 0
 IsFront old front = old.has_begun ≡ true → front ≡ old.journal.text
 
--- this text waits behind the lines in front of it, and nothing was written
+-- this text waits after the lines in front of it, and nothing was written
 pub record Gathers {K W : Type 0} (old new : SharedRecord K W) (text : List ℕ) : Type 0 where
   pub front : List ℕ
   pub begun : IsFront old front
@@ -61,7 +61,8 @@ pub record Untouched {K W : Type 0} (old new : SharedRecord K W) : Type 0 where
   pub writer : new.journal.writer ≡ old.journal.writer
   pub waits : old.has_begun ≡ true → new.journal ≡ old.journal
 
--- What an answer gives, of the keeper before, the result and the keeper after. This keeper was asked, and owned its record.
+-- This keeper was asked, and owned its record. `gives` relates the keeper before the call, the result and the keeper
+-- after.
 abbrev pub IsConfirmed : {K : Type 0} → (K → Result (Unit {0}) KeeperError → K → Type 0) → K → Type 0
 IsConfirmed {K} gives before = (after : K) × gives before (Ok tt) after
 

@@ -15,7 +15,7 @@ use std::alloc::{Allocator, Global};
 use std::io::Write;
 use std::marker::Model;
 
-/// Where the keeper under a journal keeps its states.
+/// The place in which the keeper under a journal keeps its states.
 #[derive(Clone, Copy, Debug, PartialEq, Eq)]
 pub enum Storage {
     /// In a file. The lines of an event are written before the state after it is stored.
@@ -151,7 +151,7 @@ fn refused<W: Write + Drop, A: Allocator>(
     }
 }
 
-// The refusal of the keeper that was told of a line which is written. In memory the journal can't go on either.
+// The keeper's refusal of an event whose line is written already. In memory the journal can't go on either.
 fn unnoted<W: Write + Drop, A: Allocator>(
     journal: &mut Journal<W, A>,
     storage: Storage,

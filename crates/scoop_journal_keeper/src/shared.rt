@@ -24,7 +24,7 @@ pub trait SharedKeeper<A: Allocator>: Keeper<A> {
     ghost use Rattle.scoop_keeper.specs.declared.keeper.KeeperError.{KeeperError};
     ghost use Rattle.scoop_keeper.specs.Keeper.{IsPutError, IsSame, Stays};
 
-    // What an answer says: of the keeper before the call, the result and the keeper after it.
+    // The relation that an answer gives between the keeper before the call, the result and the keeper after it.
     ghost confirm_gives: { Self → Result (Unit {0}) KeeperError → Self → Type 0 };
 
     /// Asks whether the keeper still owns its record.
