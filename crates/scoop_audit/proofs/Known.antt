@@ -97,7 +97,7 @@ passes_all test k (n ∷ nodes) hs stands passes =
     ] in
     list_any-append test (numbers_on n.number hs) rest ∙ either
 
--- ---- what a client knows
+-- ---- the handlers that a client knows
 
 -- the handlers of the file are these, which are placed
 pub record ArePlaces (s : Plan) (placed : List HandlerId) : Type 0 where

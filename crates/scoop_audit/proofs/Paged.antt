@@ -294,7 +294,7 @@ all_found (c ∷ cs) once =
       found_later c cs cs (none_later id on_client.eq-value.it client_decides c cs once) (all_found cs (rest_once id on_client.eq-value.it client_decides c cs once)),
     )
 
--- ---- what the premise of a world needs
+-- ---- for the premise of a world
 
 node_told : (s : Plan) (ps : List Placement) (post : List Message) (n : NodePages) → IsPagedNode s post n → has_handlers s n.number ≡ true
     → IsToldNode ps post n

@@ -47,7 +47,7 @@ life_stops number bytes old now post sent t numbered same again is =
 
 module _ (first old : NodeValue) (sent post : List Message) (bytes : List ℕ) where
   module _ (before : List ℕ) (number : ℕ) (after : List ℕ) (passes : PassesOver before (ended (NodeLife number) ++ after)) where
-    -- where a life begins, after entries that are left out
+    -- a life begins, after entries that are left out
     pub begun_told :
         (new : NodeValue) (more : List Message) {T : Type 0} (res : Result T Trouble) (rest : List ℕ)
         → OnOk res (BeginsLife number after rest old new post more)

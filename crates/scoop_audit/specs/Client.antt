@@ -48,7 +48,7 @@ pub data TellsClient (id : ClientId) (batch : ℕ) (start : ClientTale) : ℕ �
   ends_life : (last : ℕ) (lines : List Line) (t : ClientTale) → TellsClient id batch start last lines t →
       TellsClient id batch start last lines (after_one_restart (after_one_step last_turn t))
 
--- ---- what a replay does
+-- ---- the steps of a replay
 
 -- the line's step leads from each tale of the client to the one with this step more
 abbrev pub StepsBy : Line → (old new : ClientValue) → (post more : List Message) → Type 0

@@ -81,7 +81,7 @@ abbrev pub IsGiven : ℕ → List ℕ → (old new : List Member) → Type 0
 IsGiven place journal old new =
     (HasNoNewline journal × (new ≡ old)) ⊎ ((party : PartyName) × Owns party journal × IsAssigned party place old new)
 
--- ---- what the journals tell
+-- ---- the tales of the journals
 
 -- the journal tells a life of the node of this number, if it has handlers; each of these has its class
 pub record TellsNodeOf (s : Plan) (n : ℕ) (journal : List ℕ) (post : List Message) (trail : List Passage) : Type 0 where

@@ -62,7 +62,7 @@ pub data TellsNode (words : HandlerId → List ℕ) (number : ℕ) (start : Node
       Opens opens (after_reopening words t).handlers →
       TellsNode words number start (lines ++ (unstored ++ NodeLife number ∷ opens)) (after_reopening words t)
 
--- ---- what a replay does
+-- ---- the steps of a replay
 
 -- from each tale of the node the entry of this line leads to the one with it
 abbrev pub EntersBy : Line → (old new : NodeValue) → (post more : List Message) → Type 0

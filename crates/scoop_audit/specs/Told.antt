@@ -17,7 +17,7 @@ use Rattle.scoop_audit.specs.Lines.{IsJournalOf}
 use Rattle.scoop_audit.specs.Node.{TellsNode}
 use Rattle.scoop_audit.specs.Client.{TellsClient, last_turn}
 
--- of lists that are over and the newest one, the first and the further ones
+-- the first one, and the further ones, of the lists that are over and the newest list
 abbrev pub first_of : {A : Type 0} → List (List A) → List A → List A
 first_of [] newest = newest
 first_of (xs ∷ done) newest = xs

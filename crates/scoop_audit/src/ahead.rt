@@ -22,7 +22,8 @@ struct Opening<'a> {
     is_reached: bool,
 }
 
-// Where the next life begins, and how many messages this one still hears. `None` if this life is the last one.
+// The place at which the next life begins, and the number of messages that this one still hears. `None` if this life is
+// the last one.
 fn next_life(mut cursor: Cursor<'_>) -> Option<(Cursor<'_>, u64)> {
     let mut hears: u64 = 0;
     for _ in 0..cursor.rest.len() {
@@ -112,8 +113,8 @@ fn enter(
     }
 }
 
-// Makes the entries of a life that hears this many messages. Returns the number of them that leads to the states with which
-// the next life opens. Of several it is the highest. `None` if there is none, or an entry can't be made.
+// Makes the entries of a life that hears this many messages. Returns the highest number of them that leads to the
+// states with which the next life opens. `None` if no number does, or an entry can't be made.
 fn reach(
     alloc: Global,
     node: &mut NodeReplay,

@@ -136,7 +136,7 @@ fn fresh(block: Block) -> BlockLine {
     }
 }
 
-// The block over these handlers in their order. What ran there is known already.
+// The block over these handlers in their order. The shares that are known already stay.
 fn reserved(known: &BlockLine, handlers: &[HandlerId]) -> BlockLine {
     let mut line = fresh(known.block);
     for handler in handlers {

@@ -1,7 +1,8 @@
 //! The audit of a run: from the journals of all nodes and clients to one order of all that happened.
 //!
-//! [`audit`] replays every life in the journals by the rules of handlers and clients, and finds one order of all moves, in
-//! which each message that is heard was sent before. If there is none, it names the first move that has no explanation.
+//! [`audit`] replays every life in the journals by the rules of handlers and clients. It finds one order of all moves,
+//! in which each message that is heard was sent before. If there is none, it names the first move that has no
+//! explanation.
 #![tactic(auto)]
 
 mod ahead;

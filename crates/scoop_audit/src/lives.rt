@@ -27,7 +27,7 @@ pub struct Tale {
 }
 
 impl Tale {
-    /// The party, of which nothing is told yet.
+    /// The tale of this party, with no lives yet.
     pub(crate) fn new(alloc: Global, party: PartyName, journal: Option<usize>) -> Tale {
         Tale {
             party,

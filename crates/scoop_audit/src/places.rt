@@ -1,4 +1,4 @@
-//! Where a move stands in its party's journal.
+//! The place of a move in its party's journal.
 
 use crate::cursor::Cursor;
 use crate::error::{Move, PartyName};

@@ -1,10 +1,10 @@
-//! What the moves did that hear and send nothing, for a chart.
+//! The deeds of the moves that hear and send nothing, for a chart.
 
 use scoop_client::Command;
 use scoop_message::{Block, HandlerId, OutOfMemory};
 use std::alloc::Global;
 
-/// What a move did that hears and sends nothing.
+/// The deed of a move that hears and sends nothing.
 #[derive(Clone, Copy, Debug)]
 pub(crate) enum Deed {
     /// An entry of the handler left to be run.
@@ -26,7 +26,7 @@ pub(crate) struct Remark {
     pub(crate) deed: Deed,
 }
 
-/// The deeds of a party, in the order of its moves. Kept only if a chart is wanted.
+/// The deeds of a party, in the order of its moves. Kept for a chart only.
 #[derive(Drop)]
 pub(crate) struct Remarks {
     is_kept: bool,
@@ -51,7 +51,7 @@ impl Remarks {
         Ok(())
     }
 
-    /// What the move at this place did, if it is kept.
+    /// The deed of the move at this place, if it is kept.
     pub(crate) fn deed(&self, place: usize) -> Option<Deed> {
         match self
             .remarks
