@@ -88,7 +88,7 @@ restarts_on old new post more other is adds joined t at tale =
       ap local_client is ∙ ap after_restart (sym at),
     )
 
--- ---- what the tests show
+-- ---- the meaning of the tests
 
 pub can_give : (c : ClientState) (x : Command) → IsOk (client.command c x) → Can c (Gave x)
 can_give c x ok = given (client.command c x) refl ok

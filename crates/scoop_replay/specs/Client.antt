@@ -11,8 +11,8 @@ use Rattle.scoop_weaver.specs.declared.trail.Passage.{Passage}
 use Rattle.scoop_weaver.specs.Passing.{by_client}
 use Rattle.scoop_weaver.specs.Trails.{HasTraffic}
 
--- each driver's steps can be made, the first's from this client, each further one's from the client as it restarts; the newest
--- one's lead to the client as it is
+-- Each driver's steps can be made: the first's from this client, each further one's from the client as it restarts. The
+-- newest one's lead to the client as it is.
 abbrev pub ToldBy : LocalClient → (done : List (List Step)) → (newest : List Step) → LocalClient → Type 0
 ToldBy c [] newest now = AllCan c.client newest × (driven c newest ≡ now)
 ToldBy c (ss ∷ done) newest now =
@@ -45,7 +45,7 @@ pub record IsClientTale (joined : LocalClient) (t : ClientTale) (post : List Mes
   pub told : ToldBy joined t.done t.newest t.now
   pub passed : HasTraffic post trail (passed_of joined t.done t.newest)
 
--- ---- what a replay does
+-- ---- the steps of a replay
 
 -- a client with its moves; its incarnation is stored
 pub record ClientValue : Type 0 where

@@ -38,8 +38,8 @@ IsStoredAs l image_digits pending_digits = AreBlobs l.core.state image_digits pe
 
 -- ---- its histories
 
--- each history replays, the first from these handlers, each further one from those of the last as they open again; the newest
--- one leads to the handlers as they are
+-- Each history replays: the first from these handlers, each further one from those of the last as they open again. The
+-- newest one leads to the handlers as they are.
 abbrev pub Told : (HandlerId → List ℕ) → List LocalHandler → (done : List (List Entry)) → (newest : List Entry) → List LocalHandler → Type 0
 Told words opening [] newest now = Replays opening newest now
 Told words opening (es ∷ done) newest now =
@@ -78,7 +78,7 @@ pub record IsNodeTale (words : HandlerId → List ℕ) (number : ℕ) (opening :
 abbrev pub placed_local : Placed → LocalHandler
 placed_local p = new_local p.handler p.class p.words
 
--- ---- what a replay does
+-- ---- the steps of a replay
 
 -- the number of a node, its handlers, and its moves
 pub record NodeValue : Type 0 where

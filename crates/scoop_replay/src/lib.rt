@@ -1,7 +1,7 @@
 //! Nodes and clients whose lives are replayed by the rules of handlers and clients.
 //!
-//! A [`NodeReplay`] makes a node's entries one after another, as they are told. It refuses a reply that the handler's rules don't
-//! give.
+//! A [`NodeReplay`] makes a node's entries one after another, as its caller tells them. It refuses a reply that the
+//! handler's rules don't give.
 #![tactic(auto)]
 
 mod client;
