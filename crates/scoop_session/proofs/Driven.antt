@@ -28,7 +28,7 @@ drives_nothing s = ([], goes_nothing s)
 pub drives_same : (s t : Seen) → t ≡ s → Drives s t
 drives_same s t is = subst (λ u. Drives s u) (sym is) (drives_nothing s)
 
--- what doesn't change the driver may follow
+-- a part that doesn't change the driver may follow
 pub drives_settled : (s t u : Seen) → u ≡ t → Drives s t → Drives s u
 drives_settled s t u is drives = subst (λ x. Drives s x) (sym is) drives
 

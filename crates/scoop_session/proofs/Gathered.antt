@@ -3,7 +3,7 @@ use Rattle.std.proofs.Common.{◌≡◌, Bool, List, [], ◌∷◌, ◌++◌, sy
 use Rattle.std.proofs.lemmas.List.Elements.{filter-append}
 use Rattle.std.specs.List.{filter}
 
--- of the elements that pass a test
+-- the elements that pass a test, with one element more
 pub filtered_more :
     {A : Type 0} (p : A → Bool) (front next : List A) (h k : A) (ms ns : List A) → ms ≡ filter p front → next ≡ front ++ k ∷ [] → h ≡ k
     → ns ≡ ms ++ filter p (h ∷ []) → ns ≡ filter p next

@@ -41,7 +41,8 @@ HasFailed (Some j) = j.has_failed ≡ true
 abbrev pub Ends : {W : Type 0} → (W → Option (List ℕ)) → Option AppendError → Option (JournalState W) → Option (JournalState W) → Type 0
 Ends contents failure old new = failure ≡ None → (TakesAll contents old new ⊎ HasFailed new)
 
--- Before a client sends: nothing new is due, or the journal took all that was gathered, and what is due is said by now.
+-- The client is ready to send: nothing new is due, or the journal took all that was gathered, and what is due is said
+-- by now.
 abbrev pub IsReady : {W : Type 0} → (W → Option (List ℕ)) → ClientState → List Message → List Message → Option (JournalState W) → Option (JournalState W)
     → Type 0
 IsReady contents c said now None new = new ≡ None

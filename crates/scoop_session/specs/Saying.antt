@@ -23,7 +23,7 @@ abbrev pub IsNoneOrAmong : List Message → Option Message → Type 0
 IsNoneOrAmong said None = ⊤
 IsNoneOrAmong said (Some m) = IsAmong said m
 
--- what is due to these handlers was said before
+-- each message that is due to these handlers was said before
 abbrev pub SaysNothingNew : List Message → ClientState → List HandlerId → Type 0
 SaysNothingNew said c [] = ⊤
 SaysNothingNew said c (h ∷ hs) = IsNoneOrAmong said (due c h) × SaysNothingNew said c hs
