@@ -1,4 +1,5 @@
--- What a node of a system did: with what its handlers opened, its histories, and what its keeper has at the end.
+-- The lives of a node of a system: the states with which its handlers opened, its histories, and the states that its
+-- keeper has at the end.
 use Rattle.std.specs.Prelude.{◌≡◌, ◌⊎◌, ◌≤◌, ℕ, List, length, map, slice_get, Some}
 use Rattle.std.specs.List.{AllByRecursion, AllZip}
 use Rattle.scoop_message.specs.Lists.{NoRepeats}

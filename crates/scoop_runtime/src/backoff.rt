@@ -23,9 +23,10 @@ const DOUBLINGS: u32 = 7;
 // A pause is up to this many times as long as the try before it.
 const TIMES_THE_TRY: u32 = 8;
 
-/// Pauses that double from 1 ms to 100 ms. After a try that took long, as at a node with a slow disk, a pause is up to eight
-/// times as long as that try, and at most a second. So clients that wait leave the handlers free most of the time. Up to half
-/// of each pause is left out at random, so that clients that wait for the same handlers don't all try at once.
+/// Pauses that double from 1 ms to 100 ms. They are longer after a try that took long, as at a node with a slow disk.
+/// Such a pause is up to eight times as long as that try, and at most a second. So clients that wait leave the handlers
+/// free most of the time. Up to half of each pause is left out at random, so that clients that wait for the same
+/// handlers don't all try at once.
 #[derive(Drop)]
 pub struct Backoff<'r, R: Clock> {
     rt: &'r R,

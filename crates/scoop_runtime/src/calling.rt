@@ -109,9 +109,9 @@ where
     P: Pause + Drop,
     N: Write + Drop,
 {
-    /// Begins the client of this plan: it takes its next incarnation from the keeper, and greets the handlers that it knows. It
-    /// writes its journal, if there is one. Refused: what the keeper refuses, before anything is sent; `NotWelcomed` when the
-    /// turns are over, and `link: LinkFault`; `write fault`, and `out of memory`.
+    /// Begins the client of this plan: it takes its next incarnation from the keeper, and greets the handlers that it
+    /// knows. It writes its journal, if there is one. Refused: the keeper's refusal, before anything is sent;
+    /// `NotWelcomed` when the turns are over, and `link: LinkFault`; `write fault`, and `out of memory`.
     pub fn begin(
         alloc: Global,
         plan: &'p ClientPlan<'s>,

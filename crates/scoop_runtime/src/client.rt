@@ -493,7 +493,7 @@ where
 /// - how many tries of a waiting block failed.
 ///
 /// Refused, each with the progress so far:
-/// - what the keeper refuses, before anything is sent;
+/// - the keeper's refusal, before anything is sent;
 /// - `NotWelcomed` and `NotAnswered` when the turns are over, and `link: LinkFault`;
 /// - the first line that can't be read or names a handler that the client doesn't use, unless a user types;
 /// - for a strict client the first line that is refused;

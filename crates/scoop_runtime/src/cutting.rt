@@ -183,7 +183,7 @@ fn print_cut<W: Write>(client: ClientId, handlers: &[HandlerId], writer: &mut W)
 /// journal, if there is one.
 ///
 /// Refused:
-/// - what the keeper refuses, before anything is sent;
+/// - the keeper's refusal, before anything is sent;
 /// - `NotWelcomed` when the turns are over, and `link: LinkFault`;
 /// - `write fault`, and `out of memory`.
 pub fn client_cut<K, L, J, E, W, N>(

@@ -35,8 +35,8 @@ fn open_link<R: Net>(
     Err(RuntimeError::from(PartyError::from(OpenLinkError::Fault)))
 }
 
-/// The link of a node, which reaches each client of the system, and the place where the node stands: at the first of its addresses
-/// that can be bound. `link: Fault` if none can.
+/// The link of a node, which reaches each client of the system, and the place where the node stands. It stands at the
+/// first of its addresses that can be bound. `link: Fault` if none can.
 pub fn open_node_link<R: Net>(
     rt: &R,
     alloc: Global,

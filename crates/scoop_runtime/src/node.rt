@@ -134,7 +134,7 @@ where
 /// - `store: NoHandler` if a node that resumes has no record of a handler;
 /// - `store: WrongClass` if a handler's stored words don't fit its class;
 /// - `store: OtherStates` if a node that opens again finds other states of its handlers than it stored;
-/// - what the keeper refuses;
+/// - the keeper's refusal;
 /// - a loop that ends in another way, and a node that can't be closed;
 /// - `write fault`, and `out of memory`.
 pub fn node_run<O, K, L, E, W, R>(

@@ -45,7 +45,7 @@ impl Objects for Tables {
     }
 }
 
-/// Makes what the maker behind the reference makes.
+/// A reference to a maker makes the same objects as the maker.
 impl<'o, O: Objects> Objects for &'o O {
     type Object = O::Object;
 

@@ -1,4 +1,4 @@
--- What the handlers so far have gained.
+-- The gains of the handlers so far.
 use Rattle.std.proofs.Common.{ℕ}
 use Rattle.scoop_runtime.specs.NodeLives.{GainedAt}
 use Rattle.scoop_runtime.proofs.openings.store_openings.Given as goal
