@@ -1,6 +1,6 @@
--- What is printed of a test or a write is read as it. The text of a term is one word, since decimal digits and the letters before
--- them are no spaces; so the words of the printed text are the texts of its terms, with the signs between them. Each of these
--- texts is read as its term, since the digits of a number have its value.
+-- The printed text of a test or a write is read as that test or write. The text of a term is one word, since decimal
+-- digits and the letters before them are no spaces. So the words of the printed text are the texts of its terms, with
+-- the signs between them. Each of these texts is read as its term, since the digits of a number have its value.
 use Rattle.std.proofs.Common.{◌≡◌, ℕ, ◌+◌, ◌<◌, ◌≤◌, ◌==◌, ◌&&◌, ◌^◌, nat_lt, not, Bool, true, false, List, [], ◌∷◌, ◌++◌, length, codes, Some, Ok, refl, ap, ◌∙◌}
 use Rattle.std.proofs.Common.{arith, rules, append_assoc}
 use Rattle.std.specs.Fmt.{decimal}

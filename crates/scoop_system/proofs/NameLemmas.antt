@@ -31,7 +31,7 @@ printable_ascii (b ∷ bs) is (suc i) = printable_ascii bs (others (is_printable
 pub printable-utf8 : (bytes : List ℕ) → list_all is_printable bytes ≡ true → IsUtf8 bytes
 printable-utf8 bytes is = IsUtf8-from_ascii bytes (printable_ascii bytes is)
 
--- all bytes are told: they are the cells of the name
+-- at the end of the bytes, the cells so far are those of all bytes
 pub all_told : (bytes cells : List ℕ) (place : ℕ) → place ≡ length bytes → take place cells ≡ map told_byte (take place bytes)
     → take (length bytes) cells ≡ map told_byte bytes
 all_told bytes cells place end front =

@@ -28,13 +28,13 @@ writes_arguments (w ∷ ws) = max (write_arguments w) (writes_arguments ws)
 abbrev pub row_arguments : OpRow → ℕ
 row_arguments row = max (test_arguments row.test) (max (writes_arguments row.writes) (term_arguments row.answer))
 
--- of the operation of this number, if there is one
+-- the arguments that the operation of this number reads, if there is one
 abbrev pub rows_arguments : ℕ → List OpRow → Option ℕ
 rows_arguments op rows = option_map row_arguments (find (λ row. row.op == op) rows)
 
 abbrev pub class_arguments : List NamedClass → ℕ → HandlerClass → Option ℕ
 class_arguments classes op class = option_and_then (λ t. rows_arguments op t.rows) (class_table classes class)
 
--- of the operation of this number in the class of the handler
+-- the arguments that the operation of this number reads in the class of the handler
 abbrev pub handler_arguments : Plan → HandlerId → ℕ → Option ℕ
 handler_arguments s handler op = option_and_then (λ p. class_arguments s.classes op p.class) (handler_named s.handlers handler)

@@ -1,4 +1,4 @@
--- What is printed of a test or a write is a formula of it.
+-- The printed text of a test or a write, which is a formula of it.
 use Rattle.std.specs.Prelude.{◌≡◌, ℕ, ◌<◌, ◌≤◌, ◌^◌, Some, Ok}
 use Rattle.scoop_message.specs.declared.limits.TheConstants.{MAX_ARGS, MAX_WORDS}
 use Rattle.scoop_object.specs.declared.term.Term.{Term}

@@ -18,8 +18,11 @@ use std::io;
 use std::io::Write;
 use std::net::SocketAddr;
 
-/// Writes a system: a line of its name and life if it has one of them, a line for each node and for each of its handlers, a
-/// line for each client, and a line for each class of its own and for each of the class's operations.
+/// Writes a system:
+/// - a line of its name and life if it has one of them;
+/// - a line for each node and for each of its handlers;
+/// - a line for each client;
+/// - a line for each class of its own and for each of the class's operations.
 pub fn print_system<W: Write>(system: &System, writer: &mut W) -> io::Result<()>
     ensures { OnOk result (Appends (W.contents writer.old) (W.contents writer.new) (system_text system.now)) }
 {
