@@ -200,7 +200,7 @@ fn journals_of(alloc: Global, contents: &[Vec<u8>]) -> Result<Vec<Journal<'_>>, 
     Ok(journals)
 }
 
-// Prints the run, and draws its chart if one is wanted.
+// Prints the run, and draws its chart if the options ask for one.
 fn show_run(
     rt: &HostRuntime,
     system: &System,

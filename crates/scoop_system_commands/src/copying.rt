@@ -27,9 +27,10 @@ use std::io::Write;
 // The status of a store whose party isn't known.
 const STATUS: u8 = 2;
 
-/// Makes a new store with all that another one has, and prints how much that is. Both are in a file or in an etcd. The first one
-/// is opened, or taken over, so that no other program goes on with it meanwhile. A store in an etcd is a party's: that of the
-/// command line, of the text beside the first store, or the only one that has a store there.
+/// Makes a new store with all that another one has, and prints how much that is. Both are in a file or in an etcd. The
+/// first one is opened, or taken over, so that no other program goes on with it meanwhile. A store in an etcd is a
+/// party's. The party is that of the command line, of the text beside the first store, or the only one that has a store
+/// there.
 pub(crate) fn copy_store(
     rt: &HostRuntime,
     from: &str,
@@ -173,8 +174,8 @@ fn listed<S: Alter + Drop>(alloc: Global, store: Store<S>) -> Result<(Store<S>, 
     }
 }
 
-// The store of the party at the place, which is taken over, and what it has. Of a node these are the handlers that the text
-// beside it names, or all if it names none; of a client it is the incarnation.
+// The store of the party at the place, which is taken over, and its contents. A node's contents are the handlers that
+// the text beside it names, or all if it names none. A client's are its incarnation.
 fn open_shared<'a>(
     rt: &'a HostRuntime,
     place: &EtcdPlace<'_>,

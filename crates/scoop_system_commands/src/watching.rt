@@ -206,8 +206,8 @@ where
     }
 }
 
-/// What one thread does while nodes run in others. Its type stays a parameter where a thread starts: the prover looks into at most
-/// 128 of the structs that a closure captures, and those of a task are too many.
+/// The task of one thread while nodes run in others. Its type stays a parameter where a thread starts. The reason is a
+/// limit of the prover: it looks into at most 128 of the structs that a closure captures, and a task has more.
 pub(crate) trait Task<R>: Drop {
     fn run(self) -> R;
 }
