@@ -162,9 +162,12 @@ where
 /// At the end both nodes are closed. If the plan says so, the demo looks for an order of all that nodes and clients did.
 /// Clients take their incarnations from the keeper. If there is a writer, it shows the rounds that they have done.
 ///
-/// Every path joins all threads. The first error is returned: `NoLink`, `NoThread`, the error of a client's driver, a
-/// node's loop that ends without being asked, a node that can't be closed, `WrongClass` if an object doesn't have the
-/// class that comes with it, the keeper's refusal, or `OutOfMemory`.
+/// Every path joins all threads. Returns the first error:
+/// - `NoLink`, `NoThread` or `OutOfMemory`;
+/// - the error of a client's driver;
+/// - a node's loop that ends without being asked, or a node that can't be closed;
+/// - `WrongClass` if an object doesn't have the class that comes with it;
+/// - the keeper's refusal.
 pub fn show<B, W, R>(
     rt: &R,
     alloc: Global,
