@@ -4,6 +4,7 @@ ghost use Rattle.std.specs.Prelude.{◌≡◌, ◌∷◌, ◌++◌, [], codes, O
 ghost use Rattle.std.specs.Fmt.{decimal};
 ghost use Rattle.std.specs.Option.{option_copied};
 ghost use Rattle.std.specs.Io.KnownBytes.{Appends};
+ghost use Rattle.scoop_frame.specs.Text.{error_text};
 ghost use Rattle.scoop_message.specs.Text.{block_text, answer_text};
 ghost use Rattle.scoop_handler.specs.Text.{reason_text, note_text as handler_note_text};
 ghost use Rattle.scoop_demo.specs.NoteText.{note_text, client_note_text, sent_text, ran_text, ran_answer_text, kind_text};
@@ -11,6 +12,7 @@ ghost use Rattle.scoop_demo.specs.NoteText.{note_text, client_note_text, sent_te
 use arrayvec::{ArrayVec, CapacityError};
 use itoa::Buffer;
 use scoop_client::ClientNote;
+use scoop_frame::FrameError;
 use scoop_handler::{Note, Ran, Reason};
 use scoop_message::{Answer, Block, HandlerId, Message};
 use scoop_world::WorldNote;
@@ -169,6 +171,50 @@ fn put_silent(line: &mut LineText, note: Note) -> Result<(), CapacityError>
     put(line, "none ")?;
     put_handler_note(line, note)?;
     put(line, "\n")
+}
+
+/// Writes the line of a datagram that is no frame, in one write: `refused` and why.
+pub(crate) fn print_refused<W: Write>(error: FrameError, writer: &mut W) -> io::Result<()>
+    ensures { OnOk result (Appends (W.contents writer.old) (W.contents writer.new) (codes "refused " ++ error_text error ++ 10 ∷ [])) }
+{
+    let mut line = ArrayVec::new();
+    match put_refused(&mut line, error) {
+        Ok(()) => writer.write_all(line.as_slice()),
+        // No line is this long.
+        Err(_) => Err(io::Error::from(ErrorKind::WriteZero)),
+    }
+}
+
+// Appends the line of a datagram that is no frame.
+fn put_refused(line: &mut LineText, error: FrameError) -> Result<(), CapacityError>
+    ensures { OnOk result (line.new.items ≡ line.old.items ++ codes "refused " ++ error_text error ++ 10 ∷ []) }
+{
+    put(line, "refused ")?;
+    put_frame_error(line, error)?;
+    put(line, "\n")
+}
+
+// Appends a name and the number that was met.
+fn put_met(line: &mut LineText, name: &str, met: u8) -> Result<(), CapacityError>
+    ensures { OnOk result (line.new.items ≡ line.old.items ++ (name.now ++ decimal met)) }
+{
+    put_named(line, name, u32::from(met))
+}
+
+// Appends why a datagram is no frame.
+fn put_frame_error(line: &mut LineText, error: FrameError) -> Result<(), CapacityError>
+    ensures { OnOk result (line.new.items ≡ line.old.items ++ error_text error) }
+{
+    match error {
+        FrameError::Short => put(line, "Short"),
+        FrameError::BadMagic => put(line, "BadMagic"),
+        FrameError::BadVersion(version) => put_met(line, "BadVersion ", version),
+        FrameError::BadKind(kind) => put_met(line, "BadKind ", kind),
+        FrameError::LengthWrong => put(line, "LengthWrong"),
+        FrameError::FieldNotZero => put(line, "FieldNotZero"),
+        FrameError::FieldZero => put(line, "FieldZero"),
+        FrameError::BadBody => put(line, "BadBody"),
+    }
 }
 
 // Appends a handler's note on a message.

@@ -14,7 +14,7 @@ ghost use Rattle.scoop_demo.specs.Run.{AnswersAll, StopsEarly, WritesAnswer, Sto
 use crate::answer::{answer, run_dry};
 use crate::datagram::{MAX_DATAGRAM_LEN, read_datagram};
 use crate::fault::RunError;
-use crate::printing::print_silent;
+use crate::printing::{print_refused, print_silent};
 use arrayvec::ArrayVec;
 use scoop_book::Book;
 use scoop_keeper::Keeper;
@@ -171,7 +171,7 @@ fn print_answer<W: Write>(
     match answered {
         Answered::Reply(len, _) => print_frame(&out[..len], room, writer),
         Answered::Silent(note) => print_silent(note, writer),
-        Answered::RefusedFrame(error) => writeln!(writer, "refused {error}"),
+        Answered::RefusedFrame(error) => print_refused(error, writer),
     }
 }
 

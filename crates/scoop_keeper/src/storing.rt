@@ -140,6 +140,8 @@ pub fn hear_beside<B: Behaviour, A: Allocator + Copy, K: Keeper<A>>(
     fill_beside(handler, beside)?;
     let Some(ahead) = beside else { unreachable!() };
     match hear_ahead(handler, ahead, keeper, is_stored, message) {
+        // The copy is the earlier state, and that is the handler's.
+        Ok(heard) if leaves_state(heard.note) => Ok(heard),
         Ok(heard) => {
             follow(beside, message);
             Ok(heard)
