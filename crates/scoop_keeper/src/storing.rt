@@ -38,8 +38,8 @@ pub struct Unfinished<B: Behaviour> {
     pub done: Done<B>,
 }
 
-// Whether a message with this note has left the handler's state as it was.
-fn leaves_state(note: Note) -> bool
+/// Whether a message with this note has left the handler's state as it was. Such a message makes no put.
+pub fn leaves_state(note: Note) -> bool
     ensures { result ≡ leaves note }
 {
     matches!(note, Note::Held | Note::Known | Note::Dropped(_))
