@@ -44,7 +44,7 @@ use system_commands::{CHECK, CLIENT, NODE, STORE};
 use up_command::UP;
 
 /// The version of the programs, as `--version` prints it.
-pub(crate) const VERSION: &str = "0.1.0";
+pub(crate) const VERSION: &str = "1.0.0";
 
 const COMMANDS: [CommandRow; 11] = [
     ANSWER, WORLD, FRAME, DEMO, CHECK, KEY_MAKER, NODE, CLIENT, UP, AUDIT, STORE,
