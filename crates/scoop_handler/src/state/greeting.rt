@@ -15,7 +15,6 @@ use std::alloc::Allocator;
 
 impl<A: Allocator> HandlerState<A> {
     // A client greets. Only its first greeting can return an `Err`, which changes nothing.
-    #[inline(never)]
     pub(super) fn hear_hello(&mut self, client: ClientId, inc: u32) -> Result<Heard, OutOfMemory>
         ensures ok { IfOk result
             (λ heard. hear_hello self.old client inc (mark_of client self.old.marks) ≡ (self.new, heard)) }

@@ -38,8 +38,7 @@ impl<A: Allocator + Copy> HandlerState<A> {
         self.hear_here(message)
     }
 
-    // Hears a message to this handler. The functions of the rows aren't inlined: a function clears the room of every message
-    // that it may make before it begins.
+    // Hears a message to this handler.
     fn hear_here(&mut self, message: &Message) -> Result<Heard, OutOfMemory>
         requires kind { IsTrue (is_for_handler message.now) }
         requires number { handler_of message.now ≡ self.old.number }

@@ -13,7 +13,6 @@ use std::alloc::Allocator;
 
 impl<A: Allocator> HandlerState<A> {
     // The block asks for the lock. `mark` is its client's, at this place.
-    #[inline(never)]
     pub(super) fn hear_lock(&mut self, block: Block, place: usize, mark: Mark) -> Heard
         requires heard { IsHeardAt self.old block mark }
         requires place { IsPlaceOf block.client self.old.marks place }
@@ -33,7 +32,6 @@ impl<A: Allocator> HandlerState<A> {
     }
 
     // The block gives the lock back, or is past asking for it. `mark` is its client's, at this place.
-    #[inline(never)]
     pub(super) fn hear_unlock(&mut self, block: Block, place: usize, mark: Mark) -> Heard
         requires heard { IsHeardAt self.old block mark }
         requires place { IsPlaceOf block.client self.old.marks place }

@@ -36,7 +36,6 @@ fn unreceived<'a>(mark: &Mark, number: u32, entries: &'a [Entry]) -> &'a [Entry]
 impl<A: Allocator> HandlerState<A> {
     // The block logs entries, the first of which has this number. `mark` is its client's, at this place. An `Err`
     // comes only if entries would be taken, and changes nothing.
-    #[inline(never)]
     pub(super) fn hear_log(
         &mut self,
         block: Block,

@@ -15,7 +15,6 @@ use std::alloc::Allocator;
 impl<A: Allocator + Copy> HandlerState<A> {
     // The block asks for a private queue. `mark` is its client's, at this place. An `Err` comes only if the block
     // would get one, and changes nothing.
-    #[inline(never)]
     pub(super) fn hear_open(
         &mut self,
         block: Block,
