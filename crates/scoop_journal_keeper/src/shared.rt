@@ -10,9 +10,9 @@ ghost use Rattle.scoop_journal_keeper.specs.Shared.{Gathers, HasConfirmed, IsCon
 
 use crate::journaled::{Storage, note_run};
 use crate::opening::gather_opening;
-use scoop_handler::{HandlerState, Heard};
+use scoop_handler::{HandlerState, Heard, Note};
 use scoop_journal::{Journal, Line};
-use scoop_keeper::{Keeper, KeeperError, leaves_state};
+use scoop_keeper::{Keeper, KeeperError};
 use scoop_message::{ClientId, HandlerId, Message};
 use std::alloc::{Allocator, Global};
 use std::io::Write;
@@ -98,6 +98,13 @@ impl<K: Drop, W: Write + Drop, A: Allocator + Copy> SharedJournaledKeeper<K, W, 
     {
         self.keeper
     }
+}
+
+// Whether a message with this note has left its handler's state as it was.
+fn leaves_state(note: Note) -> bool
+    ensures { result ≡ leaves note }
+{
+    matches!(note, Note::Held | Note::Known | Note::Dropped(_))
 }
 
 // Gathers a line. If it is refused, those that waited are lost with it, so the journal can't go on.

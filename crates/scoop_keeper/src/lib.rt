@@ -34,5 +34,4 @@ pub use keeper::{Keeper, KeeperError};
 pub use memory::MemoryKeeper;
 pub use storing::{
     JobRefusal, Unfinished, finish_and_store, finish_beside, hear_and_store, hear_beside,
-    leaves_state,
 };

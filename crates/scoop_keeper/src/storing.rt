@@ -38,8 +38,8 @@ pub struct Unfinished<B: Behaviour> {
     pub done: Done<B>,
 }
 
-/// Whether a message with this note has left the handler's state as it was. Such a message makes no put.
-pub fn leaves_state(note: Note) -> bool
+// Whether a message with this note has left the handler's state as it was.
+fn leaves_state(note: Note) -> bool
     ensures { result ≡ leaves note }
 {
     matches!(note, Note::Held | Note::Known | Note::Dropped(_))
@@ -140,8 +140,6 @@ pub fn hear_beside<B: Behaviour, A: Allocator + Copy, K: Keeper<A>>(
     fill_beside(handler, beside)?;
     let Some(ahead) = beside else { unreachable!() };
     match hear_ahead(handler, ahead, keeper, is_stored, message) {
-        // The copy is the earlier state, and that is the handler's.
-        Ok(heard) if leaves_state(heard.note) => Ok(heard),
         Ok(heard) => {
             follow(beside, message);
             Ok(heard)
