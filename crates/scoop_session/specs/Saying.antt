@@ -19,11 +19,11 @@ abbrev pub IsAmong : List Message → Message → Type 0
 IsAmong [] m = ⊥
 IsAmong (s ∷ ss) m = (s ≡ m) ⊎ IsAmong ss m
 
-abbrev pub IsNoneOrAmong : List Message → Option Message → Type 0
-IsNoneOrAmong said None = ⊤
-IsNoneOrAmong said (Some m) = IsAmong said m
+-- each of these messages was said before
+abbrev pub AreAmong : List Message → List Message → Type 0
+AreAmong said [] = ⊤
+AreAmong said (m ∷ ms) = IsAmong said m × AreAmong said ms
 
 -- each message that is due to these handlers was said before
 abbrev pub SaysNothingNew : List Message → ClientState → List HandlerId → Type 0
-SaysNothingNew said c [] = ⊤
-SaysNothingNew said c (h ∷ hs) = IsNoneOrAmong said (due c h) × SaysNothingNew said c hs
+SaysNothingNew said c hs = AreAmong said (due_to c hs)

@@ -3,16 +3,17 @@
 ghost use Rattle.std.specs.Prelude.{◌≡◌, ⊤, None, IsTrue, OnErr, OnOk};
 ghost use Rattle.scoop_client.specs.State.{block_of};
 ghost use Rattle.scoop_journal.specs.declared.line.Line.TheVariants.{Broke as BrokeLine, Do as DoLine, Turn as TurnLine};
-ghost use Rattle.scoop_session.specs.Saying.{SaysNothingNew, due_to};
+ghost use Rattle.scoop_session.specs.Saying.{AreAmong, due_to};
 ghost use Rattle.scoop_session.specs.Diary.{Ends, Gathers, HasFailed, IsReady, IsSettled, TakesAll, arrival_of};
 
-use crate::said::{keep_due, says_nothing_new};
+use crate::said::{are_among, find_due};
 use scoop_client::{Client, HandlerList, MAX_NAMED_HANDLERS};
 use scoop_driver::{Command, Diary, Received};
 use scoop_journal::{AppendError, Arrival, Journal, Line};
 use scoop_message::{Block, HandlerId, Message, OutOfMemory};
 use std::alloc::{Allocator, Global};
 use std::io::Write;
+use std::mem;
 
 // The most lines that wait to be written.
 const MAX_LINES: u32 = 64;
@@ -26,6 +27,7 @@ pub(crate) struct LastBlock<'j, J: Write + Drop> {
     handlers: Option<HandlerList>,
     logged: [u32; MAX_NAMED_HANDLERS],
     said: Vec<Message>,
+    due: Vec<Message>,
     lines: u32,
     journal: &'j mut Option<Journal<J>>,
     failure: Option<AppendError>,
@@ -45,6 +47,7 @@ impl<'j, J: Write + Drop> LastBlock<'j, J> {
             handlers: None,
             logged: [0; MAX_NAMED_HANDLERS],
             said: Vec::new(alloc),
+            due: Vec::new(alloc),
             lines: 0,
             journal,
             failure: None,
@@ -61,6 +64,7 @@ impl<'j, J: Write + Drop> LastBlock<'j, J> {
             handlers: _,
             logged: _,
             said: _,
+            due: _,
             lines: _,
             journal,
             failure: _,
@@ -106,6 +110,7 @@ impl<'j, J: Write + Drop> LastBlock<'j, J> {
         ensures settled { IsSettled self.new.failure self.new.journal.now }
         ensures block { self.new.block ≡ self.old.block }
         ensures said { self.new.said ≡ self.old.said }
+        ensures due { self.new.due ≡ self.old.due }
     {
         if self.failure.is_some() {
             return Err(OutOfMemory);
@@ -120,27 +125,28 @@ impl<'j, J: Write + Drop> LastBlock<'j, J> {
         }
     }
 
-    // Whether the lines that are gathered may wait: nothing new is due, and they aren't too many.
-    fn may_wait<A: Allocator>(&self, client: &Client<A>) -> bool
-        ensures { IsTrue result → SaysNothingNew self.now.said.items client.now client.now.handlers }
-    {
-        self.lines < MAX_LINES && says_nothing_new(&self.said, client, client.handlers())
-    }
-
-    // Keeps the messages that are due now as those that are said.
-    fn keep_said<A: Allocator>(&mut self, client: &Client<A>) -> Result<(), OutOfMemory>
-        ensures kept { OnOk result (self.new.said.items ≡ due_to client.now client.now.handlers) }
+    // Finds the messages that are due now.
+    fn find_due<A: Allocator>(&mut self, client: &Client<A>) -> Result<(), OutOfMemory>
+        ensures found { OnOk result (self.new.due.items ≡ due_to client.now client.now.handlers) }
         ensures journal { self.new.journal ≡ self.old.journal }
         ensures failure { OnOk result (self.new.failure ≡ self.old.failure) }
         ensures block { self.new.block ≡ self.old.block }
+        ensures said { self.new.said ≡ self.old.said }
     {
-        match keep_due(&mut self.said, client) {
+        match find_due(&mut self.due, client) {
             Ok(()) => Ok(()),
             Err(refusal) => {
                 self.failure = Some(AppendError::OutOfMemory);
                 Err(refusal)
             }
         }
+    }
+
+    // Whether the lines that are gathered may wait: nothing new is due, and they aren't too many.
+    fn may_wait(&self) -> bool
+        ensures { IsTrue result → AreAmong self.now.said.items self.now.due.items }
+    {
+        self.lines < MAX_LINES && are_among(&self.said, &self.due)
     }
 
     /// The handlers of the last block.
@@ -263,11 +269,21 @@ impl<'j, A: Allocator, J: Write + Drop> Diary<A> for LastBlock<'j, J> {
         if self.failure.is_some() {
             return Err(OutOfMemory);
         }
-        if self.journal.is_none() || self.may_wait(client) {
+        if self.journal.is_none() {
+            return Ok(());
+        }
+        match self.find_due(client) {
+            Ok(()) => {}
+            Err(refusal) => return Err(refusal),
+        }
+        if self.may_wait() {
             return Ok(());
         }
         match self.write() {
-            Ok(()) => self.keep_said(client),
+            Ok(()) => {
+                mem::swap(&mut self.said, &mut self.due);
+                Ok(())
+            }
             Err(refusal) => Err(refusal),
         }
     }

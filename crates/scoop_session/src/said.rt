@@ -1,7 +1,7 @@
 //! The messages that a client has said.
 
 ghost use Rattle.std.specs.Prelude.{◌≡◌, ◌++◌, IsTrue, OnOk};
-ghost use Rattle.scoop_session.specs.Saying.{IsAmong, IsNoneOrAmong, SaysNothingNew, due_to};
+ghost use Rattle.scoop_session.specs.Saying.{AreAmong, IsAmong, due_to};
 
 use scoop_client::Client;
 use scoop_message::{HandlerId, Message, OutOfMemory, same_message};
@@ -17,56 +17,40 @@ fn is_among(said: &[Message], message: &Message) -> bool
     }
 }
 
-// Whether the message, if there is one, is one of these.
-fn is_none_or_among(said: &[Message], message: &Option<Message>) -> bool
-    ensures { IsTrue result → IsNoneOrAmong said.now message.now }
+/// Whether each of the messages is one of those said before.
+pub(crate) fn are_among(said: &[Message], messages: &[Message]) -> bool
+    ensures { IsTrue result → AreAmong said.now messages.now }
 {
-    match message {
-        None => true,
-        Some(message) => is_among(said, message),
-    }
-}
-
-/// Whether each message that is due to one of these handlers is among those said before.
-pub(crate) fn says_nothing_new<A: Allocator>(
-    said: &[Message],
-    client: &Client<A>,
-    handlers: &[HandlerId],
-) -> bool
-    ensures { IsTrue result → SaysNothingNew said.now client.now handlers.now }
-{
-    match handlers {
+    match messages {
         [] => true,
-        [first, rest @ ..] => {
-            is_none_or_among(said, &client.due(*first)) && says_nothing_new(said, client, rest)
-        }
+        [first, rest @ ..] => is_among(said, first) && are_among(said, rest),
     }
 }
 
 // Adds the messages that are due to these handlers.
 fn add_due<A: Allocator>(
-    said: &mut Vec<Message>,
+    found: &mut Vec<Message>,
     client: &Client<A>,
     handlers: &[HandlerId],
 ) -> Result<(), OutOfMemory>
-    ensures { OnOk result (said.new.items ≡ said.old.items ++ due_to client.now handlers.now) }
+    ensures { OnOk result (found.new.items ≡ found.old.items ++ due_to client.now handlers.now) }
 {
     let [first, rest @ ..] = handlers else {
         return Ok(());
     };
     if let Some(message) = client.due(*first) {
-        said.push(message)?;
+        found.push(message)?;
     }
-    add_due(said, client, rest)
+    add_due(found, client, rest)
 }
 
-/// Keeps the messages that are due to the client's handlers, and no other.
-pub(crate) fn keep_due<A: Allocator>(
-    said: &mut Vec<Message>,
+/// Finds the messages that are due to the client's handlers, in place of those found before.
+pub(crate) fn find_due<A: Allocator>(
+    found: &mut Vec<Message>,
     client: &Client<A>,
 ) -> Result<(), OutOfMemory>
-    ensures { OnOk result (said.new.items ≡ due_to client.now client.now.handlers) }
+    ensures { OnOk result (found.new.items ≡ due_to client.now client.now.handlers) }
 {
-    said.clear();
-    add_due(said, client, client.handlers())
+    found.clear();
+    add_due(found, client, client.handlers())
 }

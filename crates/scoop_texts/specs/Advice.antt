@@ -1,5 +1,7 @@
 -- The advice after an error of a node or a client, and its subject.
-use Rattle.std.specs.Prelude.{ℕ, List, codes}
+use Rattle.std.specs.Prelude.{ℕ, List, ◌++◌, codes}
+use Rattle.std.specs.Fmt.{decimal}
+use Rattle.scoop_message.specs.declared.limits.TheConstants.{MAX_BLOCK_HANDLERS, MAX_HANDLERS}
 use Rattle.scoop_keeper.specs.Advice.{memory_advice, keeper_advice}
 use Rattle.scoop_client.specs.declared.error.BeginError.{BeginError}
 use Rattle.scoop_client.specs.declared.error.BeginError.TheVariants as begin
@@ -11,6 +13,7 @@ use Rattle.scoop_netloop.specs.declared.stop.ServeEnd.{ServeEnd}
 use Rattle.scoop_netloop.specs.declared.stop.ServeEnd.TheVariants as served
 use Rattle.scoop_errors.specs.declared.party_error.PartyError.{PartyError}
 use Rattle.scoop_errors.specs.declared.party_error.PartyError.TheVariants as party
+use Rattle.scoop_system.specs.declared.condition.TheConstants.{MAX_CONDITIONS}
 use Rattle.scoop_system.specs.declared.line.fault.LineFault.{LineFault}
 use Rattle.scoop_system.specs.declared.line.fault.LineFault.TheVariants as line
 use Rattle.scoop_lines.specs.SourceText.{source_advice}
@@ -39,14 +42,14 @@ line_advice (line.NotANumber word) =
     codes "write a whole decimal number: operation up to 65535, handler up to 4294967295, tries 1 to 4294967295, argument or value of a condition up to 18446744073709551615"
 line_advice (line.TooFewArguments wanted) = arguments_advice
 line_advice (line.TooManyArguments limit) = arguments_advice
-line_advice line.TooManyHandlers = codes "a block has at most 8 handlers: reserve fewer"
-line_advice line.TooManyConditions = codes "a block has at most 8 conditions: ask fewer"
+line_advice line.TooManyHandlers = codes "a block has at most " ++ (decimal MAX_BLOCK_HANDLERS ++ codes " handlers: reserve fewer")
+line_advice line.TooManyConditions = codes "a block has at most " ++ (decimal MAX_CONDITIONS ++ codes " conditions: ask fewer")
 line_advice (line.NoSuchOperation handler word) = codes "name an operation of the handler's class: scoop check shows those of the file's classes, scoop client --help the others"
 line_advice (line.NoSuchHandler word) = codes "scoop check shows the numbers and names of the system's handlers: write one of them"
 
 abbrev pub begin_advice : BeginError → List ℕ
 begin_advice begin.NoHandlers = codes "add a handler to the system's file"
-begin_advice begin.TooManyHandlers = codes "leave at most 64 handlers in the system's file"
+begin_advice begin.TooManyHandlers = codes "leave at most " ++ (decimal MAX_HANDLERS ++ codes " handlers in the system's file")
 begin_advice (begin.Repeated h) = codes "give each handler in the system's file its own number"
 begin_advice begin.OutOfMemory = memory_advice
 

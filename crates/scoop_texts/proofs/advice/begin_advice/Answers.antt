@@ -1,0 +1,7 @@
+use Rattle.std.proofs.Common.{refl}
+use Rattle.std.specs.Fmt.{digits}
+use Rattle.scoop_texts.proofs.advice.begin_advice.Goals as goal
+
+pub returns-in-TooManyHandlers : goal.returns-in-TooManyHandlers
+unfolding digits
+returns-in-TooManyHandlers c = rw c.in-TooManyHandlers.is refl
