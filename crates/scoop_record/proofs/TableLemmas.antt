@@ -135,7 +135,7 @@ no_permutation : {X : Type 0} (ys : List X) → IsPermutation [] ys → ys ≡ [
 no_permutation [] same = refl
 no_permutation (y ∷ ys) same = absurd (omega (arith, length_permutation [] (y ∷ ys) same))
 
-twice_mapped : {A B C : Type 0} (g : B → C) (f : A → B) (xs : List A) → map g (map f xs) ≡ map (λ x. g (f x)) xs
+pub twice_mapped : {A B C : Type 0} (g : B → C) (f : A → B) (xs : List A) → map g (map f xs) ≡ map (λ x. g (f x)) xs
 twice_mapped g f [] = refl
 twice_mapped g f (x ∷ xs) = ap (λ ys. g (f x) ∷ ys) (twice_mapped g f xs)
 
@@ -169,7 +169,7 @@ module _ (trees : Trees) (tree key : ℕ) (filter_is : Term) (low : nat_le (2 ^ 
       go (r ∷ []) same = one_permutation (shown_of r) rows same
       go (r ∷ s ∷ found) same = absurd (omega (arith, few, length_permutation (map shown_of (r ∷ s ∷ found)) rows same))
 
-all_matched : (lost : Value) (db : Trees) (params : Row) (rows : List Row)
+pub all_matched : (lost : Value) (db : Trees) (params : Row) (rows : List Row)
     → flat_map (λ r. matches_as lost db [] end (params ∷ r ∷ [])) rows ≡ map (λ r. params ∷ r ∷ []) rows
 all_matched lost db params [] = refl
 all_matched lost db params (r ∷ rows) = rw (all_matched lost db params rows) refl

@@ -7,4 +7,5 @@ pub mod Faults
 pub mod Tables
 pub mod Store
 pub mod Migrate
+pub mod Among
 pub mod Gathering
