@@ -46,20 +46,6 @@ query_of tree filter project = record {
   offset = lit (Int (pos 0));
 }
 
--- each row's key and value, by key
-abbrev pub all_images : Query
-all_images = record {
-  from = inner 1 end;
-  filter = [];
-  group = None;
-  project = col 1 0 ∷ col 1 2 ∷ [];
-  distinct = false;
-  collations = [];
-  order = (col 1 0, ascending Binary) ∷ [];
-  limit = lit (Int (negsuc 0));
-  offset = lit (Int (pos 0));
-}
-
 abbrev pub key_is : ℕ → Term
 key_is place = op2 (Compare Eq Binary) (col 1 0) (col 0 place)
 
@@ -173,14 +159,3 @@ pub all_matched : (lost : Value) (db : Trees) (params : Row) (rows : List Row)
     → flat_map (λ r. matches_as lost db [] end (params ∷ r ∷ [])) rows ≡ map (λ r. params ∷ r ∷ []) rows
 all_matched lost db params [] = refl
 all_matched lost db params (r ∷ rows) = rw (all_matched lost db params rows) refl
-
--- the answer has each row's key and value, and no other
-pub all_answered : (trees : Trees) (rows : List Row) → IsAnswer all_images (overlay trees []) [] rows → IsPermutation (map keyed_value (trees 1)) rows
-all_answered trees rows a =
-    let staged : a.staged ≡ map (λ r. [] ∷ r ∷ []) (trees 1) = a.grouped ∙ all_matched Null (overlay trees []) [] (trees 1) in
-    let kept : map (λ (o : Output). o.1) a.kept ≡ map keyed_value (trees 1) =
-    ap (map (λ (o : Output). o.1)) (a.distinct ∙ ap (map (output all_images)) staged)
-    ∙ ap (map (λ (o : Output). o.1)) (twice_mapped (output all_images) (λ r. [] ∷ r ∷ []) (trees 1))
-    ∙ twice_mapped (λ (o : Output). o.1) (λ r. output all_images ([] ∷ r ∷ [])) (trees 1) in
-    let same = IsPermutation-map (λ (o : Output). o.1) a.kept a.ordered a.same in
-    subst (λ xs. IsPermutation xs rows) kept (subst (λ ys. IsPermutation (map (λ (o : Output). o.1) a.kept) ys) (sym a.shown) same)

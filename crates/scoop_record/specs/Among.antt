@@ -1,5 +1,6 @@
 -- A record among other tables of a database.
-use Rattle.std.specs.Prelude.{◌≡◌, ◌≢◌, ◌<◌, ◌≤◌, ◌+◌, ◌^◌, length, ◌==◌, ℕ, Bool, true, false, not, List, [], ◌∷◌, codes, Option, Some, None, unwrap_or, option_map, option_and_then, find, slice_get, nat_lt}
+use Rattle.std.specs.Prelude.{◌≡◌, ◌≢◌, ◌<◌, ◌≤◌, ◌+◌, ◌^◌, length, ◌==◌, ℕ, Bool, true, false, not, List, [], ◌∷◌, codes, Option, Some, None}
+use Rattle.std.specs.Prelude.{unwrap_or, option_map, option_and_then, find, slice_get, nat_lt}
 use Rattle.std.specs.List.{AllByRecursion, list_any, list_all}
 use Rattle.sqlite_value.specs.declared.value.Value.{Value}
 use Rattle.sqlite_schema.specs.Names.{table_named, index_named, view_named, same_name}
@@ -80,14 +81,6 @@ pub record HasFirstTables (schema : Schema) : Type 0 where
 pub record HasRecordTables (schema : Schema) : Type 0 where
   pub first : HasFirstTables schema
   pub has_pending : HasTable schema (pending (pending_tree schema))
-
--- a record of version 1 among other tables
-abbrev pub IsFirstRecordAmong : Database → Type 0
-IsFirstRecordAmong db = HasFirstTables db.schema
-
--- a record among other tables
-abbrev pub IsRecordAmong : Database → Type 0
-IsRecordAmong db = HasRecordTables db.schema
 
 abbrev pub record_names : List (List ℕ)
 record_names = codes "meta" ∷ codes "handlers" ∷ codes "clients" ∷ codes "pending" ∷ []

@@ -1,9 +1,10 @@
 //! Whether the tables of a database are those of a record.
 
-ghost use Rattle.std.specs.Prelude.{◌≡◌, ◌↔◌, ◌∷◌, [], IsTrue, true, false, Some};
+ghost use Rattle.std.specs.Prelude.{◌≡◌, ◌∷◌, [], codes, IsTrue, true, false, Some};
 ghost use Rattle.sqlite.specs.declared.types.Value.TheVariants.{Null};
 ghost use Rattle.sqlite.specs.Collation.TheVariants.{Binary};
-ghost use Rattle.scoop_record.specs.Tables.{column_of, keyed_table, meta, handlers, clients, pending, no_schema, first_schema, record_schema};
+ghost use Rattle.scoop_record.specs.Tables.{column_of};
+ghost use Rattle.scoop_record.specs.Among.{IsFree, HasFirstTables, HasRecordTables, HasRoom, record_names};
 
 use sqlite::types::Value;
 use sqlite_schema::schema::{Column, Kind, Schema, Table};
@@ -65,79 +66,30 @@ fn has_columns(table: &Table, key: &[u8], column: &[u8], kind: Kind) -> bool
         && *place == 0
 }
 
-fn is_table(table: &Table, tree: u32, name: &[u8], key: &[u8], column: &[u8], kind: Kind) -> bool
-    ensures { IsTrue result → table.now ≡ keyed_table name.now tree key.now column.now kind }
+/// Whether there is room for the tables of a record.
+pub(crate) fn has_room(schema: &Schema) -> bool
+    ensures { IsTrue result → HasRoom schema.now record_names }
 {
-    table.name.as_slice() == name
-        && table.tree == tree
-        && has_columns(table, key, column, kind)
-        && has_no_rule(table)
-        && computes_nothing(table)
+    false
 }
 
-fn is_meta(table: &Table) -> bool
-    ensures { IsTrue result → table.now ≡ meta 0 }
+/// Whether there is room for the table that version 2 adds.
+pub(crate) fn has_room_for_pending(schema: &Schema) -> bool
+    ensures { IsTrue result → HasRoom schema.now (codes "pending" ∷ []) }
 {
-    is_table(table, 0, b"meta", b"id", b"version", Kind::Integer)
+    false
 }
 
-fn is_handlers(table: &Table) -> bool
-    ensures { IsTrue result → table.now ≡ handlers 1 }
-{
-    is_table(table, 1, b"handlers", b"h", b"image", Kind::Blob)
-}
-
-fn is_clients(table: &Table) -> bool
-    ensures { IsTrue result → table.now ≡ clients 2 }
-{
-    is_table(table, 2, b"clients", b"c", b"inc", Kind::Integer)
-}
-
-fn is_pending(table: &Table) -> bool
-    ensures { IsTrue result → table.now ≡ pending 3 }
-{
-    is_table(table, 3, b"pending", b"h", b"entries", Kind::Blob)
-}
-
-fn are_tables(tables: &[Table]) -> bool
-    ensures { IsTrue result → tables.now ≡ meta 0 ∷ handlers 1 ∷ clients 2 ∷ pending 3 ∷ [] }
-{
-    let [first, second, third, fourth] = tables else {
-        return false;
-    };
-    is_meta(first) && is_handlers(second) && is_clients(third) && is_pending(fourth)
-}
-
-fn are_first_tables(tables: &[Table]) -> bool
-    ensures { IsTrue result → tables.now ≡ meta 0 ∷ handlers 1 ∷ clients 2 ∷ [] }
-{
-    let [first, second, third] = tables else {
-        return false;
-    };
-    is_meta(first) && is_handlers(second) && is_clients(third)
-}
-
-/// Whether there is no table, nor anything else that a schema has.
-pub(crate) fn is_blank(schema: &Schema) -> bool
-    ensures { IsTrue result ↔ (schema.now ≡ no_schema) }
-{
-    schema.tables.is_empty() && schema.indexes.is_empty() && schema.views.is_empty()
-}
-
-/// Whether the tables are those of version 1, and no other.
+/// Whether the tables of version 1 are there, and the name of the fourth is free.
 pub(crate) fn is_first_schema(schema: &Schema) -> bool
-    ensures { IsTrue result → schema.now ≡ first_schema }
+    ensures { IsTrue result → HasFirstTables schema.now × IsFree schema.now (codes "pending") }
 {
-    are_first_tables(schema.tables.as_slice())
-        && schema.indexes.as_slice().is_empty()
-        && schema.views.as_slice().is_empty()
+    false
 }
 
-/// Whether the tables are those that the record makes, and no other.
+/// Whether the tables of a record are there.
 pub(crate) fn is_record_schema(schema: &Schema) -> bool
-    ensures { IsTrue result → schema.now ≡ record_schema }
+    ensures { IsTrue result → HasRecordTables schema.now }
 {
-    are_tables(schema.tables.as_slice())
-        && schema.indexes.as_slice().is_empty()
-        && schema.views.as_slice().is_empty()
+    false
 }

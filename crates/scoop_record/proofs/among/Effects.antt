@@ -1,13 +1,13 @@
 -- The effects of the statements on a connection, whose database may have other tables.
 use Rattle.std.proofs.lemmas.List.Sorted.{IsPermutation-map}
 use Rattle.std.proofs.lemmas.Bool.{cases_Bool}
-use Rattle.std.proofs.Common.{IsPermutation, IsErr, IsTrue, ◌≡◌, ◌≤◌, length, ℕ, nat_le, ◌^◌, pos, List, [], ◌∷◌, codes, map, false, true, Ok, Err, Result, OnOk, Some, inl, inr, refl, sym, ap, ◌∙◌, subst}
+use Rattle.std.proofs.Common.{IsPermutation, IsErr, IsTrue, ◌≡◌, ◌≤◌, length, ℕ, nat_le, ◌^◌, pos, List, [], ◌∷◌, codes, map, false, true, Ok, Err, Result, OnOk, Some, None, inl, inr, refl, sym, ap, ◌∙◌, subst}
 use Rattle.std.specs.Option.{option_to_list}
 use Rattle.sqlite_value.specs.declared.value.Value.{Value}
 use Rattle.sqlite_value.specs.declared.value.Value.TheVariants.{Null, Int}
 use Rattle.sqlite_value.specs.Order.{Row}
 use Rattle.sqlite_trees.specs.Tree.{Trees, rowid, put_row}
-use Rattle.sqlite_schema.specs.declared.command.Command.TheVariants.{InsertOr, Insert, Select}
+use Rattle.sqlite_schema.specs.declared.command.Command.TheVariants.{InsertOr, Insert, Select, CreateTable}
 use Rattle.sqlite_schema.specs.declared.command.Conflict.TheVariants.{Abort}
 use Rattle.sqlite_schema.specs.declared.schema.Kind.{Kind}
 use Rattle.sqlite_schema.specs.declared.schema.Table.{Table}
@@ -16,11 +16,11 @@ use Rattle.sqlite_sql.specs.Query.{IsAnswer, Output, output}
 use Rattle.sqlite_sql.specs.Program.{overlay}
 use Rattle.sqlite_catalog.specs.Change.{created, next_tree}
 use Rattle.sqlite_rules.specs.Cast.{cast}
-use Rattle.sqlite.specs.Does.{lacks_sequence}
-use Rattle.sqlite.specs.Effect.{IsDatabase}
+use Rattle.sqlite.specs.Does.{Tally, lacks_sequence}
+use Rattle.sqlite.specs.Effect.{Database, IsDatabase}
 use Rattle.sqlite.specs.declared.error.Error.{Error}
 use Rattle.sqlite.specs.Listing.{understood, reads_listing}
-use Rattle.sqlite.specs.State.{State, HasCleanDisk, Shows, ExecutesInside, Shown, IsUnchanged, mode_of}
+use Rattle.sqlite.specs.State.{State, HasCleanDisk, Shows, ExecutesInside, Shown, IsUnchanged, Writes, mode_of}
 use Rattle.sqlite.proofs.Callers.{IsPlain, command_of, statement_of, runs_as, reads_as}
 use Rattle.scoop_record.specs.Tables.{keyed_table, meta, value_at, row_of, Makes}
 use Rattle.scoop_record.specs.Migrate.{keyed_value}
@@ -28,8 +28,8 @@ use Rattle.scoop_record.specs.Store.{IsSound}
 use Rattle.scoop_record.specs.Among.{Stands, IsFree, HasTable, PutsAmong}
 use Rattle.scoop_record.proofs.RowLemmas.{find_own}
 use Rattle.scoop_record.proofs.TableLemmas.{key_is, first_key_is, tests_key, all_matched, twice_mapped}
-use Rattle.scoop_record.proofs.StatementLemmas.{shows_where, makes}
-use Rattle.scoop_record.proofs.UpsertLemmas.{given_row, overwrites}
+use Rattle.scoop_record.proofs.StatementLemmas.{shows_where}
+use Rattle.scoop_record.proofs.UpsertLemmas.{given_row, overwrites, went, same_value}
 use Rattle.scoop_record.proofs.among.Selecting.{LooksUp}
 use Rattle.scoop_record.proofs.among.Listing.{all_of}
 use Rattle.scoop_record.proofs.among.Creating.{Creates}
@@ -111,14 +111,24 @@ pub makes_among : (sql name : List ℕ) (table : Table) → table.is_counted ≡
     → (old new : State) (r : Result ℕ Error) → HasCleanDisk old
     → (IsSound old → IsFree old.now.schema name × (lacks_sequence old.now.schema ≡ false))
     → (old.in_transaction ≡ false → IsErr r) → (IsTrue old.in_transaction → ExecutesInside 0 sql [] old new r)
-    → OnOk r (Makes old.now new.now old.now.schema (created old.now.schema table) (next_tree old.now.schema) × Shows old new new.now old.committed true)
+    → OnOk r (Makes old.now new.now table × Shows old new new.now old.committed true)
 makes_among sql name table bare text old new (Err e) clean ready ended runs = tt
 makes_among sql name table bare text old new (Ok count) clean ready ended runs = elim (cases_Bool old.in_transaction) [
   | inl inside ↦
       let ran = runs inside in
       let free = ready (clean, ran.1.was_open) in
-      let is = text old.now.schema free.0 in
-      makes sql old.now.schema table old new (Ok count) clean (λ sound. refl) is.0 is.1 (lacks_kept old.now.schema table bare free.1) ended runs
+      let s = old.now.schema in
+      let is = text s free.0 in
+      let w = subst (λ t. Writes old new None CreateTable t [] count) is.0.1 (runs_as sql [] old new s refl CreateTable is.0.0 is.1 count ran.0) in
+      let all = went w.changed in
+      let first = went all.1 in
+      let made = first.1 in
+      let both : Ok made.table ≡ Ok table = sym made.defined ∙ is.0.2 in
+      let same : made.table ≡ table = cc in
+      let schema : first.0.schema ≡ created s table = made.is ∙ ap (created s) same in
+      let plain : lacks_sequence first.0.schema ≡ false = ap lacks_sequence schema ∙ lacks_kept s table bare free.1 in
+      let now : new.now ≡ first.0 = ap (λ (p : Tally × Database). p.1) (same_value all.2) ∙ same_value (rw plain at first.2) in
+      (rw now (record { schema = schema; empty = made.empty; others = made.others }), ran.1)
   | inr outside ↦ absurd (let e = ended outside in cc)
 ]
 

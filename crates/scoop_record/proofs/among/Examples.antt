@@ -8,7 +8,8 @@ use Rattle.sqlite.specs.Kind.TheVariants.{Blob}
 use Rattle.sqlite.specs.Table.{Table}
 use Rattle.sqlite.specs.Schema.{Schema}
 use Rattle.scoop_record.specs.Tables.{keyed_table, meta, handlers, clients, pending, row_of, value_at}
-use Rattle.scoop_record.specs.Among.{Stands, IsFree, IsAlone, HasTable, HasRoom, IsRecordAmong, PutsAmong, KeepsOthers, record_names, with_record, handlers_tree}
+use Rattle.scoop_record.specs.Among.{Stands, IsFree, IsAlone, HasTable, HasRoom, PutsAmong, KeepsOthers, record_names, with_record, handlers_tree}
+use Rattle.scoop_record.specs.Store.{IsRecord}
 use Rattle.scoop_record.proofs.RowLemmas.{find_put, find_other}
 
 abbrev book : List ℕ → ℕ → Table
@@ -63,7 +64,7 @@ others_with_record = refl
 abbrev no_rows : Database
 no_rows = record { schema = shared; trees = λ tree. [] }
 
-empty_record : IsRecordAmong no_rows
+empty_record : IsRecord no_rows
 unfolding same_name
 empty_record =
     let has_meta : HasTable shared (meta 1) = record {
