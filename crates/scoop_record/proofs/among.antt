@@ -1,6 +1,7 @@
 -- The meaning of the texts under a schema that may have other tables, at an unknown place. Nothing of such a schema computes, so
 -- each lemma opens a few functions of the resolver and rewrites what the premises give (specs/Among.antt).
 pub mod Alone
+pub mod Apart
 pub mod Creating
 pub mod Effects
 pub mod Examples
@@ -8,6 +9,7 @@ pub mod Listing
 pub mod Lists
 pub mod Lowering
 pub mod Making
+pub mod Others
 pub mod Putting
 pub mod Querying
 pub mod Selecting
