@@ -2,6 +2,7 @@
 -- each lemma opens a few functions of the resolver and rewrites what the premises give (specs/Among.antt).
 pub mod Alone
 pub mod Apart
+pub mod Created
 pub mod Creating
 pub mod Effects
 pub mod Examples
