@@ -13,6 +13,7 @@ pub mod Making
 pub mod Others
 pub mod Putting
 pub mod Querying
+pub mod Room
 pub mod Selecting
 pub mod Standing
 pub mod Syntax
