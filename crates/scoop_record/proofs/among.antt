@@ -8,6 +8,8 @@ pub mod Listing
 pub mod Lists
 pub mod Lowering
 pub mod Making
+pub mod MigratedRows
+pub mod MigratedTables
 pub mod Putting
 pub mod Querying
 pub mod Selecting
