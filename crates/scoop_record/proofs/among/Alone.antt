@@ -59,10 +59,10 @@ after_map : {A : Type 0} (tree : ℕ) (o : Option A) (key : A → ParentKey) →
 after_map tree None key h = refl
 after_map tree (Some a) key h = h a
 
-abbrev key_of : Reference → Table → Option ParentKey
+abbrev pub key_of : Reference → Table → Option ParentKey
 key_of ref t = option_and_then (key_in t) (key_places t ref.parent_columns)
 
-key_apart : (tree : ℕ) (t : Table) → not (t.tree == tree) ≡ true → (ref : Reference) → is_apart tree (key_of ref t) ≡ true
+pub key_apart : (tree : ℕ) (t : Table) → not (t.tree == tree) ≡ true → (ref : Reference) → is_apart tree (key_of ref t) ≡ true
 key_apart tree t h ref = after_then tree (key_places t ref.parent_columns) (key_in t)
     (λ places. after_map tree (declared_order t places) (λ o. (t.tree, places, o)) (λ o. h))
 
