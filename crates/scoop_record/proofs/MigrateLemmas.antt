@@ -1,7 +1,7 @@
 -- A record of version 1 that was migrated holds what it held. The rows that were listed are those of the table, each of them
 -- has one state, and the numbers rise. So a handler among the states has its own, saved once and not overwritten. Any other
 -- handler has nothing before and after, and the other tables stay.
-use Rattle.std.proofs.Common.{◌≡◌, ◌≢◌, inl, inr, ◌<◌, ℕ, pos, List, [], ◌∷◌, ◌++◌, map, Bool, true, false, find, Option, Some, None, option_map, refl, sym, ap}
+use Rattle.std.proofs.Common.{◌≡◌, ◌≢◌, inl, inr, ◌<◌, ℕ, codes, pos, List, [], ◌∷◌, ◌++◌, map, Bool, true, false, find, Option, Some, None, option_map, refl, sym, ap}
 use Rattle.std.proofs.Common.{◌∙◌, subst, arith, IsPermutation}
 use Rattle.std.specs.List.{AllByRecursion, AllZip}
 use Rattle.std.proofs.lemmas.List.Sorted.{All-permutation, IsPermutation-sym}

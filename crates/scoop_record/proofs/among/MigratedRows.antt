@@ -67,7 +67,8 @@ schema_stays old new (s ∷ more) (state, range, mid, (half, first, second), res
 
 module _ (db mid : Database) (all : List HandlerState) (has : IsRecord db) (saves : SavesAll db mid all) where
   row_stays : (t : Table) → HasTable db.schema t → t.tree ≢ handlers_tree db.schema → t.tree ≢ pending_tree db.schema → mid.trees t.tree ≡ db.trees t.tree
-  row_stays t there images entries = other_kept _ db mid (all_others db mid all saves) t (is_listed db.schema t there) (images, (entries, tt))
+  row_stays t there images entries = other_kept (handlers_tree db.schema ∷ pending_tree db.schema ∷ []) db mid (all_others db mid all saves) t
+      (is_listed db.schema t there) (images, (entries, tt))
 
   pub versions_stay : mid.trees (meta_tree mid.schema) ≡ db.trees (meta_tree db.schema)
   versions_stay = ap (λ (s : Schema). mid.trees (meta_tree s)) (schema_stays db mid all saves)
@@ -107,7 +108,7 @@ others_kept old db mid new all first room makes saves put =
     all_from (λ (t : Table). IsNoneOf (meta_tree old.schema ∷ handlers_tree old.schema ∷ []) t.tree → new.trees t.tree ≡ old.trees t.tree) old.schema.tables
     (λ t listed none.
     let here = listed_after old db first room makes t listed in
-    other_kept (meta_tree mid.schema ∷ []) mid new (put_others _ mid new _ _ _ put (λ tree apart. apart.0)) t
+    other_kept (meta_tree mid.schema ∷ []) mid new (put_others (meta_tree mid.schema ∷ []) mid new _ _ _ put (λ tree apart. apart.0)) t
     (subst (λ (s : Schema). Has s.tables t) (sym same) here) (λ e. none.0 (e ∙ own), tt)
-    ∙ other_kept _ db mid (all_others db mid all saves) t here (beside old db first room makes t listed none.1.0)
+    ∙ other_kept (handlers_tree db.schema ∷ pending_tree db.schema ∷ []) db mid (all_others db mid all saves) t here (beside old db first room makes t listed none.1.0)
     ∙ row_kept old db first room makes t listed)

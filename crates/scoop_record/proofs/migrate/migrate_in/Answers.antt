@@ -1,7 +1,7 @@
 use Rattle.std.proofs.Common.{subst, sym, ap, Err}
 use Rattle.sqlite.specs.Effect.{Database}
 use Rattle.sqlite.specs.Held.{state}
-use Rattle.scoop_record.specs.Store.{SavesAll}
+use Rattle.scoop_record.specs.Store.{IsRecord, SavesAll}
 use Rattle.scoop_record.proofs.StatementLemmas.{clean_before}
 use Rattle.scoop_record.proofs.MigrateLemmas.{version_before, migrated}
 use Rattle.scoop_record.proofs.NumberLemmas.{lowest_bad, other_number}
@@ -29,7 +29,8 @@ put_states-requires g c sound =
     let clean0 = clean_before before made _ c.create_pending.ensures.survives clean1 in
     let makes = c.in_default.ensures.made clean1 in
     let first = c.requires (clean0, makes.1.was_open) in
-    let shown = c.in-Ok.ensures.rows sound.0 in ?
+    let shown = c.in-Ok.ensures.rows sound.0 in
+    subst IsRecord (sym shown.0.0.now_is) (is_second before.now made.now first.0 first.1 makes.0)
 
 pub raise_version-requires : goal.raise_version-requires
 raise_version-requires g c sound =
