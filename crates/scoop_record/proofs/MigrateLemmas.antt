@@ -1,8 +1,8 @@
 -- A record of version 1 that was migrated holds what it held. The rows that were listed are those of the table, each of them
 -- has one state, and the numbers rise. So a handler among the states has its own, saved once and not overwritten. Any other
 -- handler has nothing before and after, and the other tables stay.
-use Rattle.std.proofs.Common.{◌≡◌, ◌≢◌, inl, inr, ◌<◌, ℕ, codes, pos, List, [], ◌∷◌, ◌++◌, map, Bool, true, false, find, Option, Some, None, option_map, refl, sym, ap}
-use Rattle.std.proofs.Common.{◌∙◌, subst, arith, IsPermutation}
+use Rattle.std.proofs.Common.{◌≡◌, ◌≢◌, inl, inr, ◌<◌, ℕ, codes, pos, List, [], ◌∷◌, ◌++◌, map, Bool, true, false, find, Option, Some, None, option_map}
+use Rattle.std.proofs.Common.{refl, sym, ap, ◌∙◌, subst, arith, IsPermutation}
 use Rattle.std.specs.List.{AllByRecursion, AllZip}
 use Rattle.std.proofs.lemmas.List.Sorted.{All-permutation, IsPermutation-sym}
 use Rattle.std.proofs.lemmas.List.Elements.{All-from_recursion, recursion_from_All}
@@ -150,7 +150,8 @@ module _ (images rows : List Row) (all : List HandlerState) (same : IsPermutatio
   -- a handler with no image is none of the states'
   none_among : (handler : ℕ) → find (has_rowid (pos handler)) images ≡ None → AllByRecursion (λ (it : HandlerState). it.number.0 ≢ handler) all
   none_among handler none = row_of_state rows all zip (λ it. it.number.0 ≢ handler) (λ row it here is own.
-      let source = has_source keyed_value images row (has_permuted rows (map keyed_value images) row (IsPermutation-sym (map keyed_value images) rows same) here) in
+      let source = has_source keyed_value images row (has_permuted rows (map keyed_value images) row
+      (IsPermutation-sym (map keyed_value images) rows same) here) in
       let key : rowid source.0 ≡ Int (pos handler) = ap (λ (r : Row). column r 0) (sym source.2) ∙ is.key ∙ ap (λ n. Int (pos n)) own in
       none_has (has_rowid (pos handler)) images source.0 none source.1 (rw key (find_own handler)))
 

@@ -1,5 +1,5 @@
 -- The rows of tables while a record of version 1 is migrated: each step writes its own tables, and the others keep their rows.
-use Rattle.std.proofs.Common.{◌≡◌, ◌≢◌, ◌∙◌, ap, sym, subst, List, [], ◌∷◌, codes, ℕ, pos, Some, IsPermutation, map}
+use Rattle.std.proofs.Common.{◌≡◌, ◌≢◌, ◌∙◌, ap, sym, subst, List, [], ◌∷◌, codes, pos, Some, IsPermutation, map}
 use Rattle.sqlite_value.specs.declared.value.Value.TheVariants.{Int}
 use Rattle.sqlite_value.specs.Order.{Row}
 use Rattle.sqlite_rules.specs.Lists.{Has}
@@ -100,8 +100,9 @@ module _ (mid new : Database) (has : IsRecord mid) (put : PutsAmong mid new (met
       ∙ row_last (clients (clients_tree mid.schema)) has.first.has_clients (λ e. meta_clients mid.schema has.first (sym e))
 
 -- each table but those of the images and the version has the rows it had
-pub others_kept : (old db mid new : Database) (all : List HandlerState) → IsOfVersionOne old → HasRoom old.schema (codes "pending" ∷ []) → Makes old db (pending 0)
-    → SavesAll db mid all → PutsAmong mid new (meta_tree mid.schema) 1 (Int (pos 2)) → KeepsOthers (meta_tree old.schema ∷ handlers_tree old.schema ∷ []) old new
+pub others_kept : (old db mid new : Database) (all : List HandlerState) → IsOfVersionOne old → HasRoom old.schema (codes "pending" ∷ [])
+    → Makes old db (pending 0) → SavesAll db mid all → PutsAmong mid new (meta_tree mid.schema) 1 (Int (pos 2))
+    → KeepsOthers (meta_tree old.schema ∷ handlers_tree old.schema ∷ []) old new
 others_kept old db mid new all first room makes saves put =
     let same = schema_stays db mid all saves in
     let own : meta_tree mid.schema ≡ meta_tree old.schema = ap (λ (s : Schema). meta_tree s) same ∙ meta_same old db first room makes in
@@ -110,5 +111,6 @@ others_kept old db mid new all first room makes saves put =
     let here = listed_after old db first room makes t listed in
     other_kept (meta_tree mid.schema ∷ []) mid new (put_others (meta_tree mid.schema ∷ []) mid new _ _ _ put (λ tree apart. apart.0)) t
     (subst (λ (s : Schema). Has s.tables t) (sym same) here) (λ e. none.0 (e ∙ own), tt)
-    ∙ other_kept (handlers_tree db.schema ∷ pending_tree db.schema ∷ []) db mid (all_others db mid all saves) t here (beside old db first room makes t listed none.1.0)
+    ∙ other_kept (handlers_tree db.schema ∷ pending_tree db.schema ∷ []) db mid (all_others db mid all saves) t here
+    (beside old db first room makes t listed none.1.0)
     ∙ row_kept old db first room makes t listed)

@@ -16,8 +16,8 @@ use Rattle.scoop_record.proofs.adopt.take_tables.Goals as goal
 abbrev version_row : Database → Option Value
 version_row db = value_at (db.trees (meta_tree db.schema)) 1
 
-pub returns-then-is_first_schema-clause-survives : goal.returns-then-is_first_schema-clause-survives
-returns-then-is_first_schema-clause-survives g c =
+pub returns-then-has_room_for_pending-clause-survives : goal.returns-then-has_room_for_pending-clause-survives
+returns-then-has_room_for_pending-clause-survives g c =
     let before = state g.S.Store c.args.conn.now in
     let read = state g.S.Store c.version.new.conn in
     let after = state g.S.Store c.migrate.new.conn in
@@ -36,7 +36,7 @@ migrate-requires-clause-first g c sound =
     let has = subst (λ (s : Schema). HasFirstTables s × IsFree s (codes "pending")) c.schema-then-found-eq1.ensures.value
     (c.is_first_schema.ensures c.if-is_first_schema.true) in
     let room = subst (λ (s : Schema). HasRoom s (codes "pending" ∷ [])) c.schema-then-is_first_schema.ensures.value
-    (c.has_room_for_pending.ensures c.if-has_room_for_pending.true) in
+    (c.has_room_for_pending.ensures.0 c.if-has_room_for_pending.true) in
     let same : read.now ≡ before.now = (c.version.ensures.same sound).0 ∙ sym (c.requires.settled (c.version.ensures.sound sound)) in
     let told = c.in_ok-found.ensures.version sound.0 (subst (λ (d : Database). HasFirstTables d.schema) same has.0) in
     let one : c.in-Some.found ≡ pos 1 = grind (arith, ints) in
@@ -65,14 +65,14 @@ returns-then-is_record_schema-clause-open_behind g c first clean =
     let two : c.in-Some.found ≡ pos 2 = grind (arith, ints) in
     absurd (grind (arith, ints))
 
-pub returns-then-is_first_schema-clause-bad : goal.returns-then-is_first_schema-clause-bad
-returns-then-is_first_schema-clause-bad g c sound handler is =
+pub returns-then-has_room_for_pending-clause-bad : goal.returns-then-has_room_for_pending-clause-bad
+returns-then-has_room_for_pending-clause-bad g c sound handler is =
     let read = c.migrate.ensures.sound sound in
     let same = (c.version.ensures.same read).0 ∙ sym (c.requires.settled (c.version.ensures.sound read)) in
     subst (λ (d : Database). IsLowestBad d handler.0) same (c.migrate.ensures.bad sound handler is)
 
-pub returns-then-is_first_schema-clause-wrong : goal.returns-then-is_first_schema-clause-wrong
-returns-then-is_first_schema-clause-wrong g c sound is laid =
+pub returns-then-has_room_for_pending-clause-wrong : goal.returns-then-has_room_for_pending-clause-wrong
+returns-then-has_room_for_pending-clause-wrong g c sound is laid =
     let read = c.migrate.ensures.sound sound in
     let same = (c.version.ensures.same read).0 ∙ sym (c.requires.settled (c.version.ensures.sound read)) in
     inr (subst HasOtherNumber same (c.migrate.ensures.wrong sound is))
