@@ -6,7 +6,8 @@ use Rattle.scoop_handler.specs.State.{HandlerState, IsState}
 use Rattle.scoop_record.specs.Range.{InRange}
 use Rattle.scoop_record.specs.Store.{IsSound, IsRecord, IsInsideAfter, Saves, SavesAll}
 use Rattle.scoop_record.specs.Among.{HasRecordTables}
-use Rattle.scoop_record.proofs.MigrateLemmas.{saves_push, schema_stays}
+use Rattle.scoop_record.proofs.MigrateLemmas.{saves_push}
+use Rattle.scoop_record.proofs.among.MigratedRows.{schema_stays}
 use Rattle.scoop_record.proofs.StatementLemmas.{clean_before, keeps_then}
 
 -- the connection after these states were stored

@@ -10,6 +10,8 @@ pub mod Listing
 pub mod Lists
 pub mod Lowering
 pub mod Making
+pub mod MigratedRows
+pub mod MigratedTables
 pub mod Others
 pub mod Putting
 pub mod Querying
