@@ -67,12 +67,13 @@ either (Ok _) f h p q = f p
 either (Err _) f h p q = h q
 
 -- a put of all of them that may be refused, which leaves the database
-module _ {E : Type 0} (r : Result (Unit {0}) E) (old new : Database) (all : List HandlerState) (has : IsRecord old) (put : OnOk r (SavesAll old new all)) where
-  pub all_saved_if : OnOk r (Stays (Over all (handlers_in old)) (handlers_in new))
-  all_saved_if = on_ok r (all_saved old new all has) put
+module _ {E : Type 0} (r : Result (Unit {0}) E) (old new : Database) (all : List HandlerState) where
+  pub all_others_if : OnOk r (SavesAll old new all) → OnOk r (KeepsOthers (handlers_tree old.schema ∷ pending_tree old.schema ∷ []) old new)
+  all_others_if = on_ok r (all_others old new all)
 
-  pub all_incs_if : OnErr r (new ≡ old) → IsSame (incs_in old) (incs_in new)
-  all_incs_if same = either r (all_saved_incs old new all has) (incs_stay old new) put same
+  module _ (has : IsRecord old) (put : OnOk r (SavesAll old new all)) where
+    pub all_saved_if : OnOk r (Stays (Over all (handlers_in old)) (handlers_in new))
+    all_saved_if = on_ok r (all_saved old new all has) put
 
-  pub all_others_if : OnOk r (KeepsOthers (handlers_tree old.schema ∷ pending_tree old.schema ∷ []) old new)
-  all_others_if = on_ok r (all_others old new all) put
+    pub all_incs_if : OnErr r (new ≡ old) → IsSame (incs_in old) (incs_in new)
+    all_incs_if same = either r (all_saved_incs old new all has) (incs_stay old new) put same

@@ -1,15 +1,17 @@
 -- Changes of the tables, as changes of a record's contents.
-use Rattle.std.proofs.Common.{Result, Ok, Err, OnOk, List, ◌≡◌, ◌↔◌, ℕ, ◌≤◌, Option, Some, option_map, refl, sym, subst, ap, ◌∙◌, arith}
+use Rattle.std.proofs.Common.{Result, Ok, Err, OnOk, OnErr, IfOk, List, [], ◌∷◌, ◌≡◌, ◌↔◌, ℕ, ◌≤◌, Option, Some, option_map, refl, sym, subst, ap, ◌∙◌, arith}
 use Rattle.sqlite_value.specs.declared.value.Value.{Value}
 use Rattle.sqlite_value.specs.declared.value.Value.TheVariants.{Blob}
 use Rattle.sqlite.specs.Effect.{Database}
+use Rattle.sqlite.specs.State.{State}
 use Rattle.scoop_handler.specs.State.{HandlerState}
 use Rattle.scoop_record.specs.Reading.{IsStored}
 use Rattle.scoop_keeper.specs.Keeper.{Stored, Stays, Keeps, IsSame, Sets, next_of, last_incarnation}
 use Rattle.scoop_record.specs.Tables.{handlers, clients, pending, value_at}
-use Rattle.scoop_record.specs.Among.{HasTable, HasRecordTables, PutsAmong, handlers_tree, clients_tree, pending_tree}
-use Rattle.scoop_record.specs.Store.{inc_in, incs_in, Has, handlers_in, IsRecord, PutsBoth, Saves, Advances}
+use Rattle.scoop_record.specs.Among.{HasTable, HasRecordTables, PutsAmong, KeepsOthers, handlers_tree, clients_tree, pending_tree}
+use Rattle.scoop_record.specs.Store.{inc_in, incs_in, Has, handlers_in, IsRecord, IsSound, IsReady, PutsBoth, Saves, Advances}
 use Rattle.scoop_record.proofs.among.Apart.{kept_at, handlers_clients, handlers_pending, clients_pending}
+use Rattle.scoop_record.proofs.among.Others.{both_others, put_others}
 
 -- a handler's contents rest on its two rows alone
 same_has : (handler : ℕ) (a b c d : Option Value) (v : Stored) → c ≡ a → d ≡ b → Has handler a b v ↔ Has handler c d v
@@ -105,3 +107,30 @@ pub saved_if : {E : Type 0} (r : Result (Unit {0}) E) (old new : Database) (s : 
     → OnOk r (PutsBoth old new handler bytes row) → OnOk r (Keeps (handlers_in old) (handlers_in new) s)
 saved_if (Ok _) old new s handler bytes row b w here are also has stored put = saved old new s b w has stored (rw (here, are, also) at put)
 saved_if (Err e) old new s handler bytes row b w here are also has stored put = tt
+
+-- a call that left the database leaves a record
+pub ready_again : (old new : State) → IsReady old → (IsSound new → IsSound old) → (IsSound new → new.now ≡ old.now)
+    → (IsSound new → new.now ≡ new.committed) → IsReady new
+ready_again old new ready honest same settled sound =
+    (subst IsRecord (sym (same sound)) (ready (honest sound)).0, settled sound)
+
+pub saved_incs_if : {E : Type 0} (r : Result (Unit {0}) E) (old new : Database) (handler : ℕ) (bytes row : List ℕ) → IsRecord old
+    → OnOk r (PutsBoth old new handler bytes row) → OnErr r (new ≡ old) → IsSame (incs_in old) (incs_in new)
+saved_incs_if (Ok _) old new handler bytes row has put same = saved_incs old new handler bytes row has put
+saved_incs_if (Err e) old new handler bytes row has put same = incs_stay old new same
+
+pub saved_others_if : {E : Type 0} (r : Result (Unit {0}) E) (old new : Database) (handler : ℕ) (bytes row : List ℕ)
+    → OnOk r (PutsBoth old new handler bytes row) → OnOk r (KeepsOthers (handlers_tree old.schema ∷ pending_tree old.schema ∷ []) old new)
+saved_others_if (Ok _) old new handler bytes row put = both_others old new handler bytes row put
+saved_others_if (Err e) old new handler bytes row put = tt
+
+pub advanced_stay_if : {E : Type 0} (r : Result ℕ E) (old new : Database) (client : ℕ) (Is : ℕ → Type 0) → IsRecord old
+    → IfOk r (λ inc. Is inc × Advances old new client) → OnErr r (new ≡ old) → Stays (handlers_in old) (handlers_in new)
+advanced_stay_if (Ok inc) old new client Is has put same = advanced_handlers old new client has put.1
+advanced_stay_if (Err e) old new client Is has put same = stays old new same
+
+pub advanced_others_if : {E : Type 0} (r : Result ℕ E) (old new : Database) (client : ℕ) (Is : ℕ → Type 0)
+    → IfOk r (λ inc. Is inc × Advances old new client) → OnOk r (KeepsOthers (clients_tree old.schema ∷ []) old new)
+advanced_others_if (Ok inc) old new client Is put =
+    put_others (clients_tree old.schema ∷ []) old new (clients_tree old.schema) client _ put.1 (λ t none. none.0)
+advanced_others_if (Err e) old new client Is put = tt
