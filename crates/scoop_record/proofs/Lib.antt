@@ -11,6 +11,7 @@ pub mod GatheringLemmas
 pub mod MapLemmas
 pub mod MigrateLemmas
 pub mod NumberLemmas
+pub mod among
 pub mod RowLemmas
 pub mod StatementLemmas
 pub mod StoredLemmas

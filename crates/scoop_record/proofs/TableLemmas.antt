@@ -46,20 +46,6 @@ query_of tree filter project = record {
   offset = lit (Int (pos 0));
 }
 
--- each row's key and value, by key
-abbrev pub all_images : Query
-all_images = record {
-  from = inner 1 end;
-  filter = [];
-  group = None;
-  project = col 1 0 ∷ col 1 2 ∷ [];
-  distinct = false;
-  collations = [];
-  order = (col 1 0, ascending Binary) ∷ [];
-  limit = lit (Int (negsuc 0));
-  offset = lit (Int (pos 0));
-}
-
 abbrev pub key_is : ℕ → Term
 key_is place = op2 (Compare Eq Binary) (col 1 0) (col 0 place)
 
@@ -135,7 +121,7 @@ no_permutation : {X : Type 0} (ys : List X) → IsPermutation [] ys → ys ≡ [
 no_permutation [] same = refl
 no_permutation (y ∷ ys) same = absurd (omega (arith, length_permutation [] (y ∷ ys) same))
 
-twice_mapped : {A B C : Type 0} (g : B → C) (f : A → B) (xs : List A) → map g (map f xs) ≡ map (λ x. g (f x)) xs
+pub twice_mapped : {A B C : Type 0} (g : B → C) (f : A → B) (xs : List A) → map g (map f xs) ≡ map (λ x. g (f x)) xs
 twice_mapped g f [] = refl
 twice_mapped g f (x ∷ xs) = ap (λ ys. g (f x) ∷ ys) (twice_mapped g f xs)
 
@@ -169,18 +155,7 @@ module _ (trees : Trees) (tree key : ℕ) (filter_is : Term) (low : nat_le (2 ^ 
       go (r ∷ []) same = one_permutation (shown_of r) rows same
       go (r ∷ s ∷ found) same = absurd (omega (arith, few, length_permutation (map shown_of (r ∷ s ∷ found)) rows same))
 
-all_matched : (lost : Value) (db : Trees) (params : Row) (rows : List Row)
+pub all_matched : (lost : Value) (db : Trees) (params : Row) (rows : List Row)
     → flat_map (λ r. matches_as lost db [] end (params ∷ r ∷ [])) rows ≡ map (λ r. params ∷ r ∷ []) rows
 all_matched lost db params [] = refl
 all_matched lost db params (r ∷ rows) = rw (all_matched lost db params rows) refl
-
--- the answer has each row's key and value, and no other
-pub all_answered : (trees : Trees) (rows : List Row) → IsAnswer all_images (overlay trees []) [] rows → IsPermutation (map keyed_value (trees 1)) rows
-all_answered trees rows a =
-    let staged : a.staged ≡ map (λ r. [] ∷ r ∷ []) (trees 1) = a.grouped ∙ all_matched Null (overlay trees []) [] (trees 1) in
-    let kept : map (λ (o : Output). o.1) a.kept ≡ map keyed_value (trees 1) =
-    ap (map (λ (o : Output). o.1)) (a.distinct ∙ ap (map (output all_images)) staged)
-    ∙ ap (map (λ (o : Output). o.1)) (twice_mapped (output all_images) (λ r. [] ∷ r ∷ []) (trees 1))
-    ∙ twice_mapped (λ (o : Output). o.1) (λ r. output all_images ([] ∷ r ∷ [])) (trees 1) in
-    let same = IsPermutation-map (λ (o : Output). o.1) a.kept a.ordered a.same in
-    subst (λ xs. IsPermutation xs rows) kept (subst (λ ys. IsPermutation (map (λ (o : Output). o.1) a.kept) ys) (sym a.shown) same)

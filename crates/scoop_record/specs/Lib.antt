@@ -5,6 +5,7 @@ pub mod Places
 pub mod Reading
 pub mod Faults
 pub mod Tables
+pub mod Among
 pub mod Store
 pub mod Migrate
 pub mod Gathering

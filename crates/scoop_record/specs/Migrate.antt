@@ -4,13 +4,15 @@ use Rattle.std.specs.List.{AllByRecursion, AllZip}
 use Rattle.sqlite_value.specs.declared.value.Value.{Value}
 use Rattle.sqlite_value.specs.declared.value.Value.TheVariants.{Int, Blob}
 use Rattle.sqlite_value.specs.Order.{Row, column}
-use Rattle.sqlite_trees.specs.Tree.{Trees, IsAscending, rowid}
+use Rattle.sqlite_trees.specs.Tree.{IsAscending, rowid}
+use Rattle.sqlite_catalog.specs.Change.{created}
 use Rattle.sqlite.specs.Effect.{Database, IsDatabase}
 use Rattle.scoop_handler.specs.State.{HandlerState}
 use Rattle.scoop_record.specs.Reading.{IsStoredWithEntries}
 use Rattle.scoop_keeper.specs.Keeper.{Stored, Missing, Holds, Damaged, stored_of, IsTheOne}
-use Rattle.scoop_record.specs.Tables.{first_schema, record_schema, value_at}
-use Rattle.scoop_record.specs.Store.{handlers_in, version_in}
+use Rattle.scoop_record.specs.Tables.{pending, value_at}
+use Rattle.scoop_record.specs.Among.{KeepsOthers, meta_tree, handlers_tree, clients_tree}
+use Rattle.scoop_record.specs.Store.{IsRecord, IsOfVersionOne, handlers_in, version_in}
 
 -- in the handler's row stands the image of the state, with its entries
 pub record IsFirstRowOf (handler : ℕ) (value : Option Value) (s : HandlerState) : Type 0 where
@@ -30,8 +32,8 @@ FirstHas handler value (Holds s) = IsFirstRowOf handler value s
 FirstHas handler value Damaged = IsNoFirstRow handler value
 
 -- the contents of a record of version 1 for a handler
-abbrev pub first_handlers_in : Trees → ℕ → Stored → Type 0
-first_handlers_in trees handler = FirstHas handler (value_at (trees 1) handler)
+abbrev pub first_handlers_in : Database → ℕ → Stored → Type 0
+first_handlers_in db handler = FirstHas handler (value_at (db.trees (handlers_tree db.schema)) handler)
 
 -- a key and an image of version 1, which is that of the state and of no other
 pub record IsFirstRow (row : Row) (s : HandlerState) : Type 0 where
@@ -96,17 +98,15 @@ AreHandlers rows = AllByRecursion (λ (row : Row). IsNumber (rowid row)) rows
 -- In a record of version 1 each number is a handler's, and this is the lowest handler whose image is no
 -- state's.
 pub record IsLowestBad (db : Database) (handler : ℕ) : Type 0 where
-  pub schema : db.schema ≡ first_schema
-  pub version : value_at (db.trees 0) 1 ≡ Some (Int (pos 1))
-  pub numbers : AreHandlers (db.trees 1)
-  pub bad : IsTheOne (first_handlers_in db.trees handler) Damaged
-  pub below : (lower : ℕ) → lower < handler → (found : Option HandlerState) × IsTheOne (first_handlers_in db.trees lower) (stored_of found)
+  pub first : IsOfVersionOne db
+  pub numbers : AreHandlers (db.trees (handlers_tree db.schema))
+  pub bad : IsTheOne (first_handlers_in db handler) Damaged
+  pub below : (lower : ℕ) → lower < handler → (found : Option HandlerState) × IsTheOne (first_handlers_in db lower) (stored_of found)
 
 -- in a record of version 1, a number is no handler's
 pub record HasOtherNumber (db : Database) : Type 0 where
-  pub schema : db.schema ≡ first_schema
-  pub version : value_at (db.trees 0) 1 ≡ Some (Int (pos 1))
-  pub numbers : AreHandlers (db.trees 1) → ⊥
+  pub first : IsOfVersionOne db
+  pub numbers : AreHandlers (db.trees (handlers_tree db.schema)) → ⊥
 
 -- there is no version, or one that is neither 1 nor 2
 abbrev pub IsOtherVersion : Option ℤ → Type 0
@@ -115,22 +115,23 @@ IsOtherVersion found = (found ≢ Some (pos 1)) × (found ≢ Some (pos 2))
 -- why the tables of a record are not taken: they have no version or an unknown one, or in version 1 a number is
 -- no handler's
 abbrev pub IsWrongSchema : Database → Type 0
-IsWrongSchema db = IsOtherVersion (version_in db.trees) ⊎ HasOtherNumber db
+IsWrongSchema db = IsOtherVersion (version_in db) ⊎ HasOtherNumber db
 
 -- A record of version 1, whose numbers are those of handlers, became one of version 2. Each state and the table of the
--- incarnations are as they were, and an open of its trees finds its tables.
+-- incarnations are as they were, and so are the tables of others. An open of the new trees finds all tables.
 pub record Migrates (old new : Database) : Type 0 where
-  pub was : old.schema ≡ first_schema
-  pub old_version : value_at (old.trees 0) 1 ≡ Some (Int (pos 1))
-  pub numbers : AreHandlers (old.trees 1)
-  pub schema : new.schema ≡ record_schema
+  pub was : IsOfVersionOne old
+  pub numbers : AreHandlers (old.trees (handlers_tree old.schema))
+  pub schema : new.schema ≡ created old.schema (pending 0)
+  pub sound : IsRecord new
   pub whole : IsDatabase new
-  pub version : value_at (new.trees 0) 1 ≡ Some (Int (pos 2))
-  pub handlers : (handler : ℕ) → IsCarried (first_handlers_in old.trees handler) (handlers_in new.trees handler)
-  pub clients : new.trees 2 ≡ old.trees 2
+  pub version : value_at (new.trees (meta_tree new.schema)) 1 ≡ Some (Int (pos 2))
+  pub handlers : (handler : ℕ) → IsCarried (first_handlers_in old handler) (handlers_in new handler)
+  pub clients : new.trees (clients_tree new.schema) ≡ old.trees (clients_tree old.schema)
+  pub others : KeepsOthers (meta_tree old.schema ∷ handlers_tree old.schema ∷ []) old new
 
 -- a record of version 2 stays, and one of version 1 becomes one
 pub record Adopts (old new : Database) : Type 0 where
-  pub schema : new.schema ≡ record_schema
-  pub version : value_at (new.trees 0) 1 ≡ Some (Int (pos 2))
+  pub sound : IsRecord new
+  pub version : value_at (new.trees (meta_tree new.schema)) 1 ≡ Some (Int (pos 2))
   pub kept : (new ≡ old) ⊎ Migrates old new

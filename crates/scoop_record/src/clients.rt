@@ -7,7 +7,8 @@ ghost use Rattle.sqlite.specs.Held.{state};
 ghost use Rattle.sqlite.specs.State.{HasCleanDisk, IsUnchanged, KeepsCommit, Shows, Survives};
 ghost use Rattle.sqlite.specs.declared.types.Value.{Value as SqlValue};
 ghost use Rattle.sqlite.specs.declared.types.Value.TheVariants.{Int};
-ghost use Rattle.scoop_record.specs.Tables.{value_at, Puts};
+ghost use Rattle.scoop_record.specs.Tables.{value_at};
+ghost use Rattle.scoop_record.specs.Among.{PutsAmong, clients_tree};
 ghost use Rattle.scoop_record.specs.Store.{inc_in, incs_in, IsRecord, IsSound, IsReady, IsOpenOnOk, Advances};
 ghost use Rattle.scoop_keeper.specs.Keeper.{next_of, last_incarnation, IsPutError};
 
@@ -21,7 +22,8 @@ fn rows_of_client<S: Alter>(tx: &mut Transaction<'_, S>, client: u32) -> Result<
     ensures same_reference { tx.new.conn.ghost_name ≡ tx.old.conn.ghost_name }
     ensures rows { HasCleanDisk (state S.Store tx.new.conn.now)
         → IfOk result (λ rows. IsUnchanged (state S.Store tx.old.conn.now) (state S.Store tx.new.conn.now)
-        × (length rows.items ≤ 1 → rows.items ≡ map (λ v. v ∷ []) (option_to_list (value_at ((state S.Store tx.old.conn.now).now.trees 2) client)))) }
+        × (length rows.items ≤ 1 → rows.items ≡ map (λ v. v ∷ []) (option_to_list 
+        (value_at ((state S.Store tx.old.conn.now).now.trees (clients_tree (state S.Store tx.old.conn.now).now.schema)) client)))) }
     ensures kept { HasCleanDisk (state S.Store tx.new.conn.now) → KeepsCommit (state S.Store tx.old.conn.now) (state S.Store tx.new.conn.now) }
     ensures survives { Survives (state S.Store tx.old.conn.now) (state S.Store tx.new.conn.now) (λ _. ⊥) }
 {
@@ -33,7 +35,8 @@ fn put_inc<S: Alter>(tx: &mut Transaction<'_, S>, client: u32, inc: u32) -> Resu
     requires { IsSound (state S.Store tx.old.conn.now) → IsRecord (state S.Store tx.old.conn.now).now }
     ensures same_reference { tx.new.conn.ghost_name ≡ tx.old.conn.ghost_name }
     ensures put { HasCleanDisk (state S.Store tx.new.conn.now)
-        → OnOk result (Puts (state S.Store tx.old.conn.now).now (state S.Store tx.new.conn.now).now 2 client (Int (pos inc))
+        → OnOk result (PutsAmong (state S.Store tx.old.conn.now).now (state S.Store tx.new.conn.now).now
+        (clients_tree (state S.Store tx.old.conn.now).now.schema) client (Int (pos inc))
         × Shows (state S.Store tx.old.conn.now) (state S.Store tx.new.conn.now) (state S.Store tx.new.conn.now).now
         (state S.Store tx.old.conn.now).committed true) }
     ensures kept { HasCleanDisk (state S.Store tx.new.conn.now) → KeepsCommit (state S.Store tx.old.conn.now) (state S.Store tx.new.conn.now) }
@@ -74,9 +77,9 @@ fn next_after<S: Alter>(tx: &mut Transaction<'_, S>, client: u32) -> Result<u32,
     ensures same_reference { tx.new.conn.ghost_name ≡ tx.old.conn.ghost_name }
     ensures next { HasCleanDisk (state S.Store tx.new.conn.now)
         → IfOk result (λ inc. IsUnchanged (state S.Store tx.old.conn.now) (state S.Store tx.new.conn.now)
-        × (inc ≡ next_of (incs_in (state S.Store tx.old.conn.now).now.trees client))) }
+        × (inc ≡ next_of (incs_in (state S.Store tx.old.conn.now).now client))) }
     ensures spent { HasCleanDisk (state S.Store tx.new.conn.now) → result ≡ Err KeeperError.IncarnationsSpent
-        → incs_in (state S.Store tx.old.conn.now).now.trees client ≡ Some last_incarnation }
+        → incs_in (state S.Store tx.old.conn.now).now client ≡ Some last_incarnation }
     ensures named { IfErr result (λ e. IsPutError e ⊎ (e ≡ KeeperError.IncarnationsSpent)) }
     ensures kept { HasCleanDisk (state S.Store tx.new.conn.now) → KeepsCommit (state S.Store tx.old.conn.now) (state S.Store tx.new.conn.now) }
     ensures survives { Survives (state S.Store tx.old.conn.now) (state S.Store tx.new.conn.now) (λ _. ⊥) }
@@ -95,10 +98,10 @@ pub(crate) fn advance<S: Alter>(conn: &mut Connection<S>, client: u32) -> Result
     ensures ready { IsReady (state S.Store conn.new) }
     ensures sound { IsSound (state S.Store conn.new) → IsSound (state S.Store conn.old) }
     ensures is_open { IsOpenOnOk result (state S.Store conn.new) (state S.Store conn.new) }
-    ensures next { IsSound (state S.Store conn.new) → IfOk result (λ inc. (inc ≡ next_of (incs_in (state S.Store conn.old).now.trees client))
+    ensures next { IsSound (state S.Store conn.new) → IfOk result (λ inc. (inc ≡ next_of (incs_in (state S.Store conn.old).now client))
         × Advances (state S.Store conn.old).now (state S.Store conn.new).now client) }
     ensures spent { IsSound (state S.Store conn.new) → result ≡ Err KeeperError.IncarnationsSpent
-        → incs_in (state S.Store conn.old).now.trees client ≡ Some last_incarnation }
+        → incs_in (state S.Store conn.old).now client ≡ Some last_incarnation }
     ensures refused { IsSound (state S.Store conn.new) → OnErr result ((state S.Store conn.new).now ≡ (state S.Store conn.old).now) }
     ensures named { IfErr result (λ e. IsPutError e ⊎ (e ≡ KeeperError.IncarnationsSpent)) }
     ensures survives { Survives (state S.Store conn.old) (state S.Store conn.new) (λ trees. (db : Database)

@@ -97,11 +97,11 @@ impl<S: Alter + Drop> Keeper<Global> for GatheringStore<S> {
     ghost use Rattle.scoop_record.specs.Store.{handlers_in, incs_in, IsSound, IsOpenOnOk, Advances, SavesAll};
     ghost use Rattle.scoop_record.specs.Gathering.{Over};
 
-    ghost handlers = { λ g. Over g.pending (handlers_in (seen S.Store g.store).now.trees) };
+    ghost handlers = { λ g. Over g.pending (handlers_in (seen S.Store g.store).now) };
 
-    ghost incarnations = { λ g. incs_in (seen S.Store g.store).now.trees };
+    ghost incarnations = { λ g. incs_in (seen S.Store g.store).now };
 
-    ghost outlasting = { λ g. handlers_in (seen S.Store g.store).now.trees };
+    ghost outlasting = { λ g. handlers_in (seen S.Store g.store).now };
 
     ghost is_honest = { λ g. IsSound (seen S.Store g.store) };
 
@@ -116,8 +116,8 @@ impl<S: Alter + Drop> Keeper<Global> for GatheringStore<S> {
         ensures store { self.new.store ≡ self.old.store }
         ensures refused { OnErr result (self.new ≡ self.old) }
         ensures named { IfErr result (λ e. e ≡ KeeperError.OutOfMemory) }
-        ensures stored { OnOk result (Keeps (Over self.old.pending (handlers_in (seen S.Store self.old.store).now.trees))
-            (Over self.new.pending (handlers_in (seen S.Store self.new.store).now.trees)) state.now) }
+        ensures stored { OnOk result (Keeps (Over self.old.pending (handlers_in (seen S.Store self.old.store).now))
+            (Over self.new.pending (handlers_in (seen S.Store self.new.store).now)) state.now) }
     {
         gather(&mut self.pending, state)?;
         Ok(())
@@ -125,10 +125,10 @@ impl<S: Alter + Drop> Keeper<Global> for GatheringStore<S> {
 
     fn load_handler(&mut self, handler: HandlerId) -> Result<Option<HandlerState>, KeeperError>
         ensures loaded { IsSound (seen S.Store self.new.store) → IfOk result
-            (λ found. IsTheOne (Over self.old.pending (handlers_in (seen S.Store self.old.store).now.trees) handler.0) (stored_of found)) }
+            (λ found. IsTheOne (Over self.old.pending (handlers_in (seen S.Store self.old.store).now) handler.0) (stored_of found)) }
         ensures own { IfOk result (λ found. IfSome found (λ s. s.number ≡ handler)) }
         ensures bad { IsSound (seen S.Store self.new.store) → result ≡ Err (KeeperError.BadImage handler)
-            → IsTheOne (Over self.old.pending (handlers_in (seen S.Store self.old.store).now.trees) handler.0) Damaged }
+            → IsTheOne (Over self.old.pending (handlers_in (seen S.Store self.old.store).now) handler.0) Damaged }
         ensures named { IfErr result (λ e. IsPutError e ⊎ (e ≡ KeeperError.BadImage handler)) }
         ensures pending { self.new.pending ≡ self.old.pending }
         ensures same { IsSound (seen S.Store self.new.store) → (seen S.Store self.new.store).now ≡ (seen S.Store self.old.store).now }
@@ -143,17 +143,17 @@ impl<S: Alter + Drop> Keeper<Global> for GatheringStore<S> {
 
     fn next_incarnation(&mut self, client: ClientId) -> Result<u32, KeeperError>
         ensures is_open { IsOpenOnOk result (seen S.Store self.new.store) (seen S.Store self.new.store) }
-        ensures next { IsSound (seen S.Store self.new.store) → IfOk result (λ inc. inc ≡ next_of (incs_in (seen S.Store self.old.store).now.trees client.0)) }
+        ensures next { IsSound (seen S.Store self.new.store) → IfOk result (λ inc. inc ≡ next_of (incs_in (seen S.Store self.old.store).now client.0)) }
         ensures stored { IsSound (seen S.Store self.new.store)
-            → IfOk result (Sets (incs_in (seen S.Store self.old.store).now.trees) (incs_in (seen S.Store self.new.store).now.trees) client.0) }
+            → IfOk result (Sets (incs_in (seen S.Store self.old.store).now) (incs_in (seen S.Store self.new.store).now) client.0) }
         ensures spent { IsSound (seen S.Store self.new.store) → result ≡ Err KeeperError.IncarnationsSpent
-            → incs_in (seen S.Store self.old.store).now.trees client.0 ≡ Some last_incarnation }
+            → incs_in (seen S.Store self.old.store).now client.0 ≡ Some last_incarnation }
         ensures refused { IsSound (seen S.Store self.new.store)
-            → OnErr result (IsSame (incs_in (seen S.Store self.old.store).now.trees) (incs_in (seen S.Store self.new.store).now.trees)) }
+            → OnErr result (IsSame (incs_in (seen S.Store self.old.store).now) (incs_in (seen S.Store self.new.store).now)) }
         ensures named { IfErr result (λ e. IsPutError e ⊎ (e ≡ KeeperError.IncarnationsSpent)) }
         ensures handlers { IsSound (seen S.Store self.new.store)
-            → Stays (Over self.old.pending (handlers_in (seen S.Store self.old.store).now.trees))
-            (Over self.new.pending (handlers_in (seen S.Store self.new.store).now.trees)) }
+            → Stays (Over self.old.pending (handlers_in (seen S.Store self.old.store).now))
+            (Over self.new.pending (handlers_in (seen S.Store self.new.store).now)) }
         ensures pending { self.new.pending ≡ self.old.pending }
         ensures honest { IsSound (seen S.Store self.new.store) → IsSound (seen S.Store self.old.store) }
         ensures survives { Survives (seen S.Store self.old.store) (seen S.Store self.new.store) (λ trees. (db : Database)
@@ -164,14 +164,14 @@ impl<S: Alter + Drop> Keeper<Global> for GatheringStore<S> {
 
     fn commit(&mut self) -> Result<(), KeeperError>
         ensures handlers { IsSound (seen S.Store self.new.store)
-            → Stays (Over self.old.pending (handlers_in (seen S.Store self.old.store).now.trees))
-            (Over self.new.pending (handlers_in (seen S.Store self.new.store).now.trees)) }
+            → Stays (Over self.old.pending (handlers_in (seen S.Store self.old.store).now))
+            (Over self.new.pending (handlers_in (seen S.Store self.new.store).now)) }
         ensures emptied { OnOk result (self.new.pending ≡ []) }
         ensures pending { OnErr result (self.new.pending ≡ self.old.pending) }
         ensures refused { IsSound (seen S.Store self.new.store)
             → OnErr result ((seen S.Store self.new.store).now ≡ (seen S.Store self.old.store).now) }
         ensures incarnations { IsSound (seen S.Store self.new.store)
-            → IsSame (incs_in (seen S.Store self.old.store).now.trees) (incs_in (seen S.Store self.new.store).now.trees) }
+            → IsSame (incs_in (seen S.Store self.old.store).now) (incs_in (seen S.Store self.new.store).now) }
         ensures named { IfErr result IsPutError }
         ensures honest { IsSound (seen S.Store self.new.store) → IsSound (seen S.Store self.old.store) }
         // A crash leaves what it could leave before the call, or all of the states that waited.

@@ -7,7 +7,8 @@ ghost use Rattle.sqlite.specs.Held.{state};
 ghost use Rattle.sqlite.specs.State.{HasCleanDisk, IsUnchanged, KeepsCommit, Shows, Survives};
 ghost use Rattle.sqlite.specs.declared.types.Value.{Value as SqlValue};
 ghost use Rattle.sqlite.specs.declared.types.Value.TheVariants.{Blob};
-ghost use Rattle.scoop_record.specs.Tables.{value_at, Puts};
+ghost use Rattle.scoop_record.specs.Tables.{value_at};
+ghost use Rattle.scoop_record.specs.Among.{PutsAmong, handlers_tree, pending_tree};
 ghost use Rattle.scoop_record.specs.Store.{IsRecord, IsSound, IsReady, IsOpenOnOk, IsInsideAfter, Has, handlers_in, PutsBoth, Saves, SavesAll};
 ghost use Rattle.scoop_handler.specs.State.{IsState};
 ghost use Rattle.scoop_record.specs.Range.{InRange};
@@ -29,7 +30,8 @@ fn rows_of_handler<S: Alter>(tx: &mut Transaction<'_, S>, handler: u32) -> Resul
     ensures same_reference { tx.new.conn.ghost_name ≡ tx.old.conn.ghost_name }
     ensures rows { HasCleanDisk (state S.Store tx.new.conn.now)
         → IfOk result (λ rows. IsUnchanged (state S.Store tx.old.conn.now) (state S.Store tx.new.conn.now)
-        × (length rows.items ≤ 1 → rows.items ≡ map (λ v. v ∷ []) (option_to_list (value_at ((state S.Store tx.old.conn.now).now.trees 1) handler)))) }
+        × (length rows.items ≤ 1 → rows.items ≡ map (λ v. v ∷ []) (option_to_list 
+        (value_at ((state S.Store tx.old.conn.now).now.trees (handlers_tree (state S.Store tx.old.conn.now).now.schema)) handler)))) }
     ensures kept { HasCleanDisk (state S.Store tx.new.conn.now) → KeepsCommit (state S.Store tx.old.conn.now) (state S.Store tx.new.conn.now) }
     ensures survives { Survives (state S.Store tx.old.conn.now) (state S.Store tx.new.conn.now) (λ _. ⊥) }
 {
@@ -42,7 +44,8 @@ fn rows_of_pending<S: Alter>(tx: &mut Transaction<'_, S>, handler: u32) -> Resul
     ensures same_reference { tx.new.conn.ghost_name ≡ tx.old.conn.ghost_name }
     ensures rows { HasCleanDisk (state S.Store tx.new.conn.now)
         → IfOk result (λ rows. IsUnchanged (state S.Store tx.old.conn.now) (state S.Store tx.new.conn.now)
-        × (length rows.items ≤ 1 → rows.items ≡ map (λ v. v ∷ []) (option_to_list (value_at ((state S.Store tx.old.conn.now).now.trees 3) handler)))) }
+        × (length rows.items ≤ 1 → rows.items ≡ map (λ v. v ∷ []) (option_to_list 
+        (value_at ((state S.Store tx.old.conn.now).now.trees (pending_tree (state S.Store tx.old.conn.now).now.schema)) handler)))) }
     ensures kept { HasCleanDisk (state S.Store tx.new.conn.now) → KeepsCommit (state S.Store tx.old.conn.now) (state S.Store tx.new.conn.now) }
     ensures survives { Survives (state S.Store tx.old.conn.now) (state S.Store tx.new.conn.now) (λ _. ⊥) }
 {
@@ -58,7 +61,8 @@ fn put_image<S: Alter>(
     requires { IsSound (state S.Store tx.old.conn.now) → IsRecord (state S.Store tx.old.conn.now).now }
     ensures same_reference { tx.new.conn.ghost_name ≡ tx.old.conn.ghost_name }
     ensures put { HasCleanDisk (state S.Store tx.new.conn.now)
-        → OnOk result (Puts (state S.Store tx.old.conn.now).now (state S.Store tx.new.conn.now).now 1 handler (Blob image.now)
+        → OnOk result (PutsAmong (state S.Store tx.old.conn.now).now (state S.Store tx.new.conn.now).now
+        (handlers_tree (state S.Store tx.old.conn.now).now.schema) handler (Blob image.now)
         × Shows (state S.Store tx.old.conn.now) (state S.Store tx.new.conn.now) (state S.Store tx.new.conn.now).now
         (state S.Store tx.old.conn.now).committed true) }
     ensures kept { HasCleanDisk (state S.Store tx.new.conn.now) → KeepsCommit (state S.Store tx.old.conn.now) (state S.Store tx.new.conn.now) }
@@ -79,7 +83,8 @@ fn put_entries<S: Alter>(
     requires { IsSound (state S.Store tx.old.conn.now) → IsRecord (state S.Store tx.old.conn.now).now }
     ensures same_reference { tx.new.conn.ghost_name ≡ tx.old.conn.ghost_name }
     ensures put { HasCleanDisk (state S.Store tx.new.conn.now)
-        → OnOk result (Puts (state S.Store tx.old.conn.now).now (state S.Store tx.new.conn.now).now 3 handler (Blob entries.now)
+        → OnOk result (PutsAmong (state S.Store tx.old.conn.now).now (state S.Store tx.new.conn.now).now
+        (pending_tree (state S.Store tx.old.conn.now).now.schema) handler (Blob entries.now)
         × Shows (state S.Store tx.old.conn.now) (state S.Store tx.new.conn.now) (state S.Store tx.new.conn.now).now
         (state S.Store tx.old.conn.now).committed true) }
     ensures kept { HasCleanDisk (state S.Store tx.new.conn.now) → KeepsCommit (state S.Store tx.old.conn.now) (state S.Store tx.new.conn.now) }
@@ -101,7 +106,8 @@ fn has_entries<S: Alter>(
     ensures same_reference { tx.new.conn.ghost_name ≡ tx.old.conn.ghost_name }
     ensures same { HasCleanDisk (state S.Store tx.new.conn.now) → OnOk result (IsUnchanged (state S.Store tx.old.conn.now) (state S.Store tx.new.conn.now)) }
     ensures has { HasCleanDisk (state S.Store tx.new.conn.now)
-        → IfOk result (λ has. IsTrue has → value_at ((state S.Store tx.old.conn.now).now.trees 3) handler ≡ Some (Blob entries.now)) }
+        → IfOk result (λ has. IsTrue has
+        → value_at ((state S.Store tx.old.conn.now).now.trees (pending_tree (state S.Store tx.old.conn.now).now.schema)) handler ≡ Some (Blob entries.now)) }
     ensures kept { HasCleanDisk (state S.Store tx.new.conn.now) → KeepsCommit (state S.Store tx.old.conn.now) (state S.Store tx.new.conn.now) }
     ensures survives { Survives (state S.Store tx.old.conn.now) (state S.Store tx.new.conn.now) (λ _. ⊥) }
 {
@@ -257,10 +263,10 @@ fn find_state<S: Alter>(
     ensures same_reference { tx.new.conn.ghost_name ≡ tx.old.conn.ghost_name }
     ensures is_open { IsOpenOnOk result (state S.Store tx.old.conn.now) (state S.Store tx.new.conn.now) }
     ensures loaded { HasCleanDisk (state S.Store tx.new.conn.now)
-        → IfOk result (λ found. IsTheOne (handlers_in (state S.Store tx.old.conn.now).now.trees handler.0) (stored_of found)) }
+        → IfOk result (λ found. IsTheOne (handlers_in (state S.Store tx.old.conn.now).now handler.0) (stored_of found)) }
     ensures own { IfOk result (λ found. IfSome found (λ s. s.number ≡ handler)) }
     ensures bad { HasCleanDisk (state S.Store tx.new.conn.now) → result ≡ Err (KeeperError.BadImage handler)
-        → IsTheOne (handlers_in (state S.Store tx.old.conn.now).now.trees handler.0) Damaged }
+        → IsTheOne (handlers_in (state S.Store tx.old.conn.now).now handler.0) Damaged }
     ensures kept { HasCleanDisk (state S.Store tx.new.conn.now) → KeepsCommit (state S.Store tx.old.conn.now) (state S.Store tx.new.conn.now) }
     ensures named { IfErr result (λ e. IsPutError e ⊎ (e ≡ KeeperError.BadImage handler)) }
     ensures survives { Survives (state S.Store tx.old.conn.now) (state S.Store tx.new.conn.now) (λ _. ⊥) }
@@ -292,10 +298,10 @@ pub(crate) fn load<S: Alter>(
     ensures same { IsSound (state S.Store conn.new) → (state S.Store conn.new).now ≡ (state S.Store conn.old).now }
     ensures is_open { IsOpenOnOk result (state S.Store conn.old) (state S.Store conn.new) }
     ensures loaded { HasCleanDisk (state S.Store conn.new)
-        → IfOk result (λ found. IsTheOne (handlers_in (state S.Store conn.old).now.trees handler.0) (stored_of found)) }
+        → IfOk result (λ found. IsTheOne (handlers_in (state S.Store conn.old).now handler.0) (stored_of found)) }
     ensures own { IfOk result (λ found. IfSome found (λ s. s.number ≡ handler)) }
     ensures bad { HasCleanDisk (state S.Store conn.new) → result ≡ Err (KeeperError.BadImage handler)
-        → IsTheOne (handlers_in (state S.Store conn.old).now.trees handler.0) Damaged }
+        → IsTheOne (handlers_in (state S.Store conn.old).now handler.0) Damaged }
     ensures named { IfErr result (λ e. IsPutError e ⊎ (e ≡ KeeperError.BadImage handler)) }
     ensures survives { Survives (state S.Store conn.old) (state S.Store conn.new) (λ _. ⊥) }
 {

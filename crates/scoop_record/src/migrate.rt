@@ -1,6 +1,6 @@
 //! Migration of a record of version 1 to version 2.
 
-ghost use Rattle.std.specs.Prelude.{◌≡◌, ◌⊎◌, map, pos, Some, true, false, IsTrue, IfOk, IfErr, OnOk, OnErr, IsPermutation};
+ghost use Rattle.std.specs.Prelude.{◌≡◌, ◌⊎◌, ◌∷◌, [], codes, map, pos, Some, true, false, IsTrue, IfOk, IfErr, OnOk, OnErr, IsPermutation};
 ghost use Rattle.std.specs.List.{AllZip};
 ghost use Rattle.sqlite.specs.Effect.{Database, IsDatabase};
 ghost use Rattle.sqlite.specs.Held.{state};
@@ -8,7 +8,8 @@ ghost use Rattle.sqlite.specs.State.{HasCleanDisk, IsUnchanged, KeepsCommit, Sho
 ghost use Rattle.sqlite.specs.declared.types.Value.TheVariants.{Int};
 ghost use Rattle.sqlite_value.specs.Order.{column};
 ghost use Rattle.scoop_record.specs.Store.{IsSound, IsOpenOnOk, IsRecord, IsOfVersionOne};
-ghost use Rattle.scoop_record.specs.Tables.{value_at, Puts};
+ghost use Rattle.scoop_record.specs.Tables.{value_at};
+ghost use Rattle.scoop_record.specs.Among.{HasRoom, PutsAmong, meta_tree, handlers_tree};
 ghost use Rattle.scoop_keeper.specs.Keeper.{IsPutError, IsAdoptError};
 ghost use Rattle.scoop_record.specs.Migrate.{keyed_value, Migrates, IsFirstRow, IsRising, IsNumber, AreNumbers, AreNumbered, IsBadRow, IsFirstBad};
 ghost use Rattle.scoop_record.specs.Migrate.{IsLowestBad, HasOtherNumber};
@@ -29,7 +30,8 @@ fn rows_of_handlers<S: Alter>(tx: &mut Transaction<'_, S>) -> Result<Vec<Row>, E
     ensures same_reference { tx.new.conn.ghost_name ≡ tx.old.conn.ghost_name }
     ensures rows { HasCleanDisk (state S.Store tx.new.conn.now)
         → IfOk result (λ rows. IsUnchanged (state S.Store tx.old.conn.now) (state S.Store tx.new.conn.now)
-        × IsPermutation (map keyed_value ((state S.Store tx.old.conn.now).now.trees 1)) rows.items) }
+        × IsPermutation (map keyed_value ((state S.Store tx.old.conn.now).now.trees (handlers_tree (state S.Store tx.old.conn.now).now.schema)))
+        rows.items) }
     ensures kept { HasCleanDisk (state S.Store tx.new.conn.now) → KeepsCommit (state S.Store tx.old.conn.now) (state S.Store tx.new.conn.now) }
     ensures survives { Survives (state S.Store tx.old.conn.now) (state S.Store tx.new.conn.now) (λ _. ⊥) }
 {
@@ -39,10 +41,11 @@ fn rows_of_handlers<S: Alter>(tx: &mut Transaction<'_, S>) -> Result<Vec<Row>, E
 /// Writes this version, if there is one already.
 fn raise_version<S: Alter>(tx: &mut Transaction<'_, S>, version: u32) -> Result<usize, Error>
     requires { IsSound (state S.Store tx.old.conn.now) → IsRecord (state S.Store tx.old.conn.now).now
-        × (value_at ((state S.Store tx.old.conn.now).now.trees 0) 1 ≡ Some (Int (pos 1))) }
+        × (value_at ((state S.Store tx.old.conn.now).now.trees (meta_tree (state S.Store tx.old.conn.now).now.schema)) 1 ≡ Some (Int (pos 1))) }
     ensures same_reference { tx.new.conn.ghost_name ≡ tx.old.conn.ghost_name }
     ensures put { HasCleanDisk (state S.Store tx.new.conn.now)
-        → OnOk result ((Puts (state S.Store tx.old.conn.now).now (state S.Store tx.new.conn.now).now 0 1 (Int (pos version))
+        → OnOk result ((PutsAmong (state S.Store tx.old.conn.now).now (state S.Store tx.new.conn.now).now
+        (meta_tree (state S.Store tx.old.conn.now).now.schema) 1 (Int (pos version))
         × IsDatabase (state S.Store tx.new.conn.now).now)
         × Shows (state S.Store tx.old.conn.now) (state S.Store tx.new.conn.now) (state S.Store tx.new.conn.now).now
         (state S.Store tx.old.conn.now).committed true) }
@@ -57,7 +60,8 @@ fn raise_version<S: Alter>(tx: &mut Transaction<'_, S>, version: u32) -> Result<
 
 /// The tables of version 1 become those of version 2, in the transaction.
 fn migrate_in<S: Alter>(alloc: Global, tx: &mut Transaction<'_, S>) -> Result<(), KeeperError>
-    requires { IsSound (state S.Store tx.old.conn.now) → IsOfVersionOne (state S.Store tx.old.conn.now).now }
+    requires { IsSound (state S.Store tx.old.conn.now) → IsOfVersionOne (state S.Store tx.old.conn.now).now
+        × HasRoom (state S.Store tx.old.conn.now).now.schema (codes "pending" ∷ []) }
     ensures same_reference { tx.new.conn.ghost_name ≡ tx.old.conn.ghost_name }
     ensures migrated { HasCleanDisk (state S.Store tx.new.conn.now)
         → OnOk result (Migrates (state S.Store tx.old.conn.now).now (state S.Store tx.new.conn.now).now) }
@@ -88,7 +92,8 @@ fn migrate_in<S: Alter>(alloc: Global, tx: &mut Transaction<'_, S>) -> Result<()
 /// The tables of version 1 become those of version 2, in one transaction.
 pub(crate) fn migrate<S: Alter>(alloc: Global, conn: &mut Connection<S>) -> Result<(), KeeperError>
     requires mode { conn.old.in_transaction ≡ false }
-    requires first { IsSound (state S.Store conn.old) → IsOfVersionOne (state S.Store conn.old).now }
+    requires first { IsSound (state S.Store conn.old) → IsOfVersionOne (state S.Store conn.old).now
+        × HasRoom (state S.Store conn.old).now.schema (codes "pending" ∷ []) }
     requires settled { IsSound (state S.Store conn.old) → (state S.Store conn.old).now ≡ (state S.Store conn.old).committed }
     ensures mode { conn.new.in_transaction ≡ false }
     ensures sound { IsSound (state S.Store conn.new) → IsSound (state S.Store conn.old) }

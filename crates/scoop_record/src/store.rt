@@ -1,7 +1,8 @@
 //! A keeper over the tables of a database.
 
-ghost use Rattle.std.specs.Prelude.{◌≡◌, ◌≢◌, ◌⊎◌, [], IsTrue, IfOk, IfErr, IfSome, OnOk, OnErr, Some};
-ghost use Rattle.scoop_record.specs.Tables.{no_schema};
+ghost use Rattle.std.specs.Prelude.{◌≡◌, ◌≢◌, ◌⊎◌, [], ◌∷◌, List, ℕ, IsTrue, IfOk, IfErr, IfSome, OnOk, OnErr, Some};
+ghost use Rattle.sqlite_rules.specs.Lists.{Has};
+ghost use Rattle.scoop_record.specs.Among.{IsFree, HasRoom, KeepsOthers, record_names, handlers_tree, clients_tree, pending_tree};
 
 use crate::adopt::adopt_tables;
 use crate::create::create_tables;
@@ -43,23 +44,25 @@ impl<S: Alter + Drop> Store<S> {
     ghost use Rattle.scoop_record.specs.Migrate.{Migrates, Adopts, IsLowestBad, IsWrongSchema};
     ghost use Rattle.scoop_record.specs.Store.{IsSound, IsOpenOnOk, IsOfVersionOne, IsLaidOut, IsNewRecord, SavesAll, handlers_in, incs_in};
 
-    /// Makes the tables in a database that has none, in one transaction.
+    /// Makes the tables in one transaction, beside the tables that the database has.
     ///
     /// Refused:
-    /// - `Refused` if the schema isn't empty, the connection is in a transaction, or a text is refused;
+    /// - `Refused` if a table, an index or a view has one of the four names, a foreign key names one, the connection is
+    ///   in a transaction, or a text is refused;
     /// - `OutOfMemory`.
     ///
     /// A refusal drops the connection. [`create_tables`], which this calls, says what it leaves.
     pub fn create(alloc: Global, mut conn: Connection<S>) -> Result<Store<S>, KeeperError>
-        ensures made { IfOk result (λ store. IsSound (state S.Store store) → IsNewRecord (state S.Store store).now 2) }
+        ensures made { IfOk result (λ store. IsSound (state S.Store store) → IsNewRecord (state S.Store conn).now (state S.Store store).now 2) }
         ensures is_open { IfOk result (λ store. HasCleanDisk (state S.Store store) → IsTrue (state S.Store store).is_open) }
-        ensures blank { OnOk result ((state S.Store conn).now.schema ≡ no_schema) }
-        ensures other { (state S.Store conn).now.schema ≢ no_schema → result ≡ Err KeeperError.Refused }
+        ensures room { OnOk result (HasRoom (state S.Store conn).now.schema record_names) }
+        ensures other { ¬ HasRoom (state S.Store conn).now.schema record_names → result ≡ Err KeeperError.Refused }
+        ensures taken { (name : List ℕ) → Has record_names name → ¬ IsFree (state S.Store conn).now.schema name → result ≡ Err KeeperError.Refused }
         ensures inside { IsTrue conn.in_transaction → result ≡ Err KeeperError.Refused }
         ensures sound { IfOk result (λ store. IsSound (state S.Store store) → IsSound (state S.Store conn)) }
         ensures named { IfErr result IsPutError }
-        ensures survives { IfOk result (λ store. Survives (state S.Store conn) (state S.Store store) (λ trees. (db : Database) × IsNewRecord db 2
-            × (trees ≡ db.trees))) }
+        ensures survives { IfOk result (λ store. Survives (state S.Store conn) (state S.Store store) (λ trees. (db : Database)
+            × IsNewRecord (state S.Store conn).now db 2 × (trees ≡ db.trees))) }
     {
         create_tables(&mut conn)?;
         Ok(Store { conn, alloc })
@@ -102,9 +105,11 @@ impl<S: Alter + Drop> Store<S> {
     pub fn put_all(&mut self, states: &[HandlerState]) -> Result<(), KeeperError>
         ensures is_open { states.now ≢ [] → IsOpenOnOk result (state S.Store self.new) (state S.Store self.new) }
         ensures stored { IsSound (state S.Store self.new) → OnOk result
-            (Stays (Over states.now (handlers_in (state S.Store self.old).now.trees)) (handlers_in (state S.Store self.new).now.trees)) }
+            (Stays (Over states.now (handlers_in (state S.Store self.old).now)) (handlers_in (state S.Store self.new).now)) }
         ensures incarnations { IsSound (state S.Store self.new)
-            → IsSame (incs_in (state S.Store self.old).now.trees) (incs_in (state S.Store self.new).now.trees) }
+            → IsSame (incs_in (state S.Store self.old).now) (incs_in (state S.Store self.new).now) }
+        ensures others { IsSound (state S.Store self.new) → OnOk result (KeepsOthers (handlers_tree (state S.Store self.old).now.schema
+            ∷ pending_tree (state S.Store self.old).now.schema ∷ []) (state S.Store self.old).now (state S.Store self.new).now) }
         ensures refused { IsSound (state S.Store self.new) → OnErr result ((state S.Store self.new).now ≡ (state S.Store self.old).now) }
         ensures named { IfErr result IsPutError }
         ensures honest { IsSound (state S.Store self.new) → IsSound (state S.Store self.old) }
@@ -133,12 +138,12 @@ impl<S: Alter + Drop> Keeper<Global> for Store<S> {
     ghost use Rattle.scoop_keeper.specs.Keeper.{Damaged, Keeps, Stays, IsSame, IsTheOne, Sets, IsPutError, next_of, last_incarnation, stored_of};
     ghost use Rattle.scoop_record.specs.Store.{handlers_in, incs_in, IsSound, IsOpenOnOk, Advances, Saves};
 
-    ghost handlers = { λ s. handlers_in (seen S.Store s).now.trees };
+    ghost handlers = { λ s. handlers_in (seen S.Store s).now };
 
-    ghost incarnations = { λ s. incs_in (seen S.Store s).now.trees };
+    ghost incarnations = { λ s. incs_in (seen S.Store s).now };
 
     // Each call is a transaction of its own, so all that is stored is committed.
-    ghost outlasting = { λ s. handlers_in (seen S.Store s).now.trees };
+    ghost outlasting = { λ s. handlers_in (seen S.Store s).now };
 
     ghost is_honest = { λ s. IsSound (seen S.Store s) };
 
@@ -153,11 +158,13 @@ impl<S: Alter + Drop> Keeper<Global> for Store<S> {
     fn put_handler(&mut self, state: &HandlerState) -> Result<(), KeeperError>
         ensures is_open { IsOpenOnOk result (seen S.Store self.new) (seen S.Store self.new) }
         ensures stored { IsSound (seen S.Store self.new)
-            → OnOk result (Keeps (handlers_in (seen S.Store self.old).now.trees) (handlers_in (seen S.Store self.new).now.trees) state.now) }
+            → OnOk result (Keeps (handlers_in (seen S.Store self.old).now) (handlers_in (seen S.Store self.new).now) state.now) }
         ensures incarnations { IsSound (seen S.Store self.new)
-            → IsSame (incs_in (seen S.Store self.old).now.trees) (incs_in (seen S.Store self.new).now.trees) }
+            → IsSame (incs_in (seen S.Store self.old).now) (incs_in (seen S.Store self.new).now) }
+        ensures others { IsSound (seen S.Store self.new) → OnOk result (KeepsOthers (handlers_tree (seen S.Store self.old).now.schema
+            ∷ pending_tree (seen S.Store self.old).now.schema ∷ []) (seen S.Store self.old).now (seen S.Store self.new).now) }
         ensures refused { IsSound (seen S.Store self.new)
-            → OnErr result (Stays (handlers_in (seen S.Store self.old).now.trees) (handlers_in (seen S.Store self.new).now.trees)) }
+            → OnErr result (Stays (handlers_in (seen S.Store self.old).now) (handlers_in (seen S.Store self.new).now)) }
         ensures named { IfErr result IsPutError }
         ensures honest { IsSound (seen S.Store self.new) → IsSound (seen S.Store self.old) }
         // A crash leaves what it could leave before the call, or the state for its handler.
@@ -178,15 +185,15 @@ impl<S: Alter + Drop> Keeper<Global> for Store<S> {
     fn load_handler(&mut self, handler: HandlerId) -> Result<Option<HandlerState>, KeeperError>
         ensures is_open { IsOpenOnOk result (seen S.Store self.old) (seen S.Store self.new) }
         ensures loaded { HasCleanDisk (seen S.Store self.new)
-            → IfOk result (λ found. IsTheOne (handlers_in (seen S.Store self.old).now.trees handler.0) (stored_of found)) }
+            → IfOk result (λ found. IsTheOne (handlers_in (seen S.Store self.old).now handler.0) (stored_of found)) }
         ensures own { IfOk result (λ found. IfSome found (λ s. s.number ≡ handler)) }
         ensures bad { HasCleanDisk (seen S.Store self.new) → result ≡ Err (KeeperError.BadImage handler)
-            → IsTheOne (handlers_in (seen S.Store self.old).now.trees handler.0) Damaged }
+            → IsTheOne (handlers_in (seen S.Store self.old).now handler.0) Damaged }
         ensures named { IfErr result (λ e. IsPutError e ⊎ (e ≡ KeeperError.BadImage handler)) }
         ensures handlers { IsSound (seen S.Store self.new)
-            → Stays (handlers_in (seen S.Store self.old).now.trees) (handlers_in (seen S.Store self.new).now.trees) }
+            → Stays (handlers_in (seen S.Store self.old).now) (handlers_in (seen S.Store self.new).now) }
         ensures incarnations { IsSound (seen S.Store self.new)
-            → IsSame (incs_in (seen S.Store self.old).now.trees) (incs_in (seen S.Store self.new).now.trees) }
+            → IsSame (incs_in (seen S.Store self.old).now) (incs_in (seen S.Store self.new).now) }
         ensures honest { IsSound (seen S.Store self.new) → IsSound (seen S.Store self.old) }
         // The whole database is as it was, and a crash leaves what it could leave before the call.
         ensures same { IsSound (seen S.Store self.new) → (seen S.Store self.new).now ≡ (seen S.Store self.old).now }
@@ -197,16 +204,18 @@ impl<S: Alter + Drop> Keeper<Global> for Store<S> {
 
     fn next_incarnation(&mut self, client: ClientId) -> Result<u32, KeeperError>
         ensures is_open { IsOpenOnOk result (seen S.Store self.new) (seen S.Store self.new) }
-        ensures next { IsSound (seen S.Store self.new) → IfOk result (λ inc. inc ≡ next_of (incs_in (seen S.Store self.old).now.trees client.0)) }
+        ensures next { IsSound (seen S.Store self.new) → IfOk result (λ inc. inc ≡ next_of (incs_in (seen S.Store self.old).now client.0)) }
         ensures stored { IsSound (seen S.Store self.new)
-            → IfOk result (Sets (incs_in (seen S.Store self.old).now.trees) (incs_in (seen S.Store self.new).now.trees) client.0) }
+            → IfOk result (Sets (incs_in (seen S.Store self.old).now) (incs_in (seen S.Store self.new).now) client.0) }
+        ensures others { IsSound (seen S.Store self.new) → OnOk result (KeepsOthers (clients_tree (seen S.Store self.old).now.schema ∷ [])
+            (seen S.Store self.old).now (seen S.Store self.new).now) }
         ensures spent { IsSound (seen S.Store self.new) → result ≡ Err KeeperError.IncarnationsSpent
-            → incs_in (seen S.Store self.old).now.trees client.0 ≡ Some last_incarnation }
+            → incs_in (seen S.Store self.old).now client.0 ≡ Some last_incarnation }
         ensures refused { IsSound (seen S.Store self.new)
-            → OnErr result (IsSame (incs_in (seen S.Store self.old).now.trees) (incs_in (seen S.Store self.new).now.trees)) }
+            → OnErr result (IsSame (incs_in (seen S.Store self.old).now) (incs_in (seen S.Store self.new).now)) }
         ensures named { IfErr result (λ e. IsPutError e ⊎ (e ≡ KeeperError.IncarnationsSpent)) }
         ensures handlers { IsSound (seen S.Store self.new)
-            → Stays (handlers_in (seen S.Store self.old).now.trees) (handlers_in (seen S.Store self.new).now.trees) }
+            → Stays (handlers_in (seen S.Store self.old).now) (handlers_in (seen S.Store self.new).now) }
         ensures honest { IsSound (seen S.Store self.new) → IsSound (seen S.Store self.old) }
         // A crash leaves what it could leave before the call, or the next incarnation.
         ensures survives { Survives (seen S.Store self.old) (seen S.Store self.new) (λ trees. (db : Database)

@@ -8,6 +8,7 @@ ghost use Rattle.sqlite.specs.State.{HasCleanDisk, KeepsCommit, Survives};
 ghost use Rattle.scoop_keeper.specs.Keeper.{IsPutError};
 ghost use Rattle.scoop_record.specs.Store.{IsSound, IsLaidOut, IsOpenOnOk, number_of, TellsVersion};
 ghost use Rattle.scoop_record.specs.Tables.{value_at};
+ghost use Rattle.scoop_record.specs.Among.{meta_tree};
 
 use crate::refusal::refusal;
 use scoop_keeper::KeeperError;
@@ -21,7 +22,8 @@ fn rows_of_meta<S: Alter>(tx: &mut Transaction<'_, S>) -> Result<Vec<Row>, Error
     ensures same_reference { tx.new.conn.ghost_name ≡ tx.old.conn.ghost_name }
     ensures is_open { IsOpenOnOk result (state S.Store tx.old.conn.now) (state S.Store tx.new.conn.now) }
     ensures version { HasCleanDisk (state S.Store tx.new.conn.now) → IfOk result (λ rows. IsLaidOut (state S.Store tx.old.conn.now).now
-        → length rows.items ≤ 1 → rows.items ≡ map (λ v. v ∷ []) (option_to_list (value_at ((state S.Store tx.old.conn.now).now.trees 0) 1))) }
+        → length rows.items ≤ 1 → rows.items ≡ map (λ v. v ∷ []) (option_to_list
+        (value_at ((state S.Store tx.old.conn.now).now.trees (meta_tree (state S.Store tx.old.conn.now).now.schema)) 1))) }
     ensures kept { HasCleanDisk (state S.Store tx.new.conn.now) → IsTrue (state S.Store tx.old.conn.now).in_transaction
         → KeepsCommit (state S.Store tx.old.conn.now) (state S.Store tx.new.conn.now) }
     ensures survives { Survives (state S.Store tx.old.conn.now) (state S.Store tx.new.conn.now) (λ _. ⊥) }
