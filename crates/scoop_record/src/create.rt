@@ -109,7 +109,7 @@ fn put_version<S: Alter>(tx: &mut Transaction<'_, S>, version: u32) -> Result<us
 fn make_all<S: Alter>(tx: &mut Transaction<'_, S>, version: u32) -> Result<(), Error>
     requires { IsSound (state S.Store tx.old.conn.now) → HasRoom (state S.Store tx.old.conn.now).now.schema record_names }
     ensures same_reference { tx.new.conn.ghost_name ≡ tx.old.conn.ghost_name }
-    ensures made { HasCleanDisk (state S.Store tx.new.conn.now) 
+    ensures made { HasCleanDisk (state S.Store tx.new.conn.now)
         → OnOk result (IsNewRecord (state S.Store tx.old.conn.now).now (state S.Store tx.new.conn.now).now version
         × Shows (state S.Store tx.old.conn.now) (state S.Store tx.new.conn.now) (state S.Store tx.new.conn.now).now
         (state S.Store tx.old.conn.now).committed true) }

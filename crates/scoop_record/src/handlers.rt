@@ -30,7 +30,7 @@ fn rows_of_handler<S: Alter>(tx: &mut Transaction<'_, S>, handler: u32) -> Resul
     ensures same_reference { tx.new.conn.ghost_name ≡ tx.old.conn.ghost_name }
     ensures rows { HasCleanDisk (state S.Store tx.new.conn.now)
         → IfOk result (λ rows. IsUnchanged (state S.Store tx.old.conn.now) (state S.Store tx.new.conn.now)
-        × (length rows.items ≤ 1 → rows.items ≡ map (λ v. v ∷ []) (option_to_list 
+        × (length rows.items ≤ 1 → rows.items ≡ map (λ v. v ∷ []) (option_to_list
         (value_at ((state S.Store tx.old.conn.now).now.trees (handlers_tree (state S.Store tx.old.conn.now).now.schema)) handler)))) }
     ensures kept { HasCleanDisk (state S.Store tx.new.conn.now) → KeepsCommit (state S.Store tx.old.conn.now) (state S.Store tx.new.conn.now) }
     ensures survives { Survives (state S.Store tx.old.conn.now) (state S.Store tx.new.conn.now) (λ _. ⊥) }
@@ -44,7 +44,7 @@ fn rows_of_pending<S: Alter>(tx: &mut Transaction<'_, S>, handler: u32) -> Resul
     ensures same_reference { tx.new.conn.ghost_name ≡ tx.old.conn.ghost_name }
     ensures rows { HasCleanDisk (state S.Store tx.new.conn.now)
         → IfOk result (λ rows. IsUnchanged (state S.Store tx.old.conn.now) (state S.Store tx.new.conn.now)
-        × (length rows.items ≤ 1 → rows.items ≡ map (λ v. v ∷ []) (option_to_list 
+        × (length rows.items ≤ 1 → rows.items ≡ map (λ v. v ∷ []) (option_to_list
         (value_at ((state S.Store tx.old.conn.now).now.trees (pending_tree (state S.Store tx.old.conn.now).now.schema)) handler)))) }
     ensures kept { HasCleanDisk (state S.Store tx.new.conn.now) → KeepsCommit (state S.Store tx.old.conn.now) (state S.Store tx.new.conn.now) }
     ensures survives { Survives (state S.Store tx.old.conn.now) (state S.Store tx.new.conn.now) (λ _. ⊥) }

@@ -15,7 +15,7 @@ use Rattle.sqlite_schema.specs.declared.schema.Table.{Table}
 use Rattle.sqlite_schema.specs.declared.schema.Schema.{Schema}
 use Rattle.sqlite_sql.specs.Query.{IsAnswer, Output, output}
 use Rattle.sqlite_sql.specs.Program.{overlay}
-use Rattle.sqlite_catalog.specs.Change.{created, next_tree}
+use Rattle.sqlite_catalog.specs.Change.{created}
 use Rattle.sqlite_rules.specs.Cast.{cast}
 use Rattle.sqlite.specs.Does.{Tally, lacks_sequence}
 use Rattle.sqlite.specs.Effect.{Database, IsDatabase}
