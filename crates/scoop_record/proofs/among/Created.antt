@@ -11,7 +11,8 @@ use Rattle.sqlite.specs.State.{State, HasCleanDisk, Shows, Survives}
 use Rattle.sqlite.specs.Table.{Table}
 use Rattle.sqlite.specs.Schema.{Schema}
 use Rattle.scoop_record.specs.Tables.{meta, handlers, clients, pending, row_of, value_at, Makes}
-use Rattle.scoop_record.specs.Among.{IsFree, HasTable, HasRoom, HasRecordTables, PutsAmong, meta_tree, handlers_tree, clients_tree, pending_tree, record_names, with_record}
+use Rattle.scoop_record.specs.Among.{IsFree, HasTable, HasRoom, HasRecordTables, PutsAmong, meta_tree, handlers_tree, clients_tree, pending_tree}
+use Rattle.scoop_record.specs.Among.{record_names, with_record}
 use Rattle.scoop_record.specs.Store.{IsSound, IsNewRecord}
 use Rattle.scoop_record.proofs.StatementLemmas.{clean_before}
 use Rattle.scoop_record.proofs.among.Apart.{kept_at, meta_handlers, meta_clients, meta_pending}

@@ -2,7 +2,8 @@
 use Rattle.std.proofs.lemmas.List.Sorted.{IsPermutation-map}
 use Rattle.std.proofs.lemmas.Bool.{cases_Bool}
 use Rattle.std.proofs.lemmas.Bool.Decides.{nat_tests}
-use Rattle.std.proofs.Common.{IsPermutation, IsErr, IsTrue, ◌≡◌, ◌<◌, ◌≤◌, arith, length, ℕ, nat_le, ◌^◌, pos, List, [], ◌∷◌, codes, map, false, true, Ok, Err, Result, OnOk, Some, None, inl, inr, refl, sym, ap, ◌∙◌, subst}
+use Rattle.std.proofs.Common.{IsPermutation, IsErr, IsTrue, ◌≡◌, ◌<◌, ◌≤◌, arith, length, ℕ, nat_le, ◌^◌, pos, List, [], ◌∷◌, codes, map, false, true, Ok}
+use Rattle.std.proofs.Common.{Err, Result, OnOk, Some, None, inl, inr, refl, sym, ap, ◌∙◌, subst}
 use Rattle.std.specs.Option.{option_to_list}
 use Rattle.sqlite_value.specs.declared.value.Value.{Value}
 use Rattle.sqlite_value.specs.declared.value.Value.TheVariants.{Null, Int}
