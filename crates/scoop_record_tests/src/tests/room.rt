@@ -1,4 +1,4 @@
-//! Databases with tables of their own: where a record has room among them, and where it is still one.
+//! A record beside other tables: what leaves it no room, what it is not adopted with, and what stays.
 
 use super::acts::{Act, FIRST, NO_PENDING, OLD, Step, VERSION, steps, steps_in_memory};
 use scoop_record::*;
@@ -12,7 +12,7 @@ const NOT_TAKEN: Step = Step::Take(Some(KeeperError::Refused));
 
 const TABLE: Step = Step::Run("CREATE TABLE t (a INTEGER PRIMARY KEY, b TEXT)");
 
-/// What leaves no room, and how it goes again.
+/// Texts that leave no room, each with the one that takes it back.
 const IN_THE_WAY: [(&str, &str); 14] = [
     ("CREATE TABLE meta (a INTEGER)", "DROP TABLE meta"),
     ("CREATE TABLE handlers (a INTEGER)", "DROP TABLE handlers"),
@@ -45,7 +45,7 @@ const IN_THE_WAY: [(&str, &str); 14] = [
     ),
 ];
 
-/// No tables are made while one of these is there, and then they are.
+/// No tables are made while one of these stands. Afterwards they are.
 fn makes_room<S: Alter + Drop>(rt: &impl Abort, alloc: Global, conn: Connection<S>) {
     let mut conn = steps(rt, alloc, conn, &[TABLE]);
     for (comes, goes) in IN_THE_WAY {
