@@ -16,10 +16,19 @@ pub type FiledStore = Store<FileStore<File>>;
 /// A new store in the file, which is made if there is none. `Taken` if the file has anything.
 pub fn create(rt: &HostRuntime, path: &str) -> Result<FiledStore, FileError> {
     let connection = open(rt, path)?;
+    if !is_blank(&connection) {
+        return Err(FileError::Taken);
+    }
     match Store::create(rt.alloc(), connection) {
         Ok(store) => Ok(store),
         Err(refusal) => Err(refused(refusal, FileError::Taken)),
     }
+}
+
+// Whether the database has no table, index or view.
+fn is_blank<S: Alter>(connection: &Connection<S>) -> bool {
+    let schema = connection.schema();
+    schema.tables.is_empty() && schema.indexes.is_empty() && schema.views.is_empty()
 }
 
 /// A new store in the file as [`create`] makes it, in which `last` is this client's incarnation: the next one is one more.
@@ -78,7 +87,7 @@ fn put_incarnation<S: Alter>(
     }
 }
 
-/// The store that is in the file. Makes no file. `NoStore` if the file has other tables.
+/// The store that is in the file. Makes no file. `NoStore` if the file lacks a store's tables.
 pub fn adopt(rt: &HostRuntime, path: &str) -> Result<FiledStore, FileError> {
     let connection = open_old(rt, path)?;
     match Store::adopt(rt.alloc(), connection) {

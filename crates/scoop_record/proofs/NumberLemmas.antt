@@ -13,8 +13,10 @@ use Rattle.sqlite_rules.proofs.ListLemmas.{all_from, all_has, has_found}
 use Rattle.sqlite.specs.Effect.{Database}
 use Rattle.scoop_handler.specs.State.{HandlerState}
 use Rattle.scoop_keeper.specs.Keeper.{Stored, Missing, Holds, Damaged, stored_of, IsTheOne}
-use Rattle.scoop_record.specs.Tables.{first_schema, record_schema, value_at, Makes}
-use Rattle.scoop_record.specs.Migrate.{FirstHas, first_handlers_in, IsFirstRowOf, IsFirstRow, IsRising, keyed_value, IsKeyBelow, IsNumber, AreNumbers}
+use Rattle.scoop_record.specs.Among.{handlers_tree}
+use Rattle.scoop_record.specs.Store.{IsOfVersionOne}
+use Rattle.scoop_record.specs.Tables.{value_at}
+use Rattle.scoop_record.specs.Migrate.{FirstHas, IsFirstRowOf, IsFirstRow, IsRising, keyed_value, IsKeyBelow, IsNumber, AreNumbers}
 use Rattle.scoop_record.specs.Migrate.{AreNumbered, AreHandlers, HasOtherNumber, IsBadRow, IsFirstBad, IsLowestBad}
 use Rattle.scoop_keeper.proofs.Lists.{all_last, all_more, all_take}
 use Rattle.scoop_record.proofs.RowLemmas.{find_own}
@@ -136,86 +138,78 @@ damaged_first handler value v is none = record { there = record { some = some; n
     only (Holds s) h = absurd (refuses s h)
     only Damaged h = refl
 
-module _ (db : Database) (rows : List Row) (same : IsPermutation (map keyed_value (db.trees 1)) rows) where
-  listed : (r : Row) → Has (db.trees 1) r → Has rows (keyed_value r)
-  listed r here = has_permuted (map keyed_value (db.trees 1)) rows (keyed_value r) same (has_mapped keyed_value (db.trees 1) r here)
+-- the rows of the images, and as they were listed
+module _ (images rows : List Row) (same : IsPermutation (map keyed_value images) rows) where
+  listed : (r : Row) → Has images r → Has rows (keyed_value r)
+  listed r here = has_permuted (map keyed_value images) rows (keyed_value r) same (has_mapped keyed_value images r here)
 
-  key_of : AreNumbered rows → (n : ℕ) (r : Row) → find (has_rowid (pos n)) (db.trees 1) ≡ Some r → rowid r ≡ Int (pos n)
+  key_of : AreNumbered rows → (n : ℕ) (r : Row) → find (has_rowid (pos n)) images ≡ Some r → rowid r ≡ Int (pos n)
   key_of numbered n r some =
-      let stands = has_found (has_rowid (pos n)) (db.trees 1) r some in
+      let stands = has_found (has_rowid (pos n)) images r some in
       let own = all_has (λ (x : Row). IsNumber (column x 0)) rows (keyed_value r) numbered.known (listed r stands.0) in
       let key : rowid r ≡ Int (pos own.number) = own.is in
       key ∙ int_key n (pos own.number) (rw key at stands.1)
 
-  bad_there : (handler : ℕ) → IsFirstBad rows handler → IsTheOne (first_handlers_in db.trees handler) Damaged
-  bad_there handler bad = go (find (has_rowid (pos handler)) (db.trees 1)) refl
+  bad_there : (handler : ℕ) → IsFirstBad rows handler → IsTheOne (FirstHas handler (value_at images handler)) Damaged
+  bad_there handler bad = go (find (has_rowid (pos handler)) images) refl
     where
       there : Has rows bad.row
       there = subst (λ (xs : List Row). Has xs bad.row) (sym bad.split) (has_middle bad.before bad.after bad.row)
 
-      go : (found : Option Row) → find (has_rowid (pos handler)) (db.trees 1) ≡ found → IsTheOne (first_handlers_in db.trees handler) Damaged
+      go : (found : Option Row) → find (has_rowid (pos handler)) images ≡ found → IsTheOne (FirstHas handler (value_at images handler)) Damaged
       go None none =
-          let source = has_source keyed_value (db.trees 1) bad.row
-          (has_permuted rows (map keyed_value (db.trees 1)) bad.row (IsPermutation-sym (map keyed_value (db.trees 1)) rows same) there) in
+          let source = has_source keyed_value images bad.row
+          (has_permuted rows (map keyed_value images) bad.row (IsPermutation-sym (map keyed_value images) rows same) there) in
           let key : rowid source.0 ≡ Int (pos handler) = ap (λ (x : Row). column x 0) (sym source.2) ∙ bad.bad.key in
-          absurd (none_has (has_rowid (pos handler)) (db.trees 1) source.0 none source.1 (rw key (find_own handler)))
+          absurd (none_has (has_rowid (pos handler)) images source.0 none source.1 (rw key (find_own handler)))
       go (Some r) some =
-          let stands = has_found (has_rowid (pos handler)) (db.trees 1) r some in
+          let stands = has_found (has_rowid (pos handler)) images r some in
           let one : keyed_value r ≡ bad.row = one_row rows (keyed_value r) bad.row handler bad.numbered.rising (listed r stands.0) there
           (key_of bad.numbered handler r some) bad.bad.key in
-          let value : value_at (db.trees 1) handler ≡ Some (column bad.row 1) = ap (option_map (λ (x : Row). column x 2)) some
+          let value : value_at images handler ≡ Some (column bad.row 1) = ap (option_map (λ (x : Row). column x 2)) some
           ∙ ap (λ (x : Row). Some (column x 1)) one in
-          damaged_first handler (value_at (db.trees 1) handler) (column bad.row 1) value bad.bad.none
+          damaged_first handler (value_at images handler) (column bad.row 1) value bad.bad.none
 
   good_below : (handler : ℕ) → IsFirstBad rows handler → (lower : ℕ) → lower < handler → (found : Option HandlerState)
-      × IsTheOne (first_handlers_in db.trees lower) (stored_of found)
-  good_below handler bad lower lt = go (find (has_rowid (pos lower)) (db.trees 1)) refl
+      × IsTheOne (FirstHas lower (value_at images lower)) (stored_of found)
+  good_below handler bad lower lt = go (find (has_rowid (pos lower)) images) refl
     where
-      go : (found : Option Row) → find (has_rowid (pos lower)) (db.trees 1) ≡ found → (found : Option HandlerState)
-          × IsTheOne (first_handlers_in db.trees lower) (stored_of found)
-      go None none = (None, missing_one lower (value_at (db.trees 1) lower) (ap (option_map (λ (x : Row). column x 2)) none))
+      go : (found : Option Row) → find (has_rowid (pos lower)) images ≡ found → (found : Option HandlerState)
+          × IsTheOne (FirstHas lower (value_at images lower)) (stored_of found)
+      go None none = (None, missing_one lower (value_at images lower) (ap (option_map (λ (x : Row). column x 2)) none))
       go (Some r) some =
-          let stands = has_found (has_rowid (pos lower)) (db.trees 1) r some in
+          let stands = has_found (has_rowid (pos lower)) images r some in
           let here : Has (bad.before ++ bad.row ∷ bad.after) (keyed_value r) =
           subst (λ (xs : List Row). Has xs (keyed_value r)) bad.split (listed r stands.0) in
           let earlier = comes_before bad.before bad.after bad.row (keyed_value r) lower handler
           (subst (IsAscending IsKeyBelow) bad.split bad.numbered.rising) here (key_of bad.numbered lower r some) bad.bad.key lt in
           let it = state_of_row bad.before bad.states bad.read (keyed_value r) earlier in
-          (Some it.0, (held_found lower (db.trees 1) r it.0 some it.2).1)
+          (Some it.0, (held_found lower images r it.0 some it.2).1)
 
-  listed_numbers : AreHandlers (db.trees 1) → AreNumbers rows
+  listed_numbers : AreHandlers images → AreNumbers rows
   listed_numbers all = all_from (λ (x : Row). IsNumber (column x 0)) rows (λ row here.
-      let source = has_source keyed_value (db.trees 1) row (has_permuted rows (map keyed_value (db.trees 1)) row
-      (IsPermutation-sym (map keyed_value (db.trees 1)) rows same) here) in
-      subst (λ (x : Row). IsNumber (column x 0)) (sym source.2) (all_has (λ (x : Row). IsNumber (rowid x)) (db.trees 1) source.0 all source.1))
+      let source = has_source keyed_value images row (has_permuted rows (map keyed_value images) row
+      (IsPermutation-sym (map keyed_value images) rows same) here) in
+      subst (λ (x : Row). IsNumber (column x 0)) (sym source.2) (all_has (λ (x : Row). IsNumber (rowid x)) images source.0 all source.1))
 
-  all_numbers : AreNumbered rows → AreHandlers (db.trees 1)
-  all_numbers numbered = all_from (λ (row : Row). IsNumber (rowid row)) (db.trees 1)
+  all_numbers : AreNumbered rows → AreHandlers images
+  all_numbers numbered = all_from (λ (row : Row). IsNumber (rowid row)) images
       (λ r here. all_has (λ (x : Row). IsNumber (column x 0)) rows (keyed_value r) numbered.known (listed r here))
 
--- the images were listed once the fourth table was made
-pub lowest_bad : (old db : Database) (rows : List Row) (handler : ℕ) → Makes old db first_schema record_schema 3
-    → IsPermutation (map keyed_value (db.trees 1)) rows → old.schema ≡ first_schema
-    → value_at (old.trees 0) 1 ≡ Some (Int (pos 1)) → IsFirstBad rows handler → IsLowestBad old handler
-lowest_bad old db rows handler makes same was version bad =
-    let images : db.trees 1 ≡ old.trees 1 = makes.others.1.0 in
-    record {
-      schema = was;
-      version = version;
-      numbers = subst AreHandlers images (all_numbers db rows same bad.numbered);
-      bad = subst (λ (xs : List Row). IsTheOne (FirstHas handler (value_at xs handler)) Damaged) images (bad_there db rows same handler bad);
-      below = λ lower lt. subst (λ (xs : List Row). (found : Option HandlerState) × IsTheOne (FirstHas lower (value_at xs lower)) (stored_of found)) images
-          (good_below db rows same handler bad lower lt);
-    }
+-- the first bad row that was listed is that of the lowest handler
+pub lowest_bad : (old : Database) (rows : List Row) (handler : ℕ) → IsPermutation (map keyed_value (old.trees (handlers_tree old.schema))) rows
+    → IsOfVersionOne old → IsFirstBad rows handler → IsLowestBad old handler
+lowest_bad old rows handler same first bad = record {
+  first = first;
+  numbers = all_numbers (old.trees (handlers_tree old.schema)) rows same bad.numbered;
+  bad = bad_there (old.trees (handlers_tree old.schema)) rows same handler bad;
+  below = good_below (old.trees (handlers_tree old.schema)) rows same handler bad;
+}
 
 -- a number of the listed rows that is no handler's stands in the table
-pub other_number : (old db : Database) (rows : List Row) → Makes old db first_schema record_schema 3 → IsPermutation (map keyed_value (db.trees 1)) rows
-    → old.schema ≡ first_schema
-    → value_at (old.trees 0) 1 ≡ Some (Int (pos 1)) → (AreNumbers rows → ⊥) → HasOtherNumber old
-other_number old db rows makes same was version wrong =
-    let images : db.trees 1 ≡ old.trees 1 = makes.others.1.0 in
-    record {
-      schema = was;
-      version = version;
-      numbers = λ all. wrong (listed_numbers db rows same (subst AreHandlers (sym images) all));
-    }
+pub other_number : (old : Database) (rows : List Row) → IsPermutation (map keyed_value (old.trees (handlers_tree old.schema))) rows → IsOfVersionOne old
+    → (AreNumbers rows → ⊥) → HasOtherNumber old
+other_number old rows same first wrong = record {
+  first = first;
+  numbers = λ all. wrong (listed_numbers (old.trees (handlers_tree old.schema)) rows same all);
+}

@@ -1,4 +1,5 @@
--- Queries on a connection: what a look up by key shows, and that a query commits nothing.
+-- Queries on a connection: what a look up by key shows, and that a statement in a transaction commits nothing.
+use Rattle.std.proofs.lemmas.Bool.{cases_Bool}
 use Rattle.std.proofs.Common.{cond, IsTrue, IfOk, IfErr, arith, ◌≡◌, ◌≤◌, length, ◌⊎◌, inl, inr, ℕ, nat_le, ◌^◌, pos, List, []}
 use Rattle.std.proofs.Common.{◌∷◌, map, false, find, Option, option_map, Some, None, Ok, Err, Result, OnOk, refl, ap, ◌∙◌}
 use Rattle.std.specs.Option.{option_to_list}
@@ -15,7 +16,8 @@ use Rattle.sqlite_trees.specs.Tree.{Trees}
 use Rattle.sqlite_schema.specs.declared.command.Returning.{Returning}
 use Rattle.sqlite_resolve.specs.declared.compiled.Compiled.{Compiled}
 use Rattle.sqlite.specs.State.{State, HasCleanDisk, Survives, IsRolledBack, ShowsRows, FailsToShow, RunsCommand}
-use Rattle.sqlite.specs.State.{Shown, FailsToQuery, IsTooLate, IsNotRun, IsUnchanged, KeepsCommit}
+use Rattle.sqlite.specs.State.{Shown, FailsToQuery, IsTooLate, IsNotRun, IsUnchanged, KeepsCommit, ExecutesInside}
+use Rattle.sqlite.proofs.InsideLemmas.{inside_keeps}
 use Rattle.sqlite.proofs.Callers.{IsPlain, command_of, reads_as}
 use Rattle.scoop_record.specs.Tables.{value_at}
 use Rattle.scoop_record.proofs.TableLemmas.{query_of, looked_up}
@@ -115,3 +117,11 @@ query_keeps sql params old new (Err e) same fails = fails_keep sql params old ne
 pub if_later : {V E : Type 0} (r : Result V E) (Given : Type 0) (P : V → Type 0) → (Given → IfOk r P) → IfOk r (λ v. Given → P v)
 if_later (Ok v) Given P h = h
 if_later (Err e) Given P h = tt
+
+-- a text that runs in a transaction commits nothing
+pub executes_keep : (sql : List ℕ) (params : Row) (old new : State) (r : Result ℕ Error) → (old.in_transaction ≡ false → new ≡ old)
+    → (IsTrue old.in_transaction → ExecutesInside 0 sql params old new r) → KeepsCommit old new
+executes_keep sql params old new r ended runs = elim (cases_Bool old.in_transaction) [
+  | inl inside ↦ inside_keeps old new 0 false sql params r (runs inside)
+  | inr outside ↦ rw (ended outside) (record { was_open = λ live. live; committed = λ live. refl })
+]

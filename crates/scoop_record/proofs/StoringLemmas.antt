@@ -1,11 +1,13 @@
 -- States that are stored one after the other, in one transaction.
-use Rattle.std.proofs.Common.{List, [], ◌∷◌, ◌++◌, refl, ◌∙◌, inl, arith, true, IsTrue}
+use Rattle.std.proofs.Common.{List, [], ◌∷◌, ◌++◌, refl, sym, subst, inl, arith, true, IsTrue}
 use Rattle.sqlite.specs.State.{State, HasCleanDisk, KeepsCommit, Shows, Survives}
 use Rattle.sqlite.proofs.StateLemmas.{survives_then}
 use Rattle.scoop_handler.specs.State.{HandlerState, IsState}
 use Rattle.scoop_record.specs.Range.{InRange}
 use Rattle.scoop_record.specs.Store.{IsSound, IsRecord, IsInsideAfter, Saves, SavesAll}
-use Rattle.scoop_record.proofs.MigrateLemmas.{saves_push, schema_stays}
+use Rattle.scoop_record.specs.Among.{HasRecordTables}
+use Rattle.scoop_record.proofs.MigrateLemmas.{saves_push}
+use Rattle.scoop_record.proofs.among.MigratedRows.{schema_stays}
 use Rattle.scoop_record.proofs.StatementLemmas.{clean_before, keeps_then}
 
 -- the connection after these states were stored
@@ -35,7 +37,8 @@ sound_before : (old new : State) → (HasCleanDisk new → KeepsCommit old new) 
 sound_before old new kept survives sound = (clean_before old new _ survives sound.0, (kept sound.0).was_open sound.1)
 
 pub still_record : (old new : State) (all : List HandlerState) → HasStored old new all → (IsSound old → IsRecord old.now) → IsSound new → IsRecord new.now
-still_record old new all h was sound = schema_stays old.now new.now all (h.saved sound) ∙ was (sound_before old new h.kept h.survives sound)
+still_record old new all h was sound =
+    subst HasRecordTables (sym (schema_stays old.now new.now all (h.saved sound))) (was (sound_before old new h.kept h.survives sound))
 
 inside_after : (s : State) (all : List HandlerState) (it : HandlerState) → IsTrue s.is_open × IsTrue s.in_transaction → IsInsideAfter (all ++ it ∷ []) s
 inside_after s [] it h = h

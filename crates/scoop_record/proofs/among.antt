@@ -2,6 +2,7 @@
 -- each lemma opens a few functions of the resolver and rewrites what the premises give (specs/Among.antt).
 pub mod Alone
 pub mod Apart
+pub mod Created
 pub mod Creating
 pub mod Effects
 pub mod Examples
@@ -9,6 +10,8 @@ pub mod Listing
 pub mod Lists
 pub mod Lowering
 pub mod Making
+pub mod MigratedRows
+pub mod MigratedTables
 pub mod Others
 pub mod Putting
 pub mod Querying

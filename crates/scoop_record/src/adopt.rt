@@ -9,7 +9,7 @@ ghost use Rattle.scoop_record.specs.Migrate.{Migrates, Adopts, IsLowestBad, IsWr
 ghost use Rattle.scoop_record.specs.Store.{IsSound, IsReady, IsIdle, IsOpenOnOk, IsOfVersionOne, IsLaidOut};
 
 use crate::migrate::migrate;
-use crate::schema::{is_first_schema, is_record_schema};
+use crate::schema::{has_room_for_pending, is_first_schema, is_record_schema};
 use crate::version::version;
 use scoop_keeper::KeeperError;
 use scoop_message::HandlerId;
@@ -44,7 +44,7 @@ fn take_tables<S: Alter>(alloc: Global, conn: &mut Connection<S>) -> Result<(), 
     if found == 2 && is_record_schema(conn.schema()) {
         return Ok(());
     }
-    if found == 1 && is_first_schema(conn.schema()) {
+    if found == 1 && is_first_schema(conn.schema()) && has_room_for_pending(conn.schema()) {
         return migrate(alloc, conn);
     }
     Err(KeeperError::Refused)
@@ -56,7 +56,8 @@ fn take_tables<S: Alter>(alloc: Global, conn: &mut Connection<S>) -> Result<(), 
 /// Refused, with the database as it was:
 /// - `WrongSchema` if there is no version or another one, or a number in a table of version 1 is no handler's;
 /// - `BadImage` for the lowest handler whose image of version 1 is no state's;
-/// - `Refused` if the connection is in a transaction, the tables are not those of their version, or a text is refused;
+/// - `Refused` if the connection is in a transaction, the tables are not those of their version, version 1 has no room
+///   for the table that version 2 adds, or a text is refused;
 /// - `OutOfMemory`.
 pub fn adopt_tables<S: Alter>(alloc: Global, conn: &mut Connection<S>) -> Result<(), KeeperError>
     ensures mode { conn.new.in_transaction ≡ conn.old.in_transaction }

@@ -163,6 +163,7 @@ pub fn create_tables<S: Alter>(conn: &mut Connection<S>) -> Result<(), KeeperErr
     ensures is_open { IsOpenOnOk result (state S.Store conn.new) (state S.Store conn.new) }
     ensures made { IsSound (state S.Store conn.new) → OnOk result (IsNewRecord (state S.Store conn.old).now (state S.Store conn.new).now 2) }
     ensures room { OnOk result (HasRoom (state S.Store conn.old).now.schema record_names) }
+    ensures other { ¬ HasRoom (state S.Store conn.old).now.schema record_names → (result ≡ Err KeeperError.Refused) × (conn.new ≡ conn.old) }
     ensures taken { (name : List ℕ) → Has record_names name → ¬ IsFree (state S.Store conn.old).now.schema name
         → (result ≡ Err KeeperError.Refused) × (conn.new ≡ conn.old) }
     ensures inside { IsTrue conn.old.in_transaction → (result ≡ Err KeeperError.Refused) × (conn.new ≡ conn.old) }

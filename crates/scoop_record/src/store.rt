@@ -56,6 +56,7 @@ impl<S: Alter + Drop> Store<S> {
         ensures made { IfOk result (λ store. IsSound (state S.Store store) → IsNewRecord (state S.Store conn).now (state S.Store store).now 2) }
         ensures is_open { IfOk result (λ store. HasCleanDisk (state S.Store store) → IsTrue (state S.Store store).is_open) }
         ensures room { OnOk result (HasRoom (state S.Store conn).now.schema record_names) }
+        ensures other { ¬ HasRoom (state S.Store conn).now.schema record_names → result ≡ Err KeeperError.Refused }
         ensures taken { (name : List ℕ) → Has record_names name → ¬ IsFree (state S.Store conn).now.schema name → result ≡ Err KeeperError.Refused }
         ensures inside { IsTrue conn.in_transaction → result ≡ Err KeeperError.Refused }
         ensures sound { IfOk result (λ store. IsSound (state S.Store store) → IsSound (state S.Store conn)) }

@@ -22,7 +22,7 @@ fn rows_of_meta<S: Alter>(tx: &mut Transaction<'_, S>) -> Result<Vec<Row>, Error
     ensures same_reference { tx.new.conn.ghost_name ≡ tx.old.conn.ghost_name }
     ensures is_open { IsOpenOnOk result (state S.Store tx.old.conn.now) (state S.Store tx.new.conn.now) }
     ensures version { HasCleanDisk (state S.Store tx.new.conn.now) → IfOk result (λ rows. IsLaidOut (state S.Store tx.old.conn.now).now
-        → length rows.items ≤ 1 → rows.items ≡ map (λ v. v ∷ []) (option_to_list 
+        → length rows.items ≤ 1 → rows.items ≡ map (λ v. v ∷ []) (option_to_list
         (value_at ((state S.Store tx.old.conn.now).now.trees (meta_tree (state S.Store tx.old.conn.now).now.schema)) 1))) }
     ensures kept { HasCleanDisk (state S.Store tx.new.conn.now) → IsTrue (state S.Store tx.old.conn.now).in_transaction
         → KeepsCommit (state S.Store tx.old.conn.now) (state S.Store tx.new.conn.now) }

@@ -16,7 +16,7 @@ pub struct Contents {
 
 /// The numbers in the store's tables. Tables of version 1 become those of version 2 first.
 ///
-/// Refused: `NoStore` if it has other tables, what `adopt_tables` refuses, and `out of memory`.
+/// Refused: `NoStore` if it lacks a store's tables, what `adopt_tables` refuses, and `out of memory`.
 pub fn contents_of<S: Alter>(
     alloc: Global,
     connection: &mut Connection<S>,

@@ -1,7 +1,8 @@
 -- The effects of the statements on a connection, whose database may have other tables.
 use Rattle.std.proofs.lemmas.List.Sorted.{IsPermutation-map}
 use Rattle.std.proofs.lemmas.Bool.{cases_Bool}
-use Rattle.std.proofs.Common.{IsPermutation, IsErr, IsTrue, ◌≡◌, ◌≤◌, length, ℕ, nat_le, ◌^◌, pos, List, [], ◌∷◌, codes, map, false, true, Ok, Err, Result, OnOk, Some, None, inl, inr, refl, sym, ap, ◌∙◌, subst}
+use Rattle.std.proofs.lemmas.Bool.Decides.{nat_tests}
+use Rattle.std.proofs.Common.{IsPermutation, IsErr, IsTrue, ◌≡◌, ◌<◌, ◌≤◌, arith, length, ℕ, nat_le, ◌^◌, pos, List, [], ◌∷◌, codes, map, false, true, Ok, Err, Result, OnOk, Some, None, inl, inr, refl, sym, ap, ◌∙◌, subst}
 use Rattle.std.specs.Option.{option_to_list}
 use Rattle.sqlite_value.specs.declared.value.Value.{Value}
 use Rattle.sqlite_value.specs.declared.value.Value.TheVariants.{Null, Int}
@@ -36,6 +37,10 @@ use Rattle.scoop_record.proofs.among.Creating.{Creates}
 use Rattle.scoop_record.proofs.among.Putting.{does_put_among}
 use Rattle.scoop_record.proofs.among.Standing.{lacks_kept}
 use Rattle.scoop_record.proofs.among.Version.{first_row, raises, does_first_among, does_raise_among}
+
+-- the tree of a table is none of the overlay's
+pub low_tree : (tree : ℕ) → tree < 2 ^ 31 → nat_le (2 ^ 31) tree ≡ false
+low_tree tree low = grind (arith, nat_tests)
 
 -- a plain query changes nothing
 pub still_among : (s : Schema) (sql : List ℕ) (params : Row) (old new : State) (rows : List Row) → old.now.schema ≡ s → IsPlain (understood s sql)

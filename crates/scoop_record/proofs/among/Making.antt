@@ -8,9 +8,10 @@ use Rattle.sqlite_rules.proofs.ListLemmas.{has_either}
 use Rattle.sqlite_catalog.specs.Change.{created, next_tree, past_views}
 use Rattle.sqlite_catalog.proofs.StepLemmas.{table_below, index_below, same_itself}
 use Rattle.sqlite_catalog.proofs.ListFacts.{most_from, most_below}
+use Rattle.sqlite.specs.Kind.{Kind}
 use Rattle.sqlite.specs.Table.{Table}
 use Rattle.sqlite.specs.Schema.{Schema}
-use Rattle.scoop_record.specs.Tables.{meta, handlers, clients, pending}
+use Rattle.scoop_record.specs.Tables.{keyed_table, meta, handlers, clients, pending}
 use Rattle.scoop_record.specs.Among.{IsFree, HasTable, HasRoom, HasRecordTables, is_unnamed, tree_of, record_names, with_record}
 use Rattle.scoop_record.proofs.among.Standing.{placed_at, lacks_kept}
 use Rattle.scoop_record.proofs.among.Alone.{IsBare, indexes_same, below_kept, free_kept, unnamed_kept, has_kept_table, has_created_table}
@@ -72,32 +73,58 @@ trees_apart s t u one two differ same =
     let found : Some u ≡ Some t = sym two.stands.found ∙ subst (λ tree. ◌≡◌ {A = Option Table} (find (λ (v : Table). v.tree == tree) s.tables) (Some t)) same one.stands.found in
     differ (cc)
 
-pub record_made : (s : Schema) → HasRoom s record_names → HasRecordTables (with_record s)
+-- the four tables stand where they were made
+pub record IsMade (s : Schema) : Type 0 where
+  pub has_meta : HasTable (with_record s) (meta (next_tree s))
+  pub has_handlers : HasTable (with_record s) (handlers (next_tree (created s (meta 0))))
+  pub has_clients : HasTable (with_record s) (clients (next_tree (created (created s (meta 0)) (handlers 0))))
+  pub has_pending : HasTable (with_record s) (pending (next_tree (created (created (created s (meta 0)) (handlers 0)) (clients 0))))
+
+pub bare_table : (name key column : List ℕ) (kind : Kind) → IsBare (keyed_table name 0 key column kind)
+bare_table name key column kind = record { uniques = refl; references = refl }
+
+-- room after a table of the record is made
+pub room_after_meta : (s : Schema) → HasRoom s record_names → HasRoom (created s (meta 0)) (codes "handlers" ∷ codes "clients" ∷ codes "pending" ∷ [])
 unfolding same_name
-record_made s h =
-    let bare_meta : IsBare (meta 0) = record { uniques = refl; references = refl } in
-    let bare_handlers : IsBare (handlers 0) = record { uniques = refl; references = refl } in
-    let bare_clients : IsBare (clients 0) = record { uniques = refl; references = refl } in
-    let bare_pending : IsBare (pending 0) = record { uniques = refl; references = refl } in
+room_after_meta s = room_kept s (meta 0) (codes "handlers" ∷ codes "clients" ∷ codes "pending" ∷ []) (bare_table _ _ _ _) refl (refl, (refl, (refl, tt)))
+
+pub room_after_handlers : (s : Schema) → HasRoom s (codes "handlers" ∷ codes "clients" ∷ codes "pending" ∷ [])
+    → HasRoom (created s (handlers 0)) (codes "clients" ∷ codes "pending" ∷ [])
+unfolding same_name
+room_after_handlers s = room_kept s (handlers 0) (codes "clients" ∷ codes "pending" ∷ []) (bare_table _ _ _ _) refl (refl, (refl, tt))
+
+pub room_after_clients : (s : Schema) → HasRoom s (codes "clients" ∷ codes "pending" ∷ []) → HasRoom (created s (clients 0)) (codes "pending" ∷ [])
+unfolding same_name
+room_after_clients s = room_kept s (clients 0) (codes "pending" ∷ []) (bare_table _ _ _ _) refl (refl, tt)
+
+pub made_in_turn : (s : Schema) → HasRoom s record_names → IsMade s
+made_in_turn s h =
     let a = created s (meta 0) in
     let b = created a (handlers 0) in
     let c = created b (clients 0) in
-    let d = created c (pending 0) in
-    let in_a = room_kept s (meta 0) (codes "handlers" ∷ codes "clients" ∷ codes "pending" ∷ []) bare_meta refl (refl, (refl, (refl, tt))) h in
-    let in_b = room_kept a (handlers 0) (codes "clients" ∷ codes "pending" ∷ []) bare_handlers refl (refl, (refl, tt)) in_a in
-    let in_c = room_kept b (clients 0) (codes "pending" ∷ []) bare_clients refl (refl, tt) in_b in
-    let meta_a = made_in_room s (meta 0) _ bare_meta h in
-    let handlers_b = made_in_room a (handlers 0) _ bare_handlers in_a in
-    let clients_c = made_in_room b (clients 0) _ bare_clients in_b in
-    let pending_d = made_in_room c (pending 0) _ bare_pending in_c in
-    let meta_d : HasTable d (meta (next_tree s)) = has_kept_table c _ (pending 0) bare_pending (has_kept_table b _ (clients 0) bare_clients (has_kept_table a _ (handlers 0) bare_handlers meta_a)) in
-    let handlers_d : HasTable d (handlers (next_tree a)) = has_kept_table c _ (pending 0) bare_pending (has_kept_table b _ (clients 0) bare_clients handlers_b) in
-    let clients_d : HasTable d (clients (next_tree b)) = has_kept_table c _ (pending 0) bare_pending clients_c in
+    let in_a = room_after_meta s h in
+    let in_b = room_after_handlers a in_a in
+    let in_c = room_after_clients b in_b in
+    let meta_a = made_in_room s (meta 0) _ (bare_table _ _ _ _) h in
+    let handlers_b = made_in_room a (handlers 0) _ (bare_table _ _ _ _) in_a in
+    let clients_c = made_in_room b (clients 0) _ (bare_table _ _ _ _) in_b in
+    let meta_b = has_kept_table a _ (handlers 0) (bare_table _ _ _ _) meta_a in
+    record {
+      has_meta = has_kept_table c _ (pending 0) (bare_table _ _ _ _) (has_kept_table b _ (clients 0) (bare_table _ _ _ _) meta_b);
+      has_handlers = has_kept_table c _ (pending 0) (bare_table _ _ _ _) (has_kept_table b _ (clients 0) (bare_table _ _ _ _) handlers_b);
+      has_clients = has_kept_table c _ (pending 0) (bare_table _ _ _ _) clients_c;
+      has_pending = made_in_room c (pending 0) _ (bare_table _ _ _ _) in_c;
+    }
+
+pub record_made : (s : Schema) → HasRoom s record_names → HasRecordTables (with_record s)
+record_made s h =
+    let d = with_record s in
+    let made = made_in_turn s h in
     record {
       first = record {
-        has_meta = subst (λ tree. HasTable d (meta tree)) (sym (own_tree d (meta (next_tree s)) meta_d)) meta_d;
-        has_handlers = subst (λ tree. HasTable d (handlers tree)) (sym (own_tree d (handlers (next_tree a)) handlers_d)) handlers_d;
-        has_clients = subst (λ tree. HasTable d (clients tree)) (sym (own_tree d (clients (next_tree b)) clients_d)) clients_d;
+        has_meta = subst (λ tree. HasTable d (meta tree)) (sym (own_tree d _ made.has_meta)) made.has_meta;
+        has_handlers = subst (λ tree. HasTable d (handlers tree)) (sym (own_tree d _ made.has_handlers)) made.has_handlers;
+        has_clients = subst (λ tree. HasTable d (clients tree)) (sym (own_tree d _ made.has_clients)) made.has_clients;
       };
-      has_pending = subst (λ tree. HasTable d (pending tree)) (sym (own_tree d (pending (next_tree c)) pending_d)) pending_d;
+      has_pending = subst (λ tree. HasTable d (pending tree)) (sym (own_tree d _ made.has_pending)) made.has_pending;
     }

@@ -33,14 +33,15 @@ put_others own old new tree key value put apart = all_from (λ (t : Table). IsNo
 pub both_others : (old new : Database) (handler : ℕ) (bytes row : List ℕ) → PutsBoth old new handler bytes row
     → KeepsOthers (handlers_tree old.schema ∷ pending_tree old.schema ∷ []) old new
 both_others old new handler bytes row (mid, first, second) =
-    others_then (handlers_tree old.schema ∷ pending_tree old.schema ∷ []) old mid new first.schema
-    (put_others _ old mid _ _ _ first (λ t none. none.0)) (put_others _ mid new _ _ _ second (λ t none. none.1.0))
+    let own : List ℕ = handlers_tree old.schema ∷ pending_tree old.schema ∷ [] in
+    others_then own old mid new first.schema (put_others own old mid _ _ _ first (λ t none. none.0)) (put_others own mid new _ _ _ second (λ t none. none.1.0))
 
 abbrev pub KeepsBeside : Schema → Database → Database → Type 0
 KeepsBeside s old new = KeepsOthers (handlers_tree s ∷ pending_tree s ∷ []) old new
 
 pub all_others : (old new : Database) (all : List HandlerState) → SavesAll old new all → KeepsBeside old.schema old new
-all_others old new [] same = others_stay _ old new same
+all_others old new [] same = others_stay (handlers_tree old.schema ∷ pending_tree old.schema ∷ []) old new same
 all_others old new (s ∷ more) (state, range, mid, (half, first, second), rest) =
     let same : mid.schema ≡ old.schema = second.schema ∙ first.schema in
-    others_then _ old mid new same (both_others old mid _ _ _ (half, first, second)) (subst (λ s. KeepsBeside s mid new) same (all_others mid new more rest))
+    others_then (handlers_tree old.schema ∷ pending_tree old.schema ∷ []) old mid new same (both_others old mid _ _ _ (half, first, second))
+    (subst (λ s. KeepsBeside s mid new) same (all_others mid new more rest))

@@ -1,17 +1,23 @@
-use Rattle.std.proofs.Common.{◌≡◌, Some, pos, subst, sym, ap, arith, ◌∙◌, inr, inl}
+use Rattle.std.proofs.Common.{◌≡◌, Option, Some, pos, [], ◌∷◌, codes, subst, sym, ap, arith, ◌∙◌, inr, inl}
+use Rattle.sqlite_value.specs.declared.value.Value.{Value}
 use Rattle.sqlite.specs.Effect.{Database}
+use Rattle.sqlite.specs.Schema.{Schema}
 use Rattle.sqlite.specs.Held.{state}
 use Rattle.sqlite.proofs.StateLemmas.{survives_then}
 use Rattle.scoop_record.specs.Migrate.{HasOtherNumber, IsLowestBad, Migrates}
-use Rattle.scoop_record.specs.Store.{IsSound, TellsVersion, number_of}
+use Rattle.scoop_record.specs.Store.{IsSound, TellsVersion, version_in}
+use Rattle.scoop_record.specs.Among.{IsFree, HasRoom, HasFirstTables, HasRecordTables, meta_tree}
 use Rattle.scoop_record.proofs.StatementLemmas.{clean_before}
-use Rattle.scoop_record.specs.Tables.{first_schema, record_schema, value_at}
+use Rattle.scoop_record.specs.Tables.{value_at}
 use Rattle.scoop_record.proofs.StoredLemmas.{version_stands}
 use Rattle.std.proofs.lemmas.Int.{ints}
 use Rattle.scoop_record.proofs.adopt.take_tables.Goals as goal
 
-pub returns-then-is_first_schema-clause-survives : goal.returns-then-is_first_schema-clause-survives
-returns-then-is_first_schema-clause-survives g c =
+abbrev version_row : Database → Option Value
+version_row db = value_at (db.trees (meta_tree db.schema)) 1
+
+pub returns-then-has_room_for_pending-clause-survives : goal.returns-then-has_room_for_pending-clause-survives
+returns-then-has_room_for_pending-clause-survives g c =
     let before = state g.S.Store c.args.conn.now in
     let read = state g.S.Store c.version.new.conn in
     let after = state g.S.Store c.migrate.new.conn in
@@ -27,28 +33,27 @@ unfolding TellsVersion
 migrate-requires-clause-first g c sound =
     let before = state g.S.Store c.args.conn.now in
     let read = state g.S.Store c.version.new.conn in
-    let has : read.now.schema ≡ first_schema = sym c.schema-then-found-eq1.ensures.value ∙ c.is_first_schema.ensures c.if-is_first_schema.true in
+    let has = subst (λ (s : Schema). HasFirstTables s × IsFree s (codes "pending")) c.schema-then-found-eq1.ensures.value
+    (c.is_first_schema.ensures c.if-is_first_schema.true) in
+    let room = subst (λ (s : Schema). HasRoom s (codes "pending" ∷ [])) c.schema-then-is_first_schema.ensures.value
+    (c.has_room_for_pending.ensures.0 c.if-has_room_for_pending.true) in
     let same : read.now ≡ before.now = (c.version.ensures.same sound).0 ∙ sym (c.requires.settled (c.version.ensures.sound sound)) in
-    let told = c.in_ok-found.ensures.version sound.0 (inl (ap (λ (d : Database). d.schema) (sym same) ∙ has)) in
-    let one : c.in-Some.found ≡ pos 1 = grind (arith, ints) in (
-      has,
-      ap (λ (d : Database). value_at (d.trees 0) 1) same
-          ∙ version_stands _ (pos 1) (subst (λ n. Some n ≡ number_of (value_at (before.now.trees 0) 1)) one (rw c.in-Some.is at told)),
-    )
+    let told = c.in_ok-found.ensures.version sound.0 (subst (λ (d : Database). HasFirstTables d.schema) same has.0) in
+    let one : c.in-Some.found ≡ pos 1 = grind (arith, ints) in
+    ((has, ap version_row same ∙ version_stands _ (pos 1) (subst (λ n. Some n ≡ version_in before.now) one (rw c.in-Some.is at told))), room)
 
 pub returns-then-is_record_schema-clause-adopted : goal.returns-then-is_record_schema-clause-adopted
 unfolding TellsVersion
 returns-then-is_record_schema-clause-adopted g c sound =
     let before = state g.S.Store c.args.conn.now in
     let read = state g.S.Store c.version.new.conn in
-    let has : read.now.schema ≡ record_schema = sym c.schema.ensures.value ∙ c.is_record_schema.ensures c.if-is_record_schema.true in
+    let has = subst HasRecordTables c.schema.ensures.value (c.is_record_schema.ensures c.if-is_record_schema.true) in
     let same : read.now ≡ before.now = (c.version.ensures.same sound).0 ∙ sym (c.requires.settled (c.version.ensures.sound sound)) in
-    let told = c.in_ok-found.ensures.version sound.0 (inr (ap (λ (d : Database). d.schema) (sym same) ∙ has)) in
+    let told = c.in_ok-found.ensures.version sound.0 (subst (λ (d : Database). HasFirstTables d.schema) same has.first) in
     let two : c.in-Some.found ≡ pos 2 = grind (arith, ints) in
     record {
-      schema = has;
-      version = ap (λ (d : Database). value_at (d.trees 0) 1) same
-          ∙ version_stands _ (pos 2) (subst (λ n. Some n ≡ number_of (value_at (before.now.trees 0) 1)) two (rw c.in-Some.is at told));
+      sound = has;
+      version = ap version_row same ∙ version_stands _ (pos 2) (subst (λ n. Some n ≡ version_in before.now) two (rw c.in-Some.is at told));
       kept = inl same;
     }
 
@@ -56,18 +61,18 @@ returns-then-is_record_schema-clause-adopted g c sound =
 pub returns-then-is_record_schema-clause-open_behind : goal.returns-then-is_record_schema-clause-open_behind
 unfolding TellsVersion
 returns-then-is_record_schema-clause-open_behind g c first clean =
-    let told = rw first.1 at (rw c.in-Some.is at (c.in_ok-found.ensures.version clean (inl first.0))) in
+    let told = rw first.1 at (rw c.in-Some.is at (c.in_ok-found.ensures.version clean first.0.0)) in
     let two : c.in-Some.found ≡ pos 2 = grind (arith, ints) in
     absurd (grind (arith, ints))
 
-pub returns-then-is_first_schema-clause-bad : goal.returns-then-is_first_schema-clause-bad
-returns-then-is_first_schema-clause-bad g c sound handler is =
+pub returns-then-has_room_for_pending-clause-bad : goal.returns-then-has_room_for_pending-clause-bad
+returns-then-has_room_for_pending-clause-bad g c sound handler is =
     let read = c.migrate.ensures.sound sound in
     let same = (c.version.ensures.same read).0 ∙ sym (c.requires.settled (c.version.ensures.sound read)) in
     subst (λ (d : Database). IsLowestBad d handler.0) same (c.migrate.ensures.bad sound handler is)
 
-pub returns-then-is_first_schema-clause-wrong : goal.returns-then-is_first_schema-clause-wrong
-returns-then-is_first_schema-clause-wrong g c sound is laid =
+pub returns-then-has_room_for_pending-clause-wrong : goal.returns-then-has_room_for_pending-clause-wrong
+returns-then-has_room_for_pending-clause-wrong g c sound is laid =
     let read = c.migrate.ensures.sound sound in
     let same = (c.version.ensures.same read).0 ∙ sym (c.requires.settled (c.version.ensures.sound read)) in
     inr (subst HasOtherNumber same (c.migrate.ensures.wrong sound is))

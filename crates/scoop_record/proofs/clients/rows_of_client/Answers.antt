@@ -1,19 +1,23 @@
-use Rattle.std.proofs.Common.{pos, [], ◌∷◌, refl}
+use Rattle.std.proofs.Common.{codes, pos, [], ◌∷◌, refl}
 use Rattle.sqlite.specs.declared.types.Value.TheVariants.{Int}
 use Rattle.sqlite.specs.Held.{state}
-use Rattle.scoop_record.proofs.StatementLemmas.{ok_then, clean_before, was_open, still, shows, query_keeps}
-use Rattle.scoop_record.proofs.Texts.{select_inc, select_inc_is, select_inc_plain}
+use Rattle.scoop_record.specs.Among.{clients_tree}
+use Rattle.scoop_record.proofs.StatementLemmas.{ok_then, clean_before, was_open, query_keeps}
+use Rattle.scoop_record.proofs.Texts.{select_inc}
+use Rattle.scoop_record.proofs.among.Effects.{still_among, shows_among, low_tree}
+use Rattle.scoop_record.proofs.among.Selecting.{select_inc_is}
 use Rattle.scoop_record.proofs.clients.rows_of_client.Goals as goal
 
 pub returns-clause-rows : goal.returns-clause-rows
 returns-clause-rows g c clean =
     let old = state g.S.Store c.args.tx.now.conn.now in
     let new = state g.S.Store c.query_all.new.self.conn.now in
+    let s = old.now.schema in
     ok_then c.query_all.result _ _ (λ rows shown.
-    let ready = c.requires (clean_before old new _ c.query_all.ensures.survives clean, was_open select_inc _ old new rows.items shown) in (
-      still select_inc _ old new rows.items ready select_inc_plain shown,
-      λ few. shows select_inc 2 c.args.client _ old new rows.items refl ready few
-          select_inc_is select_inc_plain shown,
+    let ready = c.requires (clean_before old new _ c.query_all.ensures.survives clean, was_open select_inc _ old new rows.items shown) in
+    let is = select_inc_is s ready.first.has_clients.at (clients_tree s) ready.first.has_clients.stands in (
+      still_among s select_inc _ old new rows.items refl is.1 shown,
+      λ few. shows_among s select_inc (clients_tree s) c.args.client (codes "inc") old new rows.items (low_tree _ ready.first.has_clients.stands.low) refl few is shown,
     )
     ) (rw c.params-to_sql.ensures at (c.query_all.ensures.ok clean))
 

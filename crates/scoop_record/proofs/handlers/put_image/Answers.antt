@@ -2,8 +2,11 @@ use Rattle.std.proofs.Common.{codes, refl, IsErr, sym, subst}
 use Rattle.sqlite_schema.specs.declared.schema.Kind.TheVariants.{Blob as SqlBlob}
 use Rattle.sqlite.specs.declared.types.Value.TheVariants.{Blob}
 use Rattle.sqlite.specs.Held.{state}
-use Rattle.scoop_record.proofs.StatementLemmas.{clean_before, puts_inside}
-use Rattle.scoop_record.proofs.Texts.{put_image, put_image_is, put_image_plain}
+use Rattle.scoop_record.specs.Among.{handlers_tree}
+use Rattle.scoop_record.proofs.StatementLemmas.{clean_before}
+use Rattle.scoop_record.proofs.Texts.{put_image}
+use Rattle.scoop_record.proofs.among.Effects.{puts_among}
+use Rattle.scoop_record.proofs.among.Upserting.{put_image_is}
 use Rattle.scoop_record.proofs.handlers.put_image.Goals as goal
 
 pub returns-clause-put : goal.returns-clause-put
@@ -11,7 +14,8 @@ returns-clause-put g c clean =
     let old = state g.S.Store c.args.tx.now.conn.now in
     let new = state g.S.Store c.execute.new.self.conn.now in
     let before = clean_before old new _ c.execute.ensures.survives clean in
-    puts_inside put_image (codes "handlers") (codes "h") (codes "image") SqlBlob 1 refl refl put_image_is put_image_plain c.args.handler
-    (Blob c.args.image.now) refl old new c.execute.result before
-    c.requires (λ outside. subst IsErr (sym (c.execute.ensures.ended outside).0) refl)
+    let tree = handlers_tree old.now.schema in
+    puts_among put_image (codes "handlers") (codes "h") (codes "image") SqlBlob tree (λ s at stands. put_image_is s at tree stands)
+    c.args.handler (Blob c.args.image.now) refl old new c.execute.result before (λ sound. (c.requires sound).first.has_handlers)
+    (λ outside. subst IsErr (sym (c.execute.ensures.ended outside).0) refl)
     (rw (c.params-to_sql.ensures, c.params-to_sql-2.ensures) at (c.execute.ensures.runs clean))

@@ -1,19 +1,23 @@
-use Rattle.std.proofs.Common.{pos, [], ◌∷◌, refl}
+use Rattle.std.proofs.Common.{codes, pos, [], ◌∷◌, refl}
 use Rattle.sqlite.specs.declared.types.Value.TheVariants.{Int}
 use Rattle.sqlite.specs.Held.{state}
-use Rattle.scoop_record.proofs.StatementLemmas.{ok_then, clean_before, was_open, still, shows, query_keeps}
-use Rattle.scoop_record.proofs.Texts.{select_entries, select_entries_is, select_entries_plain}
+use Rattle.scoop_record.specs.Among.{pending_tree}
+use Rattle.scoop_record.proofs.StatementLemmas.{ok_then, clean_before, was_open, query_keeps}
+use Rattle.scoop_record.proofs.Texts.{select_entries}
+use Rattle.scoop_record.proofs.among.Effects.{still_among, shows_among, low_tree}
+use Rattle.scoop_record.proofs.among.Selecting.{select_entries_is}
 use Rattle.scoop_record.proofs.handlers.rows_of_pending.Goals as goal
 
 pub returns-clause-rows : goal.returns-clause-rows
 returns-clause-rows g c clean =
     let old = state g.S.Store c.args.tx.now.conn.now in
     let new = state g.S.Store c.query_all.new.self.conn.now in
+    let s = old.now.schema in
     ok_then c.query_all.result _ _ (λ rows shown.
-    let ready = c.requires (clean_before old new _ c.query_all.ensures.survives clean, was_open select_entries _ old new rows.items shown) in (
-      still select_entries _ old new rows.items ready select_entries_plain shown,
-      λ few. shows select_entries 3 c.args.handler _ old new rows.items refl ready
-          few select_entries_is select_entries_plain shown,
+    let ready = c.requires (clean_before old new _ c.query_all.ensures.survives clean, was_open select_entries _ old new rows.items shown) in
+    let is = select_entries_is s ready.has_pending.at (pending_tree s) ready.has_pending.stands in (
+      still_among s select_entries _ old new rows.items refl is.1 shown,
+      λ few. shows_among s select_entries (pending_tree s) c.args.handler (codes "entries") old new rows.items (low_tree _ ready.has_pending.stands.low) refl few is shown,
     )
     ) (rw c.params-to_sql.ensures at (c.query_all.ensures.ok clean))
 
