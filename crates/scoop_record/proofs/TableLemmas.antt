@@ -16,7 +16,6 @@ use Rattle.std.proofs.lemmas.List.Sorted.{length_permutation, IsPermutation-map}
 use Rattle.sqlite_value.specs.declared.value.Value.{Value}
 use Rattle.sqlite_value.specs.declared.value.Value.TheVariants.{Null, Int, Real, Text, Blob}
 use Rattle.sqlite_value.specs.declared.keys.Collation.TheVariants.{Binary}
-use Rattle.sqlite_value.specs.Keys.{ascending}
 use Rattle.sqlite_value.specs.Order.{Row, value_cmp}
 use Rattle.sqlite_value.proofs.OrderLemmas.{value_cmp-Int, value_cmp-Null, value_cmp-apart, value_cmp_total}
 use Rattle.sqlite_trees.specs.Tree.{Trees, has_rowid}
@@ -30,7 +29,6 @@ use Rattle.sqlite_sql.specs.Program.{overlay}
 use Rattle.sqlite_schema.specs.declared.schema.Kind.TheVariants.{Integer}
 use Rattle.sqlite_rules.specs.Cast.{cast}
 use Rattle.sqlite.proofs.Callers.{one_permutation}
-use Rattle.scoop_record.specs.Migrate.{keyed_value}
 use Rattle.scoop_record.proofs.RowLemmas.{found_first, equal_is}
 
 abbrev pub query_of : ℕ → Term → List Term → Query

@@ -4,7 +4,7 @@
 //! [`pending_row`]. In the example `conn` is a connection, and `is_loaded` returns whether it was this state that came.
 //!
 //! ```
-//! // a store makes its tables in a database that has none
+//! // a store makes its tables beside those of the database
 //! let mut store = Store::create(alloc, conn)?;
 //! assert!(rt; store.put_handler(state).is_ok());
 //! assert_eq!(rt; store.next_incarnation(ClientId(7)), Ok(1));

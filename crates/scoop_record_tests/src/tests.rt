@@ -4,6 +4,7 @@ mod acts;
 mod images;
 mod keepers;
 mod numbers;
+mod room;
 mod stopped;
 mod tables;
 

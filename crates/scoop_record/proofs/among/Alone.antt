@@ -1,5 +1,6 @@
 -- The premises of a record's tables after a table is created: the new one is alone, those before it stay alone, and names stay free.
-use Rattle.std.proofs.Common.{◌≡◌, ◌<◌, ◌++◌, ap, sym, subst, arith, List, [], ◌∷◌, ℕ, Bool, true, false, not, cond, ◌==◌, nat_lt, ◌^◌, Option, Some, None, option_map, option_and_then, find, inl, refl}
+use Rattle.std.proofs.Common.{◌≡◌, ◌<◌, ◌++◌, ap, sym, subst, arith, List, [], ◌∷◌, ℕ, Bool, true, false, not, cond, ◌==◌, nat_lt, ◌^◌, Option, Some, None}
+use Rattle.std.proofs.Common.{option_map, option_and_then, find, inl, refl}
 use Rattle.std.specs.List.{list_any, list_all, position_from}
 use Rattle.std.proofs.lemmas.Bool.{and_parts}
 use Rattle.std.proofs.lemmas.Bool.Decides.{nat_tests}
@@ -28,7 +29,8 @@ pub indexes_same : (s : Schema) (u : Table) → u.uniques ≡ [] → (created s 
 indexes_same s u bare = rw bare (append_nil s.indexes)
 
 next_above : (s : Schema) (u : Table) → next_tree s < next_tree (created s u)
-next_above s u = table_below (created s u) (placed_at u (next_tree s)) (has_right s.tables (placed_at u (next_tree s) ∷ []) (placed_at u (next_tree s)) (inl refl))
+next_above s u = table_below (created s u) (placed_at u (next_tree s))
+    (has_right s.tables (placed_at u (next_tree s) ∷ []) (placed_at u (next_tree s)) (inl refl))
 
 still_below : (indexes : List Index) (low high : ℕ) → low < high → list_all (λ (i : Index). nat_lt i.table low) indexes ≡ true
     → list_all (λ (i : Index). nat_lt i.table high) indexes ≡ true
@@ -42,7 +44,8 @@ pub below_kept : (s : Schema) (u : Table) → u.uniques ≡ [] → are_indexes_b
 below_kept s u bare h = subst (λ indexes. list_all (λ (i : Index). nat_lt i.table (next_tree (created s u))) indexes ≡ true) (sym (indexes_same s u bare))
     (still_below s.indexes (next_tree s) (next_tree (created s u)) (next_above s u) h)
 
-none_at : (indexes : List Index) (tree : ℕ) → list_all (λ (i : Index). nat_lt i.table tree) indexes ≡ true → list_any (λ (i : Index). i.table == tree) indexes ≡ false
+none_at : (indexes : List Index) (tree : ℕ) → list_all (λ (i : Index). nat_lt i.table tree) indexes ≡ true
+    → list_any (λ (i : Index). i.table == tree) indexes ≡ false
 none_at [] tree h = refl
 none_at (i ∷ indexes) tree h =
     let both = and_parts (nat_lt i.table tree) (list_all (λ (i : Index). nat_lt i.table tree) indexes) h in
@@ -51,7 +54,8 @@ none_at (i ∷ indexes) tree h =
 
 -- ---- foreign keys
 
-after_then : {A : Type 0} (tree : ℕ) (o : Option A) (key : A → Option ParentKey) → ((a : A) → is_apart tree (key a) ≡ true) → is_apart tree (option_and_then key o) ≡ true
+after_then : {A : Type 0} (tree : ℕ) (o : Option A) (key : A → Option ParentKey) → ((a : A) → is_apart tree (key a) ≡ true)
+    → is_apart tree (option_and_then key o) ≡ true
 after_then tree None key h = refl
 after_then tree (Some a) key h = h a
 
@@ -89,7 +93,8 @@ parent_new tables new ref apart unnamed = go (find (λ (t : Table). same_name t.
         let has = has_found (λ (t : Table). same_name t.name ref.parent) tables x is in
         rw (find_front (λ (t : Table). same_name t.name ref.parent) tables (new ∷ []) x is) (key_apart new.tree x (apart x has.0) ref)
 
-references_so : (P Q : Reference → Bool) → ((r : Reference) → P r ≡ true → Q r ≡ true) → (refs : List Reference) → list_all P refs ≡ true → list_all Q refs ≡ true
+references_so : (P Q : Reference → Bool) → ((r : Reference) → P r ≡ true → Q r ≡ true) → (refs : List Reference) → list_all P refs ≡ true
+    → list_all Q refs ≡ true
 references_so P Q so [] h = refl
 references_so P Q so (r ∷ refs) h = let both = and_parts (P r) (list_all P refs) h in rw (so r both.0, references_so P Q so refs both.1) refl
 
@@ -100,7 +105,8 @@ children_so P Q so (c ∷ children) h =
     let both = and_parts (list_all P c.references) (list_all (λ (child : Table). list_all P child.references) children) h in
     rw (references_so P Q so c.references both.0, children_so P Q so children both.1) refl
 
-with_last : (P : Reference → Bool) (tables : List Table) (new : Table) → new.references ≡ [] → list_all (λ (child : Table). list_all P child.references) tables ≡ true
+with_last : (P : Reference → Bool) (tables : List Table) (new : Table) → new.references ≡ []
+    → list_all (λ (child : Table). list_all P child.references) tables ≡ true
     → list_all (λ (child : Table). list_all P child.references) (tables ++ new ∷ []) ≡ true
 with_last P tables new bare h = all_last (λ (child : Table). list_all P child.references) tables new h (ap (list_all P) bare)
 
@@ -120,7 +126,8 @@ alone_kept s t u bare low h = record {
 }
 
 -- a table that is created is alone
-pub alone_created : (s : Schema) (u : Table) → IsBare u → are_indexes_below s ≡ true → is_unnamed s u.name ≡ true → IsAlone (created s u) (placed_at u (next_tree s))
+pub alone_created : (s : Schema) (u : Table) → IsBare u → are_indexes_below s ≡ true → is_unnamed s u.name ≡ true
+    → IsAlone (created s u) (placed_at u (next_tree s))
 alone_created s u bare below unnamed = record {
   unindexed = subst (λ indexes. list_any (λ (i : Index). i.table == next_tree s) indexes ≡ false) (sym (indexes_same s u bare.uniques))
       (none_at s.indexes (next_tree s) below);

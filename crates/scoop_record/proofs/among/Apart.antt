@@ -1,5 +1,5 @@
 -- A record's tables have four different trees, so a value that is put in one leaves the other three.
-use Rattle.std.proofs.Common.{◌≡◌, ◌≢◌, ◌==◌, ap, sym, arith, ℕ, unwrap_or, slice_get}
+use Rattle.std.proofs.Common.{◌≡◌, ◌≢◌, ◌==◌, ap, arith, ℕ, unwrap_or, slice_get}
 use Rattle.sqlite_value.specs.declared.value.Value.{Value}
 use Rattle.sqlite_rules.proofs.ListLemmas.{all_has, has_found}
 use Rattle.sqlite.specs.Effect.{Database}

@@ -1,10 +1,9 @@
 -- A new record beside the tables of a database: its four tables are made in turn, and the version is put.
 use Rattle.std.proofs.Common.{◌≡◌, ◌≢◌, ap, sym, subst, ◌∙◌, arith, List, [], ◌∷◌, codes, pos, ℕ, true, false, inl, refl}
-use Rattle.std.specs.List.{AllByRecursion}
 use Rattle.sqlite_value.specs.declared.value.Value.TheVariants.{Int}
 use Rattle.sqlite_rules.specs.Lists.{Has}
 use Rattle.sqlite_rules.proofs.ListLemmas.{all_has, all_from, has_left, has_right}
-use Rattle.sqlite_catalog.specs.Change.{created, next_tree, KeepsRows}
+use Rattle.sqlite_catalog.specs.Change.{created, next_tree}
 use Rattle.sqlite_catalog.proofs.StepLemmas.{table_below}
 use Rattle.sqlite.specs.Does.{lacks_sequence}
 use Rattle.sqlite.specs.Effect.{Database, IsDatabase}
@@ -12,7 +11,8 @@ use Rattle.sqlite.specs.State.{State, HasCleanDisk, Shows, Survives}
 use Rattle.sqlite.specs.Table.{Table}
 use Rattle.sqlite.specs.Schema.{Schema}
 use Rattle.scoop_record.specs.Tables.{meta, handlers, clients, pending, row_of, value_at, Makes}
-use Rattle.scoop_record.specs.Among.{IsFree, HasTable, HasRoom, HasRecordTables, PutsAmong, meta_tree, handlers_tree, clients_tree, pending_tree, record_names, with_record}
+use Rattle.scoop_record.specs.Among.{IsFree, HasTable, HasRoom, HasRecordTables, PutsAmong, meta_tree, handlers_tree, clients_tree, pending_tree}
+use Rattle.scoop_record.specs.Among.{record_names, with_record}
 use Rattle.scoop_record.specs.Store.{IsSound, IsNewRecord}
 use Rattle.scoop_record.proofs.StatementLemmas.{clean_before}
 use Rattle.scoop_record.proofs.among.Apart.{kept_at, meta_handlers, meta_clients, meta_pending}

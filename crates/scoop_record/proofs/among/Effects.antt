@@ -2,7 +2,8 @@
 use Rattle.std.proofs.lemmas.List.Sorted.{IsPermutation-map}
 use Rattle.std.proofs.lemmas.Bool.{cases_Bool}
 use Rattle.std.proofs.lemmas.Bool.Decides.{nat_tests}
-use Rattle.std.proofs.Common.{IsPermutation, IsErr, IsTrue, ◌≡◌, ◌<◌, ◌≤◌, arith, length, ℕ, nat_le, ◌^◌, pos, List, [], ◌∷◌, codes, map, false, true, Ok, Err, Result, OnOk, Some, None, inl, inr, refl, sym, ap, ◌∙◌, subst}
+use Rattle.std.proofs.Common.{IsPermutation, IsErr, IsTrue, ◌≡◌, ◌<◌, ◌≤◌, arith, length, ℕ, nat_le, ◌^◌, pos, List, [], ◌∷◌, codes, map, false, true, Ok}
+use Rattle.std.proofs.Common.{Err, Result, OnOk, Some, None, inl, inr, refl, sym, ap, ◌∙◌, subst}
 use Rattle.std.specs.Option.{option_to_list}
 use Rattle.sqlite_value.specs.declared.value.Value.{Value}
 use Rattle.sqlite_value.specs.declared.value.Value.TheVariants.{Null, Int}
@@ -15,7 +16,7 @@ use Rattle.sqlite_schema.specs.declared.schema.Table.{Table}
 use Rattle.sqlite_schema.specs.declared.schema.Schema.{Schema}
 use Rattle.sqlite_sql.specs.Query.{IsAnswer, Output, output}
 use Rattle.sqlite_sql.specs.Program.{overlay}
-use Rattle.sqlite_catalog.specs.Change.{created, next_tree}
+use Rattle.sqlite_catalog.specs.Change.{created}
 use Rattle.sqlite_rules.specs.Cast.{cast}
 use Rattle.sqlite.specs.Does.{Tally, lacks_sequence}
 use Rattle.sqlite.specs.Effect.{Database, IsDatabase}

@@ -73,7 +73,8 @@ pub record IsSort (by : Sort) (key : Name) : Type 0 where
   pub descending : (out-Sort by).descending ≡ false
   pub nulls : (out-Sort by).nulls_first ≡ None
 
-module _ (s : Schema) (at : ℕ) (t : Table) (stands : Stands s at t) (core : Core) (key column : Name) (it : LooksAll core t.name key column) (by : Sort) (sorted : IsSort by key)
+module _ (s : Schema) (at : ℕ) (t : Table) (stands : Stands s at t) (core : Core) (key column : Name) (it : LooksAll core t.name key column) (by : Sort)
+    (sorted : IsSort by key)
     (k j : ℕ) (c h : Column) (has : HasColumn t column k c) (has_key : HasKey t key j h) where
   heading_of : (e : Expr) (name text : Name) (n : ℕ) (d : Column) → out-Expr e ≡ Expr-F.Column None name → HasColumn t name n d
       → heading (cx_of s t.name at 1 [] true) e text ≡ d.name
@@ -124,7 +125,12 @@ module _ (s : Schema) (at : ℕ) (t : Table) (stands : Stands s at t) (core : Co
     st_of 2 99998 (scope.declared t k c),
   )
   unfolding body
-  body_all = rw (it.sources, bounds_is s at t stands it.source it.from (fresh 1 max_budget) refl, result_all, matching_all (st_of 2 99998 (scope.declared t k c))) refl
+  body_all = rw (
+    it.sources,
+    bounds_is s at t stands it.source it.from (fresh 1 max_budget) refl,
+    result_all,
+    matching_all (st_of 2 99998 (scope.declared t k c)),
+  ) refl
 
   peeled_is : peeled (out-Sort by).key ≡ (out-Sort by).key
   unfolding peeled
@@ -180,7 +186,8 @@ all_of tree = record {
   offset = lit (Int (pos 0));
 }
 
-module _ (s : Schema) (at : ℕ) (t : Table) (stands : Stands s at t) (q : written_select.Select) (core : Core) (key column : Name) (it : LooksAll core t.name key column)
+module _ (s : Schema) (at : ℕ) (t : Table) (stands : Stands s at t) (q : written_select.Select) (core : Core) (key column : Name)
+    (it : LooksAll core t.name key column)
     (by : Sort) (sorted : IsSort by key) (k j : ℕ) (c h : Column) (has : HasColumn t column k c) (has_key : HasKey t key j h)
     (second : place_of t k ≡ 2) (typed : is_some (slice_get (row_classes t) 2) ≡ true) where
   program_all : program s [] (ungrouped (Inner t.tree ∷ []) []

@@ -1,5 +1,6 @@
 -- Places in a list that grows at its end.
-use Rattle.std.proofs.Common.{cond, inl, inr, arith, ◌≡◌, ◌∙◌, ◌+◌, ap, is_some, zero, length, ◌++◌, List, [], ◌∷◌, false, true, ℕ, suc, Some, None, Option, refl, find, slice_get, Bool}
+use Rattle.std.proofs.Common.{cond, inl, inr, arith, ◌≡◌, ◌∙◌, ◌+◌, ap, is_some, zero, length, ◌++◌, List, [], ◌∷◌, false, true, ℕ, suc, Some, None, Option}
+use Rattle.std.proofs.Common.{refl, find, slice_get, Bool}
 use Rattle.std.specs.List.{list_any, list_all, position_from}
 use Rattle.std.proofs.lemmas.Bool.{and_parts}
 use Rattle.sqlite_rules.specs.Lists.{Has}
@@ -22,7 +23,8 @@ position_front p i (x ∷ xs) ys k h = go (p x) (position_front p (i + 1) xs ys 
     go true again h = h
     go false again h = again h
 
-pub position_last : {A : Type 0} (p : A → Bool) (i : ℕ) (xs : List A) (y : A) → position_from p i xs ≡ None → p y ≡ true → position_from p i (xs ++ y ∷ []) ≡ Some (i + length xs)
+pub position_last : {A : Type 0} (p : A → Bool) (i : ℕ) (xs : List A) (y : A) → position_from p i xs ≡ None → p y ≡ true
+    → position_from p i (xs ++ y ∷ []) ≡ Some (i + length xs)
 position_last p i [] y h is = rw is (ap Some (omega arith))
 position_last p i (x ∷ xs) y h is = go (p x) (λ later. position_last p (i + 1) xs y later is) h
   where
@@ -67,7 +69,8 @@ find_past p (x ∷ xs) ys h = go (p x) (find_past p xs ys) h
     go true again h = absurd (let e = h in cc)
     go false again h = again h
 
-pub position_past : {A : Type 0} (p : A → Bool) (i : ℕ) (xs : List A) (y : A) → position_from p i xs ≡ None → p y ≡ false → position_from p i (xs ++ y ∷ []) ≡ None
+pub position_past : {A : Type 0} (p : A → Bool) (i : ℕ) (xs : List A) (y : A) → position_from p i xs ≡ None → p y ≡ false
+    → position_from p i (xs ++ y ∷ []) ≡ None
 position_past p i [] y h is = rw is refl
 position_past p i (x ∷ xs) y h is = go (p x) (λ later. position_past p (i + 1) xs y later is) h
   where

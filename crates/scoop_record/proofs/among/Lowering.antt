@@ -1,5 +1,6 @@
 -- The terms of the columns, parameters and tests of a text, under a schema that may have other tables.
-use Rattle.std.proofs.Common.{pos, arith, ◌≡◌, ◌∙◌, ◌+◌, ◌-◌, List, [], ◌∷◌, codes, false, true, ℕ, suc, Ok, Some, None, refl, slice_get, Bool, nat_lt, ◌^◌, nat_le}
+use Rattle.std.proofs.Common.{pos, arith, ◌≡◌, ◌∙◌, ◌+◌, ◌-◌, List, [], ◌∷◌, codes, false, true, ℕ, suc, Ok, Some, None, refl, slice_get, Bool, nat_lt, ◌^◌}
+use Rattle.std.proofs.Common.{nat_le}
 use Rattle.std.proofs.lemmas.Bool.Decides.{nat_tests}
 use Rattle.sqlite_value.specs.declared.value.Value.TheVariants.{Int}
 use Rattle.sqlite.specs.Compile.{first}
@@ -53,7 +54,12 @@ bounds_is s at t h source n st few = rw (few, n.origin, table_in_is s at t h st.
 
 pub find_is : (s : Schema) (at : ℕ) (t : Table) → slice_get s.tables at ≡ Some t → (name : Name) (k : ℕ) → column_named t name ≡ Some k
     → (own : Name) (slot : ℕ) (shown : List Output) (outer : List Level) (aggregate alias : Bool)
-    → scope.find (record { schema = s; levels = record { tables = bound_of own at slot ∷ []; shown = shown } ∷ outer; may_aggregate = aggregate; may_alias = alias }) None name
+    → scope.find (record {
+      schema = s;
+      levels = record { tables = bound_of own at slot ∷ []; shown = shown } ∷ outer;
+      may_aggregate = aggregate;
+      may_alias = alias;
+    }) None name
     ≡ Ok (found.Column slot at k)
 unfolding scope.find in_level only hit column_in is_among
 find_is s at t there name k is own slot shown outer aggregate alias = rw (there, is) refl
@@ -61,7 +67,12 @@ find_is s at t there name k is own slot shown outer aggregate alias = rw (there,
 pub column_is : (s : Schema) (at : ℕ) (t : Table) → slice_get s.tables at ≡ Some t → (name : Name) (k : ℕ) → column_named t name ≡ Some k
     → (c : Column) → slice_get t.columns k ≡ Some c
     → (own : Name) (slot : ℕ) (shown : List Output) (outer : List Level) (aggregate alias : Bool) (st : State)
-    → scope.column (record { schema = s; levels = record { tables = bound_of own at slot ∷ []; shown = shown } ∷ outer; may_aggregate = aggregate; may_alias = alias }) None name st
+    → scope.column (record {
+      schema = s;
+      levels = record { tables = bound_of own at slot ∷ []; shown = shown } ∷ outer;
+      may_aggregate = aggregate;
+      may_alias = alias;
+    }) None name st
     ≡ Ok (col slot (place_of t k), record st { last = scope.declared t k c })
 unfolding scope.column term_of column_at
 column_is s at t there name k is c has own slot shown outer aggregate alias st =
@@ -71,7 +82,12 @@ abbrev pub st_of : ℕ → ℕ → Carried → State
 st_of next budget last = record { next = next; steps = []; aggregates = []; budget = budget; written = None; last = last }
 
 abbrev pub cx_of : Schema → Name → ℕ → ℕ → List Output → Bool → Context
-cx_of s own at slot shown aggregate = record { schema = s; levels = record { tables = bound_of own at slot ∷ []; shown = shown } ∷ []; may_aggregate = aggregate; may_alias = true }
+cx_of s own at slot shown aggregate = record {
+  schema = s;
+  levels = record { tables = bound_of own at slot ∷ []; shown = shown } ∷ [];
+  may_aggregate = aggregate;
+  may_alias = true;
+}
 
 pub lower_column : (s : Schema) (at : ℕ) (t : Table) → slice_get s.tables at ≡ Some t → (name : Name) (k : ℕ) → column_named t name ≡ Some k
     → (c : Column) → slice_get t.columns k ≡ Some c → (e : Expr) → out-Expr e ≡ Expr-F.Column None name
@@ -99,7 +115,8 @@ pub lower_equal : (s : Schema) (at : ℕ) (t : Table) → slice_get s.tables at 
     → nat_lt 1 (budget - 1) ≡ true → nat_lt 1 (budget - 1 - 1) ≡ true
     → lower_to (suc (suc d)) (cx_of s own at 1 shown aggregate) e (st_of next budget last)
     ≡ Ok (key_is 0, st_of next (budget - 1 - 1 - 1) nothing)
-unfolding node opened spend begin finish passes operation both combine tests_truth tests_alias wanted_truth compared affinity_of of_column converted may_be_text chosen first_found
+unfolding node opened spend begin finish passes operation both combine tests_truth tests_alias wanted_truth compared affinity_of of_column converted
+    may_be_text chosen first_found
 lower_equal s at t there name k is c has first none e a b out left right d own shown aggregate next budget last one two three =
     lower_suc (suc d) (cx_of s own at 1 shown aggregate) e (st_of next budget last) ∙
     rw (
@@ -143,7 +160,8 @@ pub lower_is_one : (s : Schema) (at : ℕ) (t : Table) → slice_get s.tables at
     → nat_lt 1 (budget - 1) ≡ true → nat_lt 1 (budget - 1 - 1) ≡ true
     → lower_to (suc (suc d)) (cx_of s own at 1 shown aggregate) e (st_of next budget last)
     ≡ Ok (first_key_is, st_of next (budget - 1 - 1 - 1) nothing)
-unfolding node opened spend begin finish passes operation both combine tests_truth tests_alias wanted_truth compared affinity_of of_column converted may_be_text chosen first_found
+unfolding node opened spend begin finish passes operation both combine tests_truth tests_alias wanted_truth compared affinity_of of_column converted
+    may_be_text chosen first_found
 lower_is_one s at t there name k is c has first none e a b out left right d own shown aggregate next budget last one two three =
     lower_suc (suc d) (cx_of s own at 1 shown aggregate) e (st_of next budget last) ∙
     rw (

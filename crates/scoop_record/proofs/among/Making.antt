@@ -1,5 +1,6 @@
 -- The schema after the record's tables are made in turn: it has them among the tables that stood there.
-use Rattle.std.proofs.Common.{◌≡◌, ◌≢◌, ◌∙◌, ◌<◌, ◌≤◌, ◌+◌, ◌++◌, ◌^◌, ap, sym, subst, arith, List, [], ◌∷◌, codes, ℕ, suc, true, false, length, max, fold, find, ◌==◌, ◌⊎◌, Option, Some, inl, inr, refl}
+use Rattle.std.proofs.Common.{◌≡◌, ◌≢◌, ◌∙◌, ◌<◌, ◌≤◌, ◌+◌, ◌++◌, ◌^◌, ap, sym, subst, arith, List, [], ◌∷◌, codes, ℕ, suc, true, false, length, max, fold}
+use Rattle.std.proofs.Common.{find, ◌==◌, ◌⊎◌, Option, Some, inl, inr, refl}
 use Rattle.std.specs.List.{AllByRecursion}
 use Rattle.sqlite_schema.specs.Names.{same_name}
 use Rattle.sqlite_schema.specs.declared.schema.Index.{Index}
@@ -27,7 +28,8 @@ next_kept s u bare =
     ) in
     let tables = most_below (λ (t : Table). t.tree) (past_views s) (next_tree s + 1) (s.tables ++ placed_at u (next_tree s) ∷ []) first
     (λ t has. go t (has_either s.tables (placed_at u (next_tree s) ∷ []) t has)) in
-    subst (λ (indexes : List Index). fold (λ n i. max n (i.tree + 1)) (fold (λ n t. max n (t.tree + 1)) (past_views s) (s.tables ++ placed_at u (next_tree s) ∷ [])) indexes
+    subst (λ (indexes : List Index). fold (λ n i. max n (i.tree + 1))
+    (fold (λ n t. max n (t.tree + 1)) (past_views s) (s.tables ++ placed_at u (next_tree s) ∷ [])) indexes
     ≤ next_tree s + 1) (sym (indexes_same s u bare))
     (most_below (λ (i : Index). i.tree) _ (next_tree s + 1) s.indexes tables (λ i has. let low = index_below s i has in omega (arith, low)))
   where
@@ -49,7 +51,8 @@ all_unnamed s u [] bare h = tt
 all_unnamed s u (name ∷ names) bare h = (unnamed_kept s u name bare h.0, all_unnamed s u names bare h.1)
 
 -- a table that is created leaves room for the names after its own
-pub room_kept : (s : Schema) (u : Table) (names : List (List ℕ)) → IsBare u → u.is_counted ≡ false → AllByRecursion (λ name. same_name u.name name ≡ false) names
+pub room_kept : (s : Schema) (u : Table) (names : List (List ℕ)) → IsBare u → u.is_counted ≡ false
+    → AllByRecursion (λ name. same_name u.name name ≡ false) names
     → HasRoom s (u.name ∷ names) → HasRoom (created s u) names
 room_kept s u names bare uncounted differ h = record {
   free = all_free s u names bare.uniques differ h.free.1;
@@ -70,7 +73,8 @@ own_tree s t h = rw (h.stands.named, h.stands.there) refl
 -- two tables of the schema have different trees
 pub trees_apart : (s : Schema) (t u : Table) → HasTable s t → HasTable s u → t ≢ u → t.tree ≢ u.tree
 trees_apart s t u one two differ same =
-    let found : Some u ≡ Some t = sym two.stands.found ∙ subst (λ tree. ◌≡◌ {A = Option Table} (find (λ (v : Table). v.tree == tree) s.tables) (Some t)) same one.stands.found in
+    let found : Some u ≡ Some t = sym two.stands.found ∙ subst
+    (λ tree. ◌≡◌ {A = Option Table} (find (λ (v : Table). v.tree == tree) s.tables) (Some t)) same one.stands.found in
     differ (cc)
 
 -- the four tables stand where they were made

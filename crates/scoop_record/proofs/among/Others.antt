@@ -1,5 +1,5 @@
 -- The tables of others after a record's tables were written.
-use Rattle.std.proofs.Common.{◌≡◌, ◌≢◌, ap, sym, subst, ◌∙◌, List, [], ◌∷◌, ℕ, refl}
+use Rattle.std.proofs.Common.{◌≡◌, ◌≢◌, ap, sym, subst, ◌∙◌, List, [], ◌∷◌, ℕ}
 use Rattle.sqlite_value.specs.declared.value.Value.{Value}
 use Rattle.sqlite_rules.specs.Lists.{Has}
 use Rattle.sqlite_rules.proofs.ListLemmas.{all_has, all_from}
@@ -20,7 +20,8 @@ others_stay own old new same = all_from (λ (t : Table). IsNoneOf own t.tree →
     (λ t has none. ap (λ (d : Database). d.trees t.tree) same)
 
 -- after two changes under one schema
-pub others_then : (own : List ℕ) (old mid new : Database) → mid.schema ≡ old.schema → KeepsOthers own old mid → KeepsOthers own mid new → KeepsOthers own old new
+pub others_then : (own : List ℕ) (old mid new : Database) → mid.schema ≡ old.schema → KeepsOthers own old mid → KeepsOthers own mid new
+    → KeepsOthers own old new
 others_then own old mid new same first second = all_from (λ (t : Table). IsNoneOf own t.tree → new.trees t.tree ≡ old.trees t.tree) old.schema.tables
     (λ t has none. other_kept own mid new second t (subst (λ (s : Schema). Has s.tables t) (sym same) has) none ∙ other_kept own old mid first t has none)
 

@@ -1,5 +1,6 @@
 -- The effect of an upsert on a table among others.
-use Rattle.std.proofs.Common.{◌≢◌, pos, map, ◌&&◌, ◌||◌, cond, filter, subst₂, not, inl, inr, arith, int_cmp, ℤ, IsPermutation, ◌≡◌, ◌∙◌, ap, sym, subst, length, ◌++◌, List, [], ◌∷◌, false, true, ℕ, Ok, Some, None, Option, refl, find, Bool, ◌==◌, ◌^◌, nat_le}
+use Rattle.std.proofs.Common.{◌≢◌, pos, map, ◌&&◌, ◌||◌, cond, filter, subst₂, not, inl, inr, arith, int_cmp, ℤ, IsPermutation, ◌≡◌, ◌∙◌, ap, sym, subst}
+use Rattle.std.proofs.Common.{length, ◌++◌, List, [], ◌∷◌, false, true, ℕ, Ok, Some, None, Option, refl, find, Bool, ◌==◌, ◌^◌, nat_le}
 use Rattle.std.specs.List.{AllByRecursion, list_any, list_all, flat_map, filter_map}
 use Rattle.std.proofs.lemmas.Bool.{cases_Bool, and_parts}
 use Rattle.sqlite_value.specs.declared.value.Value.{Value}
@@ -31,7 +32,8 @@ use Rattle.sqlite_rules.specs.Keys.{AreConflicts, conflicts, shares, aims}
 use Rattle.sqlite_rules.proofs.ListLemmas.{has_found, has_kept, has_filtered, some_from}
 use Rattle.sqlite.specs.declared.run.Mode.{Mode}
 use Rattle.sqlite.specs.Effect.{Database}
-use Rattle.sqlite.specs.Rows.{Then, TriesEach, Counts, Gives, nothing as no_written, count_of, Clears, Meets, Judged, Written, Task, Puts as PutsRow, Upserts, Updates, Tries, InsertsOr}
+use Rattle.sqlite.specs.Rows.{Then, TriesEach, Counts, Gives, nothing as no_written, count_of, Clears, Meets, Judged, Written, Task, Puts as PutsRow, Upserts}
+use Rattle.sqlite.specs.Rows.{Updates, Tries, InsertsOr}
 use Rattle.sqlite.specs.Does.{Tally, Does, OnRows, AtPlace}
 use Rattle.sqlite.proofs.Callers.{one_step}
 use Rattle.scoop_record.specs.Tables.{value_at, row_of, keyed_table}
@@ -67,7 +69,8 @@ unshared (i ∷ indexes) table target new r h = go (i.table == table.tree) refl 
         never true = refl
         never false = refl
 
-pub no_work : (depth tree : ℕ) (moves : List (Row × Row)) (child : Table) (ref : Reference) (deed : Option Deed) (key : Option ParentKey) → is_apart tree key ≡ true
+pub no_work : (depth tree : ℕ) (moves : List (Row × Row)) (child : Table) (ref : Reference) (deed : Option Deed) (key : Option ParentKey)
+    → is_apart tree key ≡ true
     → work_by depth tree moves child ref deed key ≡ None
 no_work depth tree moves child ref None key h = refl
 no_work depth tree moves child ref (Some deed) None h = refl
@@ -82,7 +85,8 @@ pub no_work_in : (s : Schema) (keys : Keys) (depth tree : ℕ) (olds news : List
 no_work_in s keys depth tree olds news child [] h = refl
 no_work_in s keys depth tree olds news child (ref ∷ refs) h =
     let both = and_parts _ _ h in
-    rw (no_work depth tree (pairs olds news) child ref (deed_for keys (length news == 0) ref) (parent_key s.tables ref) both.0) (no_work_in s keys depth tree olds news child refs both.1)
+    rw (no_work depth tree (pairs olds news) child ref (deed_for keys (length news == 0) ref) (parent_key s.tables ref) both.0)
+    (no_work_in s keys depth tree olds news child refs both.1)
 
 pub works_none : (s : Schema) (keys : Keys) (depth tree : ℕ) (olds news : List Row) (children : List Table)
     → list_all (λ (child : Table). list_all (λ ref. is_apart tree (parent_key s.tables ref)) child.references) children ≡ true
@@ -289,7 +293,8 @@ module _ (name key_name column_name : List ℕ) (kind : Kind) (tree : ℕ) (low 
       rw (last, mid) first
 
 -- 2. the effect of the upsert beside other tables
-pub does_put_among : (name key_name column_name : List ℕ) (kind : Kind) (at tree : ℕ) (s : Schema) → Stands s at (keyed_table name tree key_name column_name kind)
+pub does_put_among : (name key_name column_name : List ℕ) (kind : Kind) (at tree : ℕ) (s : Schema)
+    → Stands s at (keyed_table name tree key_name column_name kind)
     → IsAlone s (keyed_table name tree key_name column_name kind)
     → (limit : Option ℕ) (mode : Mode) (key : ℕ) (value : Value) → cast kind value ≡ value → (db after : Database) → db.schema ≡ s
     → (text : List ℕ) (tally : Tally)
@@ -302,7 +307,8 @@ does_put_among name key_name column_name kind at tree s stands alone limit mode 
     let done = went (subst (λ o. AtPlace (λ t. OnRows (record { limit = limit; keys = mode.keys; schema = s; table = t; params = given }) mode None
     command db.trees) o (Ok (tally, after))) stands.there under) in
     let now : after ≡ record { schema = s; trees = done.0.trees } = ap (λ (p : Tally × Database). p.1) (same_value (went (went done.2).2).2) in
-    let put = inserted_one name key_name column_name kind tree (stored s at (keyed_table name tree key_name column_name kind) stands) limit mode key value kept db.trees s alone done.0 done.1 in
+    let put = inserted_one name key_name column_name kind tree
+    (stored s at (keyed_table name tree key_name column_name kind) stands) limit mode key value kept db.trees s alone done.0 done.1 in
     rw now (record {
       schema = sym has;
       there = put.there;

@@ -28,7 +28,8 @@ use Rattle.scoop_record.proofs.TableLemmas.{query_of}
 use Rattle.scoop_record.proofs.among.Lowering.{Names, output_of, stored}
 use Rattle.scoop_record.specs.Among.{Stands}
 
-pub viewing_is : (again : Schema → written_select.Select → prog.Building prog.Shown) (outer s : Schema) (core : Core) (order : List Sort) (page : Term × Term) (n : ℕ) (shown : prog.Shown)
+pub viewing_is : (again : Schema → written_select.Select → prog.Building prog.Shown) (outer s : Schema) (core : Core) (order : List Sort)
+    (page : Term × Term) (n : ℕ) (shown : prog.Shown)
     (lets : List Let) → named s core order page ≡ Ok shown → prog.viewing again outer core order page (suc n) s lets ≡ Ok ((shown, s), lets)
 unfolding prog.viewing
 viewing_is again outer s core order page n shown lets is = rw is refl
@@ -41,7 +42,8 @@ pub record IsPlainSelect (q : written_select.Select) (core : Core) : Type 0 wher
   pub limit : (written_select.out-Select q).limit ≡ None
   pub offset : (written_select.out-Select q).offset ≡ None
 
-pub level_is : (again : Schema → written_select.Select → prog.Building prog.Shown) (s : Schema) (q : written_select.Select) (core : Core) (order : List Sort) (source : Source) (name : Name)
+pub level_is : (again : Schema → written_select.Select → prog.Building prog.Shown) (s : Schema) (q : written_select.Select) (core : Core) (order : List Sort)
+    (source : Source) (name : Name)
     (shown : prog.Shown) → IsPlainSelect q core → (written_select.out-Select q).order ≡ order → (out-Core core).from ≡ source ∷ [] → Names source name
     → named s core order (lit (Int (negsuc 0)), number 0) ≡ Ok shown → prog.level again s q [] ≡ Ok (shown, [])
 unfolding prog.level prog.with prog.whole prog.alone prog.single prog.sources prog.source paging constant_or
@@ -69,13 +71,15 @@ unfolding query
 query_is s q core order source name shown plain sorted from n is =
     ap (λ (f : prog.Building prog.Shown). f []) (query_suc 15 s q) ∙ level_is (prog.query_to 15) s q core order source name shown plain sorted from n is
 
-pub program_is : (s : Schema) (at : ℕ) (t : Table) → Stands s at t → (wanted : Term) → are_tests [] (row_classes t ∷ []) (wanted ∷ []) ≡ true → (k : ℕ) (c : Column) → is_some (slice_get (row_classes t) (place_of t k)) ≡ true
+pub program_is : (s : Schema) (at : ℕ) (t : Table) → Stands s at t → (wanted : Term) → are_tests [] (row_classes t ∷ []) (wanted ∷ []) ≡ true
+    → (k : ℕ) (c : Column) → is_some (slice_get (row_classes t) (place_of t k)) ≡ true
     → program s [] (ungrouped (Inner t.tree ∷ []) (wanted ∷ []) (output_of t k c ∷ []) false [] (lit (Int (negsuc 0))) (number 0))
     ≡ Ok (record { lets = []; body = query_of t.tree wanted (col 1 (place_of t k) ∷ []) })
 unfolding program ungrouped
 program_is s at t stands wanted fit k c typed = rw (stored s at t stands, stands.found, fit, typed) refl
 
-pub select_compiled : (s : Schema) (text : List ℕ) (p : Parsed) (q : written_select.Select) (is : Command) → first text ≡ Ok p → p.statement ≡ written.Select q → read s q ≡ Ok is
+pub select_compiled : (s : Schema) (text : List ℕ) (p : Parsed) (q : written_select.Select) (is : Command) → first text ≡ Ok p
+    → p.statement ≡ written.Select q → read s q ≡ Ok is
     → compiled s text ≡ Ok (with_command p (p.formats, (is, None)))
 unfolding compiled planned timed meaning returning command
 select_compiled s text p q is parsed select known = rw (parsed, select, known) refl

@@ -36,7 +36,8 @@ use Rattle.scoop_record.specs.Tables.{meta, handlers, clients, pending}
 use Rattle.scoop_record.proofs.TableLemmas.{query_of, key_is, first_key_is}
 use Rattle.scoop_record.proofs.Texts.{select_image, select_entries, select_inc, select_version}
 use Rattle.scoop_record.proofs.among.Syntax.{syntax, understood_as, Reads, reads}
-use Rattle.scoop_record.proofs.among.Lowering.{Names, bound_of, bounds_is, find_is, st_of, cx_of, lower_column, HasColumn, output_of, Lowers, IsTest, TestsKey, TestsOne, lowers_key, lowers_one}
+use Rattle.scoop_record.proofs.among.Lowering.{Names, bound_of, bounds_is, find_is, st_of, cx_of, lower_column, HasColumn, output_of, Lowers, IsTest}
+use Rattle.scoop_record.proofs.among.Lowering.{TestsKey, TestsOne, lowers_key, lowers_one}
 use Rattle.scoop_record.proofs.among.Querying.{IsPlainSelect, query_is, program_is, select_compiled}
 use Rattle.scoop_record.specs.Among.{Stands}
 
@@ -125,7 +126,8 @@ module _ (s : Schema) (at : ℕ) (t : Table) (stands : Stands s at t) (core : Co
   named_is = rw (body_is, it.group, it.having, it.distinct) refl
 
 pub read_is : (s : Schema) (at : ℕ) (t : Table) → Stands s at t → (q : written_select.Select) (core : Core) (column : Name) (it : Looks core t.name column)
-    (wanted : Term) → Lowers s at t it.test wanted → IsTest t wanted → (k : ℕ) (c : Column) → HasColumn t column k c → IsPlainSelect q core → (written_select.out-Select q).order ≡ []
+    (wanted : Term) → Lowers s at t it.test wanted → IsTest t wanted → (k : ℕ) (c : Column) → HasColumn t column k c → IsPlainSelect q core
+    → (written_select.out-Select q).order ≡ []
     → is_some (slice_get (row_classes t) (place_of t k)) ≡ true
     → read s q ≡ Ok (Select (record { lets = []; body = query_of t.tree wanted (col 1 (place_of t k) ∷ []) }) (c.name ∷ []))
 unfolding read
@@ -158,8 +160,10 @@ select_text s at t stands text column Tests wanted lowers fit k c has second typ
     let it = reads (first text) _ form in
     let is = it.2 in
     let read = read_is s at t stands is.query is.core column is.looks wanted (lowers is.looks.test is.tests) fit k c has is.plain is.unsorted typed in
-    let made = understood_as s text _ (select_compiled s text it.0 is.query _ it.1 is.is read) in
-    ((rw made.0 (ap (λ place. Select (record { lets = []; body = query_of t.tree wanted (col 1 place ∷ []) }) (c.name ∷ [])) second), made.1), rw (made.0, is.formats) (refl, refl))
+    let made = understood_as s text _ (select_compiled s text it.0 is.query _ it.1 is.is read) in (
+      (rw made.0 (ap (λ place. Select (record { lets = []; body = query_of t.tree wanted (col 1 place ∷ []) }) (c.name ∷ [])) second), made.1),
+      rw (made.0, is.formats) (refl, refl),
+    )
 
 pub select_image_reads : Reads (first select_image) (IsSelectText (codes "handlers") (codes "image") (λ e. TestsKey e (codes "h")))
 unfolding syntax
@@ -193,7 +197,8 @@ select_image_reads = record {
 pub select_image_is : (s : Schema) (at tree : ℕ) → Stands s at (handlers tree) → LooksUp s select_image tree (key_is 0) (codes "image")
 unfolding same_name
 select_image_is s at tree stands = select_text s at (handlers tree) stands select_image (codes "image") (λ e. TestsKey e (codes "h")) (key_is 0)
-    (λ e tests. lowers_key s at (handlers tree) stands (codes "h") 0 _ (record { has = record { named = refl; there = refl }; first = refl; none = refl }) e tests)
+    (λ e tests. lowers_key s at (handlers tree) stands (codes "h") 0 _
+    (record { has = record { named = refl; there = refl }; first = refl; none = refl }) e tests)
     (record { whole = refl; fit = refl }) 1 _ (record { named = refl; there = refl }) refl refl select_image_reads
 
 pub select_entries_reads : Reads (first select_entries) (IsSelectText (codes "pending") (codes "entries") (λ e. TestsKey e (codes "h")))
@@ -228,7 +233,8 @@ select_entries_reads = record {
 pub select_entries_is : (s : Schema) (at tree : ℕ) → Stands s at (pending tree) → LooksUp s select_entries tree (key_is 0) (codes "entries")
 unfolding same_name
 select_entries_is s at tree stands = select_text s at (pending tree) stands select_entries (codes "entries") (λ e. TestsKey e (codes "h")) (key_is 0)
-    (λ e tests. lowers_key s at (pending tree) stands (codes "h") 0 _ (record { has = record { named = refl; there = refl }; first = refl; none = refl }) e tests)
+    (λ e tests. lowers_key s at (pending tree) stands (codes "h") 0 _
+    (record { has = record { named = refl; there = refl }; first = refl; none = refl }) e tests)
     (record { whole = refl; fit = refl }) 1 _ (record { named = refl; there = refl }) refl refl select_entries_reads
 
 pub select_inc_reads : Reads (first select_inc) (IsSelectText (codes "clients") (codes "inc") (λ e. TestsKey e (codes "c")))
@@ -263,7 +269,8 @@ select_inc_reads = record {
 pub select_inc_is : (s : Schema) (at tree : ℕ) → Stands s at (clients tree) → LooksUp s select_inc tree (key_is 0) (codes "inc")
 unfolding same_name
 select_inc_is s at tree stands = select_text s at (clients tree) stands select_inc (codes "inc") (λ e. TestsKey e (codes "c")) (key_is 0)
-    (λ e tests. lowers_key s at (clients tree) stands (codes "c") 0 _ (record { has = record { named = refl; there = refl }; first = refl; none = refl }) e tests)
+    (λ e tests. lowers_key s at (clients tree) stands (codes "c") 0 _
+    (record { has = record { named = refl; there = refl }; first = refl; none = refl }) e tests)
     (record { whole = refl; fit = refl }) 1 _ (record { named = refl; there = refl }) refl refl select_inc_reads
 
 pub select_version_reads : Reads (first select_version) (IsSelectText (codes "meta") (codes "version") (λ e. TestsOne e (codes "id")))

@@ -1,5 +1,6 @@
 -- The places of the tables after a table is created: it stands last, and those before it stay.
-use Rattle.std.proofs.Common.{option_and_then, ◌<◌, ◌&&◌, not, arith, ◌≡◌, ◌∙◌, ap, is_some, length, [], ◌∷◌, codes, false, true, ℕ, Some, None, Option, refl, slice_get, Bool, ◌==◌, ◌^◌}
+use Rattle.std.proofs.Common.{option_and_then, ◌<◌, ◌&&◌, not, arith, ◌≡◌, ◌∙◌, ap, is_some, length, [], ◌∷◌, codes, false, true, ℕ, Some, None, Option, refl}
+use Rattle.std.proofs.Common.{slice_get, Bool, ◌==◌, ◌^◌}
 use Rattle.std.specs.List.{list_any}
 use Rattle.std.proofs.lemmas.Bool.Decides.{nat_tests}
 use Rattle.sqlite.specs.Rows.{sequence}
@@ -31,7 +32,8 @@ pub stands_created : (s : Schema) (t : Table) → IsFree s t.name → same_name 
 stands_created s t free own low = record {
   named = position_last (λ (u : Table). same_name u.name t.name) 0 s.tables (placed_at t (next_tree s)) free.table own ∙ ap Some (omega arith);
   there = slice_get_last s.tables (placed_at t (next_tree s));
-  found = find_last (λ (u : Table). u.tree == next_tree s) s.tables (placed_at t (next_tree s)) (λ u has. let below = table_below s u has in grind (arith, nat_tests)) (nat_eq_self (next_tree s));
+  found = find_last (λ (u : Table). u.tree == next_tree s) s.tables (placed_at t (next_tree s))
+      (λ u has. let below = table_below s u has in grind (arith, nat_tests)) (nat_eq_self (next_tree s));
   low = low;
 }
 
@@ -47,7 +49,8 @@ sequence_kept s t h = go (table_named s (codes "sqlite_sequence")) refl h
 
 pub lacks_kept : (s : Schema) (t : Table) → t.is_counted ≡ false → lacks_sequence s ≡ false → lacks_sequence (created s t) ≡ false
 lacks_kept s t bare h =
-    rw (any_last (λ (u : Table). u.is_counted) s.tables (placed_at t (next_tree s)) bare) (go (list_any (λ (u : Table). u.is_counted) s.tables) (is_some (sequence s)) refl h)
+    rw (any_last (λ (u : Table). u.is_counted) s.tables (placed_at t (next_tree s)) bare)
+    (go (list_any (λ (u : Table). u.is_counted) s.tables) (is_some (sequence s)) refl h)
   where
     go : (a c : Bool) → is_some (sequence s) ≡ c → (a && not c) ≡ false → (a && not (is_some (sequence (created s t)))) ≡ false
     go false c is h = refl

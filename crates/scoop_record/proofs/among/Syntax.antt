@@ -77,15 +77,26 @@ unfolding
     Rattle.sqlite_syntax.specs.Header.names_object Rattle.sqlite_syntax.specs.Lex.keyword Rattle.sqlite_syntax.specs.Lex.operator
     Rattle.sqlite_syntax.specs.Lex.token Rattle.sqlite_syntax.specs.Lex.same_kind Rattle.sqlite_syntax.specs.Lex.skip
     Rattle.sqlite_syntax.specs.Lex.past_semi Rattle.sqlite_schema.specs.Names.same_name Rattle.sqlite_value.specs.Keys.joined
-    Rattle.sqlite_value.specs.Keys.first_key Rattle.sqlite_ast.specs.declared.Expr.TheBlock.hidden-the_row-Expr-0 Rattle.sqlite_ast.specs.declared.Expr.TheBlock.shown-the_row-Expr-0
-    Rattle.sqlite_ast.specs.declared.Expr.TheBlock.hidden-the_row-Expr-1 Rattle.sqlite_ast.specs.declared.Expr.TheBlock.shown-the_row-Expr-1 Rattle.sqlite_ast.specs.declared.Expr.TheBlock.hidden-the_row-Select-2
-    Rattle.sqlite_ast.specs.declared.Expr.TheBlock.shown-the_row-Select-2 Rattle.sqlite_ast.specs.declared.Expr.TheBlock.hidden-the_row-Arm-3 Rattle.sqlite_ast.specs.declared.Expr.TheBlock.shown-the_row-Arm-3
-    Rattle.sqlite_ast.specs.declared.Expr.TheBlock.hidden-the_row-Shown-4 Rattle.sqlite_ast.specs.declared.Expr.TheBlock.shown-the_row-Shown-4 Rattle.sqlite_ast.specs.declared.Expr.TheBlock.hidden-the_row-Source-5
-    Rattle.sqlite_ast.specs.declared.Expr.TheBlock.shown-the_row-Source-5 Rattle.sqlite_ast.specs.declared.Expr.TheBlock.hidden-the_row-Select-with-4-6 Rattle.sqlite_ast.specs.declared.Expr.TheBlock.shown-the_row-Select-with-4-6
-    Rattle.sqlite_ast.specs.declared.Expr.TheBlock.hidden-the_row-Select-others-2-7 Rattle.sqlite_ast.specs.declared.Expr.TheBlock.shown-the_row-Select-others-2-7 Rattle.sqlite_ast.specs.declared.Expr.TheBlock.hidden-the_row-Sort-8
-    Rattle.sqlite_ast.specs.declared.Expr.TheBlock.shown-the_row-Sort-8 Rattle.sqlite_ast.specs.declared.Expr.TheViews.out-Expr Rattle.sqlite_ast.specs.declared.Expr.TheViews.roll-Expr
-    Rattle.sqlite_ast.specs.declared.Expr.TheViews.out-Shown Rattle.sqlite_ast.specs.declared.Expr.TheViews.roll-Shown Rattle.sqlite_ast.specs.declared.Expr.TheViews.out-Core
-    Rattle.sqlite_ast.specs.declared.Expr.TheViews.roll-Core Rattle.sqlite_ast.specs.declared.Expr.TheViews.out-Select Rattle.sqlite_ast.specs.declared.Expr.TheViews.roll-Select
+    Rattle.sqlite_value.specs.Keys.first_key Rattle.sqlite_ast.specs.declared.Expr.TheBlock.hidden-the_row-Expr-0
+    Rattle.sqlite_ast.specs.declared.Expr.TheBlock.shown-the_row-Expr-0
+    Rattle.sqlite_ast.specs.declared.Expr.TheBlock.hidden-the_row-Expr-1 Rattle.sqlite_ast.specs.declared.Expr.TheBlock.shown-the_row-Expr-1
+    Rattle.sqlite_ast.specs.declared.Expr.TheBlock.hidden-the_row-Select-2
+    Rattle.sqlite_ast.specs.declared.Expr.TheBlock.shown-the_row-Select-2 Rattle.sqlite_ast.specs.declared.Expr.TheBlock.hidden-the_row-Arm-3
+    Rattle.sqlite_ast.specs.declared.Expr.TheBlock.shown-the_row-Arm-3
+    Rattle.sqlite_ast.specs.declared.Expr.TheBlock.hidden-the_row-Shown-4 Rattle.sqlite_ast.specs.declared.Expr.TheBlock.shown-the_row-Shown-4
+    Rattle.sqlite_ast.specs.declared.Expr.TheBlock.hidden-the_row-Source-5
+    Rattle.sqlite_ast.specs.declared.Expr.TheBlock.shown-the_row-Source-5
+    Rattle.sqlite_ast.specs.declared.Expr.TheBlock.hidden-the_row-Select-with-4-6
+    Rattle.sqlite_ast.specs.declared.Expr.TheBlock.shown-the_row-Select-with-4-6
+    Rattle.sqlite_ast.specs.declared.Expr.TheBlock.hidden-the_row-Select-others-2-7
+    Rattle.sqlite_ast.specs.declared.Expr.TheBlock.shown-the_row-Select-others-2-7
+    Rattle.sqlite_ast.specs.declared.Expr.TheBlock.hidden-the_row-Sort-8
+    Rattle.sqlite_ast.specs.declared.Expr.TheBlock.shown-the_row-Sort-8 Rattle.sqlite_ast.specs.declared.Expr.TheViews.out-Expr
+    Rattle.sqlite_ast.specs.declared.Expr.TheViews.roll-Expr
+    Rattle.sqlite_ast.specs.declared.Expr.TheViews.out-Shown Rattle.sqlite_ast.specs.declared.Expr.TheViews.roll-Shown
+    Rattle.sqlite_ast.specs.declared.Expr.TheViews.out-Core
+    Rattle.sqlite_ast.specs.declared.Expr.TheViews.roll-Core Rattle.sqlite_ast.specs.declared.Expr.TheViews.out-Select
+    Rattle.sqlite_ast.specs.declared.Expr.TheViews.roll-Select
     Rattle.sqlite_ast.specs.declared.Expr.TheViews.out-Source Rattle.sqlite_ast.specs.declared.Expr.TheViews.roll-Source denote.Hole.Carrier.out
     denote.Hole.Carrier.roll denote.Hole.Carrier.shown denote.Hole.Carrier.hidden
     Rattle.std.specs.Fmt.digits Rattle.sqlite_resolve.specs.Compile.first Rattle.sqlite_resolve.specs.Compile.is_stored

@@ -19,14 +19,16 @@ use Rattle.sqlite_resolve.specs.Scope as scope
 use Rattle.sqlite_resolve.specs.Scope.{Context, Name, in_level, only, hit, column_in, term_of, column_at, is_rowid}
 use Rattle.sqlite_resolve.specs.Expr.{opened, node, lower_to, passes}
 use Rattle.sqlite_resolve.specs.Program.{program}
-use Rattle.sqlite_resolve.specs.Compile.{command, compiled, planned, timed, meaning, returning, with_command, new_rows, source_of, values as compile_values, insert_or_abort, insert_or, shows, small}
+use Rattle.sqlite_resolve.specs.Compile.{command, compiled, planned, timed, meaning, returning, with_command, new_rows, source_of, values as compile_values}
+use Rattle.sqlite_resolve.specs.Compile.{insert_or_abort, insert_or, shows, small}
 use Rattle.sqlite_resolve.specs.declared.scope.Found.TheVariants as found
 use Rattle.sqlite_ast.specs.declared.Expr.{Expr, out-Expr}
 use Rattle.sqlite_ast.specs.declared.Expr.TheOpen.{Expr-F}
 use Rattle.sqlite_ast.specs.declared.Statement.{Statement}
 use Rattle.sqlite_ast.specs.declared.Statement.TheVariants as written
 use Rattle.sqlite_syntax.specs.declared.statement.Parsed.{Parsed}
-use Rattle.sqlite_resolve.specs.Write.{places, row, with_place, values, value_rows, value_row, inserted, level_of, place, cell, given_or, absent, leaves_computed, assigned, sets, updated_in, picked, simple}
+use Rattle.sqlite_resolve.specs.Write.{places, row, with_place, values, value_rows, value_row, inserted, level_of, place, cell, given_or, absent}
+use Rattle.sqlite_resolve.specs.Write.{leaves_computed, assigned, sets, updated_in, picked, simple}
 use Rattle.sqlite_resolve.specs.Reach.{any_scans}
 use Rattle.sqlite_ast.specs.declared.Upsert.{Upsert as Clause}
 use Rattle.sqlite_schema.specs.declared.command.Conflict.TheVariants.{Abort}
@@ -71,7 +73,8 @@ pub record LooksUpsert (statement : Statement) (name key column : Name) : Type 0
   pub is_second : out-Expr second ≡ Expr-F.Parameter 2
   pub is_value : out-Expr value ≡ Expr-F.Column (Some excluded) column
 
-module _ (s : Schema) (at : ℕ) (t : Table) (stands : Stands s at t) (key column : Name) (c : Column) (takes : TakesUpsert t key column c) (statement : Statement)
+module _ (s : Schema) (at : ℕ) (t : Table) (stands : Stands s at t) (key column : Name) (c : Column) (takes : TakesUpsert t key column c)
+    (statement : Statement)
     (it : LooksUpsert statement t.name key column) where
   values_is : values s t 2 (0 ∷ 2 ∷ []) ((it.first ∷ it.second ∷ []) ∷ []) ≡ Ok (NewValues (col 0 0 ∷ lit Null ∷ col 0 1 ∷ []))
   unfolding values value_rows value_row all
@@ -95,7 +98,10 @@ module _ (s : Schema) (at : ℕ) (t : Table) (stands : Stands s at t) (key colum
   unfolding in_level only hit
   outside_is = rw (takes.apart, takes.no_rowid) refl
 
-  inside_is : in_level longer (Some excluded) column 1 (record { tables = record { name = excluded; table = length s.tables; slot = 0; shared = [] } ∷ []; shown = [] })
+  inside_is : in_level longer (Some excluded) column 1 (record {
+    tables = record { name = excluded; table = length s.tables; slot = 0; shared = [] } ∷ [];
+    shown = [];
+  })
       ≡ Ok (Some (found.Column 0 (length s.tables) 4))
   unfolding in_level only hit column_in same_name
   inside_is = rw (slice_get_last s.tables (given t 2), takes.shown_at) refl

@@ -1,5 +1,6 @@
 -- The texts of the version and their effects, under a schema that may have other tables.
-use Rattle.std.proofs.Common.{◌≢◌, pos, map, filter, IsPermutation, ◌≡◌, ◌∙◌, ap, sym, subst, length, List, [], ◌∷◌, codes, false, true, ℕ, Ok, Some, None, Option, refl, find}
+use Rattle.std.proofs.Common.{◌≢◌, pos, map, filter, IsPermutation, ◌≡◌, ◌∙◌, ap, sym, subst, length, List, [], ◌∷◌, codes, false, true, ℕ, Ok, Some, None}
+use Rattle.std.proofs.Common.{Option, refl, find}
 use Rattle.std.specs.List.{AllByRecursion}
 use Rattle.sqlite_value.specs.declared.value.Value.{Value}
 use Rattle.sqlite_value.specs.Order.{Row}
@@ -41,7 +42,8 @@ use Rattle.sqlite_ast.specs.declared.Expr.{Expr, out-Expr}
 use Rattle.sqlite_ast.specs.declared.Expr.TheOpen.{Expr-F}
 use Rattle.sqlite_ast.specs.declared.Statement.{Statement}
 use Rattle.sqlite_ast.specs.declared.Statement.TheVariants as written
-use Rattle.sqlite_resolve.specs.Write.{places, row, with_place, values, value_rows, value_row, inserted, place, assigned, sets, updated, updated_in, picked, simple}
+use Rattle.sqlite_resolve.specs.Write.{places, row, with_place, values, value_rows, value_row, inserted, place, assigned, sets, updated, updated_in, picked}
+use Rattle.sqlite_resolve.specs.Write.{simple}
 use Rattle.sqlite_resolve.specs.Reach.{any_scans}
 use Rattle.sqlite_resolve.specs.declared.write.NewRows.TheVariants.{Values as NewValues}
 use Rattle.sqlite_resolve.specs.Given.{given}
@@ -77,7 +79,8 @@ abbrev pub raises : ℕ → ℕ → Command
 raises at tree = Update at (record { lets = []; body = query_of tree first_key_is (col 1 0 ∷ col 1 0 ∷ lit Null ∷ col 0 0 ∷ []) })
 
 module _ (s : Schema) (at : ℕ) (t : Table) (stands : Stands s at t) (key column : Name) (j : ℕ) (h : Column) (has_key : HasKey t key j h)
-    (place : with_place t [] column ≡ Ok (2 ∷ [])) (renewed : row t None (2 ∷ []) (col 1 0 ∷ []) (col 0 0 ∷ []) ≡ Ok (col 1 0 ∷ col 1 0 ∷ lit Null ∷ col 0 0 ∷ []))
+    (place : with_place t [] column ≡ Ok (2 ∷ [])) (renewed : row t None (2 ∷ []) (col 1 0 ∷ []) (col 0 0 ∷ [])
+    ≡ Ok (col 1 0 ∷ col 1 0 ∷ lit Null ∷ col 0 0 ∷ []))
     (statement : Statement) (it : LooksUpdate statement t.name key column) where
   raise_assigned : assigned (cx_of s t.name at 1 [] false) t ((column, it.value) ∷ []) (fresh 2 max_budget) ≡ Ok ((2 ∷ [], col 0 0 ∷ []), st_of 2 99999 nothing)
   unfolding assigned sets any_scans
@@ -197,7 +200,8 @@ put_version_is s at tree stands =
     put_version it.0 it.1 refl it.2.formats it.2.one refl) in
     (rw made.0 refl, rw made.0 (refl, refl))
 
-pub does_first_among : (at tree : ℕ) (s : Schema) → Stands s at (meta tree) → IsAlone s (meta tree) → (limit : Option ℕ) (mode : Mode) (version : ℕ) (db after : Database) → db.schema ≡ s
+pub does_first_among : (at tree : ℕ) (s : Schema) → Stands s at (meta tree) → IsAlone s (meta tree)
+    → (limit : Option ℕ) (mode : Mode) (version : ℕ) (db after : Database) → db.schema ≡ s
     → (text : List ℕ) (tally : Tally) → Does limit mode (Int (pos version) ∷ []) db text None (Insert at first_row) (Ok (tally, after))
     → PutsAmong db after tree 1 (Int (pos version)) × (after.trees tree ≡ put_row (row_of 1 (Int (pos version))) (db.trees tree))
 does_first_among at tree s stands alone limit mode version db after has text tally h =
@@ -218,7 +222,8 @@ does_first_among at tree s stands alone limit mode version db after has text tal
     let rows : write.0 tree ≡ put_row (row_of 1 (Int (pos version))) (db.trees tree) =
     step.rows ∙ ap (λ all. edited db.trees (edit_of db.trees (meta tree) [] Chosen 0 all)) sourced.1.1
     ∙ rw (cast_int (pos 1), cast_null, cast_int (pos version)) refl in
-    let put = put_over (codes "meta") (codes "id") (codes "version") Integer tree (stored s at (meta tree) stands) limit mode 1 (Int (pos version)) (cast_int (pos version)) db.trees s alone write.0
+    let put = put_over (codes "meta") (codes "id") (codes "version") Integer tree (stored s at (meta tree) stands) limit mode 1 (Int (pos version))
+    (cast_int (pos version)) db.trees s alone write.0
     (db.trees tree) rows (λ other apart. refl) (λ t apart free. step.others t apart free) step.tables in
     rw (now, trees) (
       record {
@@ -231,7 +236,8 @@ does_first_among at tree s stands alone limit mode version db after has text tal
       rows,
     )
 
-pub does_raise_among : (at tree : ℕ) (s : Schema) → Stands s at (meta tree) → IsAlone s (meta tree) → (limit : Option ℕ) (mode : Mode) (version : ℕ) (db after : Database) (before : Value)
+pub does_raise_among : (at tree : ℕ) (s : Schema) → Stands s at (meta tree) → IsAlone s (meta tree)
+    → (limit : Option ℕ) (mode : Mode) (version : ℕ) (db after : Database) (before : Value)
     → db.schema ≡ s → value_at (db.trees tree) 1 ≡ Some before
     → (text : List ℕ) (tally : Tally) → Does limit mode (Int (pos version) ∷ []) db text None (raises at tree) (Ok (tally, after))
     → PutsAmong db after tree 1 (Int (pos version))
@@ -245,12 +251,16 @@ does_raise_among at tree s stands alone limit mode version db after before has t
     let asked = went done.1 in
     let write = went asked.2 in
     let trees : done.0.trees ≡ write.0 = ap (λ (w : Written). w.trees) (same_value write.2) in
-    let made = renewed (codes "meta") (codes "id") (codes "version") Integer tree (stored s at (meta tree) stands) limit mode 1 (Int (pos version)) (cast_int (pos version)) db.trees s alone in
+    let made = renewed (codes "meta") (codes "id") (codes "version") Integer tree (stored s at (meta tree) stands) limit mode 1 (Int (pos version))
+    (cast_int (pos version)) db.trees s alone in
     let same : IsPermutation (map made (filter (has_rowid (pos 1)) (db.trees tree))) asked.0 =
-    answered db.trees tree 1 first_key_is (stored s at (meta tree) stands) given (λ x. tests_key 1 (rowid x) (Int (pos 1)) (find_own 1)) (col 1 0 ∷ col 1 0 ∷ lit Null ∷ col 0 0 ∷ []) asked.0
+    answered db.trees tree 1 first_key_is (stored s at (meta tree) stands) given (λ x. tests_key 1 (rowid x) (Int (pos 1)) (find_own 1))
+    (col 1 0 ∷ col 1 0 ∷ lit Null ∷ col 0 0 ∷ []) asked.0
     (asked.1.answer Null) in
-    let change : Edit = edit (codes "meta") (codes "id") (codes "version") Integer tree (stored s at (meta tree) stands) limit mode 1 (Int (pos version)) (cast_int (pos version)) db.trees s alone asked.0 in
-    let put = put_matches (codes "meta") (codes "id") (codes "version") Integer tree (stored s at (meta tree) stands) limit mode 1 (Int (pos version)) (cast_int (pos version)) db.trees s alone asked.0 same (row_of_value db.trees before there) write.0
+    let change : Edit = edit (codes "meta") (codes "id") (codes "version") Integer tree (stored s at (meta tree) stands) limit mode 1 (Int (pos version))
+    (cast_int (pos version)) db.trees s alone asked.0 in
+    let put = put_matches (codes "meta") (codes "id") (codes "version") Integer tree (stored s at (meta tree) stands) limit mode 1 (Int (pos version))
+    (cast_int (pos version)) db.trees s alone asked.0 same (row_of_value db.trees before there) write.0
     (one_step s mode.keys db.trees write.0 change (works_none s mode.keys 0 tree (taken_by db.trees change) change.news s.tables alone.unreferred) write.1) in
     rw (now, trees) (record {
       schema = sym has;

@@ -280,7 +280,7 @@ fn keeps_over_a_restart<S: Alter + Drop>(
     conn: Connection<S>,
     state: &HandlerState,
 ) -> Result<(), KeeperError> {
-    // a store makes its tables in a database that has none
+    // a store makes its tables beside those of the database
     let mut store = Store::create(alloc, conn)?;
     assert!(rt; store.put_handler(state).is_ok());
     are_equal(rt, store.next_incarnation(ClientId(7)), Ok(1));

@@ -19,4 +19,5 @@ pub returns-clause-kept : goal.returns-clause-kept
 returns-clause-kept g c clean =
     let old = state g.S.Store c.args.tx.now.conn.now in
     let new = state g.S.Store c.execute.new.self.conn.now in
-    executes_keep create_handlers [] old new c.execute.result (λ outside. ap (state g.S.Store) (c.execute.ensures.ended outside).1) (c.execute.ensures.runs clean)
+    executes_keep create_handlers [] old new c.execute.result (λ outside. ap (state g.S.Store) (c.execute.ensures.ended outside).1)
+    (c.execute.ensures.runs clean)

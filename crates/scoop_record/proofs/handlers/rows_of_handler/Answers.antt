@@ -17,7 +17,8 @@ returns-clause-rows g c clean =
     let ready = c.requires (clean_before old new _ c.query_all.ensures.survives clean, was_open select_image _ old new rows.items shown) in
     let is = select_image_is s ready.first.has_handlers.at (handlers_tree s) ready.first.has_handlers.stands in (
       still_among s select_image _ old new rows.items refl is.1 shown,
-      λ few. shows_among s select_image (handlers_tree s) c.args.handler (codes "image") old new rows.items (low_tree _ ready.first.has_handlers.stands.low) refl few is shown,
+      λ few. shows_among s select_image (handlers_tree s) c.args.handler (codes "image") old new rows.items
+          (low_tree _ ready.first.has_handlers.stands.low) refl few is shown,
     )
     ) (rw c.params-to_sql.ensures at (c.query_all.ensures.ok clean))
 

@@ -17,7 +17,8 @@ returns-clause-rows g c clean =
     let ready = c.requires (clean_before old new _ c.query_all.ensures.survives clean, was_open select_entries _ old new rows.items shown) in
     let is = select_entries_is s ready.has_pending.at (pending_tree s) ready.has_pending.stands in (
       still_among s select_entries _ old new rows.items refl is.1 shown,
-      λ few. shows_among s select_entries (pending_tree s) c.args.handler (codes "entries") old new rows.items (low_tree _ ready.has_pending.stands.low) refl few is shown,
+      λ few. shows_among s select_entries (pending_tree s) c.args.handler (codes "entries") old new rows.items
+          (low_tree _ ready.has_pending.stands.low) refl few is shown,
     )
     ) (rw c.params-to_sql.ensures at (c.query_all.ensures.ok clean))
 
