@@ -2,4 +2,4 @@ use Rattle.std.proofs.Common.{length}
 use Rattle.scoop_session.proofs.said.+are_among.Given as goal
 
 abbrev pub decreases-are_among : goal.decreases-are_among
-decreases-are_among g l = length l.messages.now
+decreases-are_among l = length l.messages.now
