@@ -31,7 +31,7 @@ const STRANGE: u32 = 100;
 type Handed = (HandlerId, Class, Table);
 
 /// The class of a cell.
-fn class(alloc: Global) -> Option<Class> {
+fn class(rt: &impl Abort, alloc: Global) -> Class {
     let write = Write {
         word: 0,
         base: Term::Arg(0),
@@ -41,35 +41,35 @@ fn class(alloc: Global) -> Option<Class> {
     let set = OpRow {
         op: SET,
         test: None,
-        writes: Writes::of(&[write]).ok()?,
+        writes: Writes::of(&[write]).expect(rt, "too many writes"),
         answer: Term::Word(0),
     };
-    Class::build(alloc, 1, &[set]).ok()
+    Class::build(alloc, 1, &[set]).expect(rt, "no class")
 }
 
 /// A cell that holds 0, with its class.
-fn handed(alloc: Global, number: u32) -> Option<Handed> {
-    let object = Table::new(class(alloc)?, Words::of(&[0]).ok()?).ok()?;
+fn handed(rt: &impl Abort, alloc: Global, number: u32) -> Handed {
+    let words = Words::of(&[0]).expect(rt, "no words");
+    let object = Table::new(class(rt, alloc), words).expect(rt, "no object");
     let class = if number < STRANGE {
-        class(alloc)?
+        class(rt, alloc)
     } else {
-        Class::build(alloc, 1, &[]).ok()?
+        Class::build(alloc, 1, &[]).expect(rt, "no class")
     };
-    Some((HandlerId(number), class, object))
+    (HandlerId(number), class, object)
 }
 
 /// Cells of these numbers, of which there are no more than a node may have.
-fn cells(alloc: Global, numbers: &[u32]) -> Option<Vec<Handed>>
-    ensures { IfSome result (λ handlers. vec_len handlers ≤ MAX_HANDLERS) }
+fn cells(rt: &impl Abort, alloc: Global, numbers: &[u32]) -> Vec<Handed>
+    ensures { vec_len result ≤ MAX_HANDLERS }
 {
     let mut handlers = Vec::new(alloc);
     for number in numbers {
-        handlers.push(handed(alloc, *number)?).ok()?;
+        let handed = handed(rt, alloc, *number);
+        handlers.push(handed).expect(rt, "out of memory");
     }
-    if handlers.len() > MAX_HANDLERS {
-        return None;
-    }
-    Some(handlers)
+    assert!(rt; handlers.len() <= MAX_HANDLERS);
+    handlers
 }
 
 /// The first block of the client's first incarnation.
@@ -114,9 +114,9 @@ fn log(handler: u32, client: u32, number: u32) -> Option<Event>
 type MemoryBook = Book<Table, MemoryKeeper>;
 
 /// A book of these cells over memory.
-fn book(alloc: Global, numbers: &[u32]) -> Option<Result<MemoryBook, OpenError>> {
-    let handlers = cells(alloc, numbers)?;
-    Some(Book::open(alloc, handlers, MemoryKeeper::new(alloc)))
+fn book(rt: &impl Abort, alloc: Global, numbers: &[u32]) -> Result<MemoryBook, OpenError> {
+    let handlers = cells(rt, alloc, numbers);
+    Book::open(alloc, handlers, MemoryKeeper::new(alloc))
 }
 
 // These stand alone, so that the tests don't carry what a step says.

@@ -16,6 +16,7 @@ use scoop_message::HandlerId;
 use scoop_message::limits::BUFFER_LEN;
 use scoop_pacing::Times;
 use std::alloc::Global;
+use std::fmt::Debug;
 use std::process::Abort;
 
 const HANDLER: Party = Party::Handler(HandlerId(1));
@@ -61,14 +62,28 @@ fn tape(rt: &impl Abort, alloc: Global, room: usize) -> TapeLink {
 }
 
 fn feeds(rt: &impl Abort, tape: &mut TapeLink, bytes: &[u8]) {
-    assert!(rt; tape.feed(bytes).is_ok());
+    tape.feed(bytes).expect(rt, "out of memory");
+}
+
+// The tape brings a greeting of each of these clients.
+fn brings(rt: &impl Abort, tape: &mut TapeLink, clients: &[u8]) {
+    for client in clients {
+        feeds(rt, tape, &hello(*client));
+    }
 }
 
 // The link receives a datagram of this length, whose byte at a place is this, or nothing.
 fn gets<L: Link>(rt: &impl Abort, link: &mut L, wanted: Option<usize>, at: usize, byte: u8) {
     let mut buffer = [0; BUFFER_LEN];
-    assert_eq!(rt; link.receive(&mut buffer), Ok(wanted));
+    are_equal(rt, link.receive(&mut buffer), Ok(wanted));
     if wanted.is_some() {
-        assert!(rt; buffer.get(at) == Some(&byte));
+        are_equal(rt, buffer.get(at), Some(&byte));
+    }
+}
+
+/// Both values are equal. It is proved once, where an `assert_eq!` would be proved in each function.
+fn are_equal<T: PartialEq + Debug + Drop>(rt: &impl Abort, left: T, right: T) {
+    if left != right {
+        panic!(rt; "{left:?} is not {right:?}");
     }
 }

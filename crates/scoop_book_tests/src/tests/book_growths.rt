@@ -10,16 +10,15 @@ use scoop_object::Table;
 use scoop_refusing::Refusing;
 use std::alloc::Global;
 use std::process::Abort;
-use std::test::Fail;
 
 type HeapBook<'a> = Book<Table, MemoryKeeper<Heap<'a>>, Heap<'a>>;
 
 /// The length of a history and its last entry. A history only grows, so they tell whether it has changed.
 type Last = (usize, Option<(u32, Event, Reply)>);
 
-fn opens<'a>(alloc: Global, heap: Heap<'a>) -> Option<HeapBook<'a>> {
-    let handlers = cells(alloc, &[1])?;
-    Book::open(heap, handlers, MemoryKeeper::new(heap)).ok()
+fn opens<'a>(rt: &impl Abort, alloc: Global, heap: Heap<'a>) -> HeapBook<'a> {
+    let handlers = cells(rt, alloc, &[1]);
+    Book::open(heap, handlers, MemoryKeeper::new(heap)).expect(rt, "failed")
 }
 
 /// The last entry of a history.
@@ -107,15 +106,18 @@ fn runs<'a>(rt: &impl Abort, heap: Heap<'a>, book: &mut HeapBook<'a>, number: u6
     Some(at_begin || at_finish)
 }
 
-/// Whether the growth of this number was refused in any act.
-fn any_refused(rt: &impl Abort, alloc: Global, number: u64) -> Option<bool> {
-    let heap = Refusing::new(alloc, 0);
-    let mut book = opens(alloc, &heap)?;
+/// Does all acts. Returns whether the growth of this number was refused in any.
+fn does_all<'a>(
+    rt: &impl Abort,
+    heap: Heap<'a>,
+    book: &mut HeapBook<'a>,
+    number: u64,
+) -> Option<bool> {
     let mut any = false;
     for act in ACTS {
         let refused = match act {
-            Act::Run => runs(rt, &heap, &mut book, number)?,
-            _ => hears(rt, &heap, &mut book, number, act)?,
+            Act::Run => runs(rt, heap, book, number)?,
+            _ => hears(rt, heap, book, number, act)?,
         };
         any = any || refused;
     }
@@ -123,13 +125,20 @@ fn any_refused(rt: &impl Abort, alloc: Global, number: u64) -> Option<bool> {
     Some(any)
 }
 
+/// The same at a book of its own.
+fn any_refused(rt: &impl Abort, alloc: Global, number: u64) -> bool {
+    let heap = Refusing::new(alloc, 0);
+    let mut book = opens(rt, alloc, &heap);
+    does_all(rt, &heap, &mut book, number).expect(rt, "refused")
+}
+
 #[test]
-fn a_refused_growth_leaves_words_and_history(rt: HostRuntime) -> Result<(), Fail> {
-    assert!(rt; any_refused(&rt, rt.alloc(), 1) == Some(true));
+fn a_refused_growth_leaves_words_and_history(rt: HostRuntime) {
+    assert!(rt; any_refused(&rt, rt.alloc(), 1));
     for number in 2..64u64 {
-        if !any_refused(&rt, rt.alloc(), number).expect(&rt, "no book") {
-            return Ok(());
+        if !any_refused(&rt, rt.alloc(), number) {
+            return;
         }
     }
-    Err("too many growths".into())
+    panic!(rt; "too many growths");
 }

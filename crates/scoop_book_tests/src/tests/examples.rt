@@ -42,9 +42,7 @@ fn stored(book: MemoryBook) -> Option<u64> {
 
 #[test]
 fn a_block_sets_a_cell(rt: HostRuntime) -> Result<(), Fail> {
-    let mut book = book(rt.alloc(), &[1])
-        .expect(&rt, "no cells")
-        .expect(&rt, "failed");
+    let mut book = book(&rt, rt.alloc(), &[1]).expect(&rt, "failed");
     sends(&mut book)?;
     runs(&rt, &mut book);
     assert!(rt; stored(book) == Some(5));

@@ -12,7 +12,6 @@ use scoop_refusing::Refusing;
 use std::alloc::Global;
 use std::process::Abort;
 use std::sync::Wait;
-use std::test::Fail;
 
 pub(super) type Heap<'a> = &'a Refusing<Global>;
 
@@ -41,11 +40,12 @@ pub(super) const ACTS: [Act; 6] = [
 ];
 
 fn opens<'a>(
+    rt: &impl Abort,
     alloc: Global,
     heap: Heap<'a>,
-) -> Option<Result<(HeapNode<'a>, Vec<HeapPass<'a>, Heap<'a>>), OpenError>> {
-    let handlers = cells(alloc, &[1])?;
-    Some(Node::open(heap, handlers, MemoryKeeper::new(heap), 1))
+) -> Result<(HeapNode<'a>, Vec<HeapPass<'a>, Heap<'a>>), OpenError> {
+    let handlers = cells(rt, alloc, &[1]);
+    Node::open(heap, handlers, MemoryKeeper::new(heap), 1)
 }
 
 // The message of an act. A run has none.
@@ -158,61 +158,57 @@ fn does_all<'a>(
     Some(any)
 }
 
-/// How many entries the history has of the node that is closed with this pass.
-fn closed<'a>(
-    rt: &impl Wait,
-    heap: Heap<'a>,
+/// Closes the node with its passes. Its history has this many entries.
+fn closes<'a>(
+    rt: &(impl Abort + Wait),
     node: HeapNode<'a>,
-    pass: HeapPass<'a>,
-) -> Option<usize> {
-    let mut given = Vec::new(heap);
-    given.push(pass).ok()?;
-    Some(node.close(rt, given).ok()?.history.len())
+    passes: Vec<HeapPass<'a>, Heap<'a>>,
+    wanted: usize,
+) {
+    let closed = node.close(rt, passes).ok().expect(rt, "not closed");
+    assert!(rt; closed.history.len() == wanted);
 }
 
 /// Whether the growth of this number was refused in any act. The node closes at the end.
-fn any_refused(rt: &(impl Abort + Wait), alloc: Global, number: u64) -> Option<bool> {
+fn any_refused(rt: &(impl Abort + Wait), alloc: Global, number: u64) -> bool {
     let heap = Refusing::new(alloc, 0);
-    let (node, mut passes) = opens(alloc, &heap)?.ok()?;
-    let mut pass = passes.pop()?;
-    let any = does_all(rt, &heap, &node, &mut pass, number)?;
-    let entries = closed(rt, &heap, node, pass);
-    assert!(rt; entries == Some(7));
-    Some(any)
+    let (node, mut passes) = opens(rt, alloc, &heap).expect(rt, "failed");
+    let any = match passes.first_mut() {
+        Some(pass) => does_all(rt, &heap, &node, pass, number).expect(rt, "refused"),
+        None => panic!(rt; "no pass"),
+    };
+    closes(rt, node, passes, 7);
+    any
 }
 
-/// Opens a node while the growth of this number is refused, and returns whether one was.
-fn opening(alloc: Global, number: u64) -> Option<(Option<OpenError>, bool)> {
+/// Opens a node while the growth of this number is refused. Returns its error, and whether one was refused.
+fn opening(rt: &impl Abort, alloc: Global, number: u64) -> (Option<OpenError>, bool) {
     let heap = Refusing::new(alloc, number);
-    let opened = opens(alloc, &heap)?;
-    let refused = heap.has_refused();
-    match opened {
-        Ok(_) => Some((None, refused)),
-        Err(error) => Some((Some(error), refused)),
-    }
+    let error = opens(rt, alloc, &heap).err();
+    (error, heap.has_refused())
 }
 
 #[test]
-fn each_growth_of_an_event_is_refused(rt: HostRuntime) -> Result<(), Fail> {
-    assert!(rt; any_refused(&rt, rt.alloc(), 1) == Some(true));
+fn each_growth_of_an_event_is_refused(rt: HostRuntime) {
+    assert!(rt; any_refused(&rt, rt.alloc(), 1));
     for number in 2..64u64 {
-        if !any_refused(&rt, rt.alloc(), number).expect(&rt, "no node") {
-            return Ok(());
+        if !any_refused(&rt, rt.alloc(), number) {
+            return;
         }
     }
-    Err("too many growths".into())
+    panic!(rt; "too many growths");
 }
 
 #[test]
-fn each_growth_of_an_opening_is_refused(rt: HostRuntime) -> Result<(), Fail> {
+fn each_growth_of_an_opening_is_refused(rt: HostRuntime) {
     let refused = (Some(OpenError::OutOfMemory), true);
-    assert!(rt; opening(rt.alloc(), 1) == Some(refused));
+    assert!(rt; opening(&rt, rt.alloc(), 1) == refused);
     for number in 2..64u64 {
-        let opened = opening(rt.alloc(), number).expect(&rt, "no cells");
+        let opened = opening(&rt, rt.alloc(), number);
         if opened == (None, false) {
-            return Ok(());
+            return;
         }
         assert!(rt; opened == refused);
     }
-    Err("too many growths".into())
+    panic!(rt; "too many growths");
 }

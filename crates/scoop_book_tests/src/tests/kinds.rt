@@ -7,7 +7,6 @@ use scoop_message::{Answer, Args, ClientId, Entries, Entry, Message, Request};
 use scoop_object::Table;
 use std::alloc::Global;
 use std::process::Abort;
-use std::test::Fail;
 
 /// Entries as they were made, each with the reply that the call returned.
 type Made = Vec<(u32, Event, Reply)>;
@@ -50,55 +49,47 @@ fn messages() -> Option<[Message; 13]> {
 }
 
 /// The book hears the message.
-fn hears(book: &mut MemoryBook, message: &Message, made: &mut Made) -> Option<()> {
+fn hears(rt: &impl Abort, book: &mut MemoryBook, message: &Message, made: &mut Made) {
     let _parts: Parts = None;
-    let Ok(reply) = book.step(3, Event::Hear(*message)) else {
-        return None;
-    };
-    made.push((3, Event::Hear(*message), reply)).ok()
+    let reply = book.step(3, Event::Hear(*message)).expect(rt, "refused");
+    made.push((3, Event::Hear(*message), reply))
+        .expect(rt, "out of memory");
 }
 
 /// The next entry leaves, if there is one.
-fn begins(book: &mut MemoryBook, made: &mut Made) -> Option<Option<Job<Table>>> {
+fn begins(rt: &impl Abort, book: &mut MemoryBook, made: &mut Made) -> Option<Job<Table>> {
     let _parts: Parts = None;
-    let Ok(job) = book.begin(u32::MAX, ONE) else {
-        return None;
-    };
+    let job = book.begin(u32::MAX, ONE).expect(rt, "refused");
     let left = match &job {
         Some(job) => Some((job.block(), job.number())),
         None => None,
     };
     made.push((u32::MAX, Event::Begin(ONE), Reply::Began(left)))
-        .ok()?;
-    Some(job)
+        .expect(rt, "out of memory");
+    job
 }
 
 /// The next entry leaves, and has run.
-fn runs(book: &mut MemoryBook, made: &mut Made) -> Option<()> {
+fn runs(rt: &impl Abort, book: &mut MemoryBook, made: &mut Made) {
     let _parts: Parts = None;
-    let job = begins(book, made)??;
-    let Ok(ran) = book.finish(0, job.work()) else {
-        return None;
-    };
+    let job = begins(rt, book, made).expect(rt, "nothing to run");
+    let ran = book.finish(0, job.work()).ok().expect(rt, "refused");
     made.push((0, Event::Finish(ONE), Reply::Finished(ran)))
-        .ok()
+        .expect(rt, "out of memory");
 }
 
 /// All of it, with one Begin that finds nothing. At the end the query is asked for again, and gets the kept answer.
-fn makes(alloc: Global, book: &mut MemoryBook) -> Option<Made> {
-    let mut made = Vec::new(alloc);
-    for message in &messages()? {
-        hears(book, message, &mut made)?;
+fn makes(rt: &impl Abort, book: &mut MemoryBook, made: &mut Made) {
+    for message in &messages().expect(rt, "no messages") {
+        hears(rt, book, message, made);
     }
     for _ in 0..6 {
-        runs(book, &mut made)?;
+        runs(rt, book, made);
     }
-    if begins(book, &mut made)?.is_some() {
-        return None;
-    }
-    let again = Entries::of(&[query()?]).ok()?;
-    hears(book, &Message::Log(ONE, block(7), 5, again), &mut made)?;
-    Some(made)
+    assert!(rt; begins(rt, book, made).is_none());
+    let query = query().expect(rt, "no query");
+    let again = Entries::of(&[query]).expect(rt, "no entries");
+    hears(rt, book, &Message::Log(ONE, block(7), 5, again), made);
 }
 
 /// The history has exactly these entries, also as a list.
@@ -109,21 +100,15 @@ fn is_read_back(rt: &impl Abort, alloc: Global, book: &MemoryBook, made: &[(u32,
         assert!(rt; entries.next_entry() == Some(*entry));
     }
     assert!(rt; entries.next_entry() == None);
-    let Ok(list) = book.history().to_vec(alloc) else {
-        panic!(rt; "out of memory");
-    };
+    let list = book.history().to_vec(alloc).expect(rt, "out of memory");
     assert!(rt; list.as_slice() == made);
 }
 
 #[test]
-fn each_kind_of_entry_is_read_back(rt: HostRuntime) -> Result<(), Fail> {
-    let mut book = book(rt.alloc(), &[1])
-        .expect(&rt, "cells")
-        .expect(&rt, "failed");
-    let Some(made) = makes(rt.alloc(), &mut book) else {
-        return Err("refused".into());
-    };
+fn each_kind_of_entry_is_read_back(rt: HostRuntime) {
+    let mut book = book(&rt, rt.alloc(), &[1]).expect(&rt, "failed");
+    let mut made = Vec::new(rt.alloc());
+    makes(&rt, &mut book, &mut made);
     assert!(rt; made.len() == 27);
     is_read_back(&rt, rt.alloc(), &book, &made);
-    Ok(())
 }

@@ -12,7 +12,6 @@ use scoop_object::Table;
 use std::alloc::Global;
 use std::process::Abort;
 use std::sync::Wait;
-use std::test::Fail;
 
 type MemoryNode = Node<Table, MemoryKeeper>;
 
@@ -45,9 +44,7 @@ fn finished(
 
 /// The one entry leaves and finishes. Meanwhile there is none to run, and the word stays.
 fn runs(rt: &impl Abort, book: &mut MemoryBook) {
-    let Some(job) = done(book, 5) else {
-        panic!(rt; "no job");
-    };
+    let job = done(book, 5).expect(rt, "no job");
     let idle = is_idle(book);
     let before = word(book, ONE);
     let ran = finished(book, 6, job);
@@ -69,24 +66,22 @@ fn is_run(rt: &impl Abort, history: &[(u32, Event, Reply)]) {
 }
 
 #[test]
-fn a_book_hears_and_runs(rt: HostRuntime) -> Result<(), Fail> {
-    let mut book = book(rt.alloc(), &[1, 2])
-        .expect(&rt, "cells")
-        .expect(&rt, "failed");
+fn a_book_hears_and_runs(rt: HostRuntime) {
+    let mut book = book(&rt, rt.alloc(), &[1, 2]).expect(&rt, "failed");
     sends(&rt, &mut book);
     let unknown = refusal(&mut book, hello(3, 7));
     runs(&rt, &mut book);
-    let Ok(history) = book.history().to_vec(rt.alloc()) else {
-        return Err("out of memory".into());
-    };
+    let history = book
+        .history()
+        .to_vec(rt.alloc())
+        .expect(&rt, "out of memory");
     is_run(&rt, &history);
     assert!(rt; unknown == Some(BookError::UnknownHandler));
-    Ok(())
 }
 
 /// A book over the keeper of another one.
-fn again(alloc: Global, book: MemoryBook) -> Option<Result<MemoryBook, OpenError>> {
-    Some(Book::open(alloc, cells(alloc, &[1])?, book.into_keeper()))
+fn again(rt: &impl Abort, alloc: Global, book: MemoryBook) -> MemoryBook {
+    Book::open(alloc, cells(rt, alloc, &[1]), book.into_keeper()).expect(rt, "failed")
 }
 
 /// The book goes on where another one was, and takes no job that left that one.
@@ -94,9 +89,7 @@ fn goes_on(rt: &impl Abort, book: &mut MemoryBook, strange: Done<Table>) {
     let refused = finished(book, 0, strange);
     assert!(rt; refused == Err(FinishRefusal::Stranger));
     assert!(rt; notes_log(book, Note::Known));
-    let Some(job) = done(book, 0) else {
-        panic!(rt; "no job");
-    };
+    let job = done(book, 0).expect(rt, "no job");
     let ran = finished(book, 0, job);
     assert!(rt; ran.is_ok());
     assert!(rt; word(book, ONE) == Some(1));
@@ -105,65 +98,53 @@ fn goes_on(rt: &impl Abort, book: &mut MemoryBook, strange: Done<Table>) {
 /// A book that opens over another one's keeper goes on where that one was, with no job out.
 #[test]
 fn a_book_opens_again(rt: HostRuntime) {
-    let mut first = book(rt.alloc(), &[1])
-        .expect(&rt, "cells")
-        .expect(&rt, "failed");
+    let mut first = book(&rt, rt.alloc(), &[1]).expect(&rt, "failed");
     sends(&rt, &mut first);
     let strange = done(&mut first, 0).expect(&rt, "a job");
-    let mut second = again(rt.alloc(), first)
-        .expect(&rt, "cells")
-        .expect(&rt, "failed");
+    let mut second = again(&rt, rt.alloc(), first);
     goes_on(&rt, &mut second, strange);
 }
 
-/// Why handler 1, as it stood, doesn't open again over this keeper.
+/// Why handler 1, as it stood, doesn't open again over this keeper, if it doesn't.
 fn not_reopened(
+    rt: &impl Abort,
     alloc: Global,
     keeper: MemoryKeeper,
     stood: &Standing<Table>,
-) -> Option<Result<(), ReopenError>> {
-    match Book::reopen(alloc, cells(alloc, &[1])?, keeper, stood) {
-        Ok(_) => Some(Ok(())),
-        Err(error) => Some(Err(error)),
-    }
+) -> Option<ReopenError> {
+    Book::reopen(alloc, cells(rt, alloc, &[1]), keeper, stood).err()
 }
 
 /// A handler that stood with a job out opens again over its keeper, and over no other one.
 #[test]
-fn a_book_opens_again_as_it_stood(rt: HostRuntime) -> Result<(), Fail> {
-    let mut first = book(rt.alloc(), &[1])
-        .expect(&rt, "cells")
-        .expect(&rt, "failed");
+fn a_book_opens_again_as_it_stood(rt: HostRuntime) {
+    let mut first = book(&rt, rt.alloc(), &[1]).expect(&rt, "failed");
     sends(&rt, &mut first);
     let _job = done(&mut first, 0).expect(&rt, "a job");
     let (keeper, stood) = first.into_standing();
     let empty = MemoryKeeper::new(rt.alloc());
-    assert!(rt; not_reopened(rt.alloc(), keeper, &stood) == Some(Ok(())));
-    assert!(rt; not_reopened(rt.alloc(), empty, &stood) == Some(Err(ReopenError::OtherStates)));
-    Ok(())
+    assert!(rt; not_reopened(&rt, rt.alloc(), keeper, &stood) == None);
+    assert!(rt; not_reopened(&rt, rt.alloc(), empty, &stood) == Some(ReopenError::OtherStates));
 }
 
-/// Why a book of these handlers doesn't open.
-fn fault(alloc: Global, numbers: &[u32]) -> Option<OpenError> {
-    match book(alloc, numbers) {
-        Some(Err(error)) => Some(error),
-        _ => None,
-    }
+/// Why a book of these handlers doesn't open, if it doesn't.
+fn fault(rt: &impl Abort, alloc: Global, numbers: &[u32]) -> Option<OpenError> {
+    book(rt, alloc, numbers).err()
 }
 
 #[test]
 fn handlers_are_refused(rt: HostRuntime) {
     let wrong = Some(OpenError::WrongClass(HandlerId(STRANGE)));
     let repeated = Some(OpenError::Repeated(HandlerId(2)));
-    assert!(rt; fault(rt.alloc(), &[1, 2, 2, 1]) == repeated);
-    assert!(rt; fault(rt.alloc(), &[1, 1, STRANGE]) == wrong);
-    assert!(rt; fault(rt.alloc(), &[]).is_none());
+    assert!(rt; fault(&rt, rt.alloc(), &[1, 2, 2, 1]) == repeated);
+    assert!(rt; fault(&rt, rt.alloc(), &[1, 1, STRANGE]) == wrong);
+    assert!(rt; fault(&rt, rt.alloc(), &[]) == None);
 }
 
 /// A node with a limit of two entries, over the keeper of this book, and its passes.
-fn limited(alloc: Global, book: MemoryBook) -> Option<Result<(MemoryNode, Vec<Pass>), OpenError>> {
-    let handlers = cells(alloc, &[1])?;
-    Some(Node::open_limited(alloc, handlers, book.into_keeper(), 1, 2))
+fn limited(rt: &impl Abort, alloc: Global, book: MemoryBook) -> (MemoryNode, Vec<Pass>) {
+    let handlers = cells(rt, alloc, &[1]);
+    Node::open_limited(alloc, handlers, book.into_keeper(), 1, 2).expect(rt, "failed")
 }
 
 /// Why the job that leaves isn't finished, and the number of the job that the node returns.
@@ -182,26 +163,21 @@ fn ends(rt: &(impl Abort + Wait), node: &MemoryNode, pass: &mut Pass) {
     assert!(rt; pass.events().len() == 2);
 }
 
-/// How many entries the history has of the node that is closed with this pass.
-fn closed(rt: &impl Wait, alloc: Global, node: MemoryNode, pass: Pass) -> Option<usize> {
-    let mut given = Vec::new(alloc);
-    given.push(pass).ok()?;
-    Some(node.close(rt, given).ok()?.history.len())
+/// Closes the node with its passes. Its history has this many entries.
+fn closes(rt: &(impl Abort + Wait), node: MemoryNode, passes: Vec<Pass>, wanted: usize) {
+    let closed = node.close(rt, passes).ok().expect(rt, "not closed");
+    assert!(rt; closed.history.len() == wanted);
 }
 
 /// A limit of two: the node returns a job that is out then, and closes.
 #[test]
 fn a_history_ends(rt: HostRuntime) {
-    let mut before = book(rt.alloc(), &[1])
-        .expect(&rt, "cells")
-        .expect(&rt, "failed");
+    let mut before = book(&rt, rt.alloc(), &[1]).expect(&rt, "failed");
     sends(&rt, &mut before);
-    let (node, mut passes) = limited(rt.alloc(), before)
-        .expect(&rt, "cells")
-        .expect(&rt, "failed");
-    let mut pass = passes.pop().expect(&rt, "a pass");
-    ends(&rt, &node, &mut pass);
-    assert!(rt; closed(&rt, rt.alloc(), node, pass) == Some(2));
+    let (node, mut passes) = limited(&rt, rt.alloc(), before);
+    let pass = passes.first_mut().expect(&rt, "no pass");
+    ends(&rt, &node, pass);
+    closes(&rt, node, passes, 2);
 }
 
 fn fills(rt: &impl Abort, book: &mut MemoryBook) {
@@ -216,8 +192,6 @@ fn fills(rt: &impl Abort, book: &mut MemoryBook) {
 /// The longest history, met and passed.
 #[test]
 fn the_longest_history_ends(rt: HostRuntime) {
-    let mut book = book(rt.alloc(), &[1])
-        .expect(&rt, "cells")
-        .expect(&rt, "failed");
+    let mut book = book(&rt, rt.alloc(), &[1]).expect(&rt, "failed");
     fills(&rt, &mut book);
 }

@@ -1,7 +1,7 @@
 //! Two threads at one node, and its close.
 
 use super::{cells, hello, lock, log, open};
-use scoop_book::{CloseRefusal, Event, Node, OpenError, Pass, Reply};
+use scoop_book::{CloseRefusal, Event, History, Node, OpenError, Pass, Reply};
 use scoop_keeper::MemoryKeeper;
 use scoop_message::HandlerId;
 use scoop_object::Table;
@@ -83,9 +83,13 @@ fn both_work<R: Threads + Wait + Sync>(
 }
 
 /// A node of two cells, with its passes from the last to the first.
-fn opened(alloc: Global, passes: u32) -> Option<Result<(MemoryNode, Vec<Pass>), OpenError>> {
-    let handlers = cells(alloc, &[1, 2])?;
-    Some(Node::open(alloc, handlers, MemoryKeeper::new(alloc), passes))
+fn opened(
+    rt: &impl Abort,
+    alloc: Global,
+    passes: u32,
+) -> Result<(MemoryNode, Vec<Pass>), OpenError> {
+    let handlers = cells(rt, alloc, &[1, 2]);
+    Node::open(alloc, handlers, MemoryKeeper::new(alloc), passes)
 }
 
 /// How many entries are of this pass.
@@ -94,91 +98,87 @@ fn entries_of(history: &[(u32, Event, Reply)], number: u32) -> usize {
 }
 
 /// One pass of another node with the same number as a node's second.
-fn strange(alloc: Global) -> Option<Pass> {
-    let (_, mut passes) = opened(alloc, 2)?.ok()?;
-    passes.pop()
+fn strange(rt: &impl Abort, alloc: Global) -> Pass {
+    let (_, mut passes) = opened(rt, alloc, 2).expect(rt, "failed");
+    passes.pop().expect(rt, "no pass")
 }
 
-/// Two threads work at the node: the second's pass, and the first's, given back.
+/// The pass has this number, and its thread made all of its events.
+fn is_used(rt: &impl Abort, pass: &Pass, number: u32) {
+    assert!(rt; pass.number() == number);
+    assert!(rt; pass.events().len() == 500);
+}
+
+/// Two threads work at the node, and give back the first's pass and the second's.
 fn worked<R: Threads + Wait + Sync + Abort>(
     rt: &R,
-    alloc: Global,
     node: &MemoryNode,
     mut passes: Vec<Pass>,
-) -> Option<(Pass, Vec<Pass>)> {
-    let second = passes.pop()?;
-    let first = passes.pop()?;
+) -> (Pass, Pass) {
+    let second = passes.pop().expect(rt, "no pass");
+    let first = passes.pop().expect(rt, "no pass");
     let (first, second) = both_work(rt, node, first, second);
-    let (first, second) = (first?, second?);
-    assert!(rt; (first.number(), first.events().len()) == (0, 500));
-    assert!(rt; (second.number(), second.events().len()) == (1, 500));
-    let mut given = Vec::new(alloc);
-    given.push(first).ok()?;
-    Some((second, given))
+    let (first, second) = (first.expect(rt, "refused"), second.expect(rt, "refused"));
+    is_used(rt, &first, 0);
+    is_used(rt, &second, 1);
+    (first, second)
 }
 
-/// The node isn't closed with these passes: why, and both returned.
-fn unclosed<R: Wait>(
-    rt: &R,
+/// The node isn't closed with these passes, and returns with them.
+fn is_unclosed(
+    rt: &(impl Abort + Wait),
     node: MemoryNode,
     given: Vec<Pass>,
-) -> Option<(CloseRefusal, MemoryNode, Vec<Pass>)> {
-    match node.close(rt, given) {
-        Ok(_) => None,
-        Err(error) => Some((error.cause, error.node, error.passes)),
-    }
+    cause: CloseRefusal,
+) -> (MemoryNode, Vec<Pass>) {
+    let error = node.close(rt, given).err().expect(rt, "closed");
+    assert!(rt; error.cause == cause);
+    (error.node, error.passes)
 }
 
-/// Closes the node: how many entries its history has, and how many of each pass.
-fn closed<R: Wait>(
-    rt: &R,
-    alloc: Global,
-    node: MemoryNode,
-    given: Vec<Pass>,
-) -> Option<(usize, usize, usize)> {
-    let closed = node.close(rt, given).ok()?;
-    let Ok(history) = closed.history.to_vec(alloc) else {
-        return None;
-    };
-    Some((
-        history.len(),
-        entries_of(&history, 0),
-        entries_of(&history, 1),
-    ))
+/// Closes the node. Its history has a thousand entries, half of them of each pass.
+fn is_closed(rt: &(impl Abort + Wait), alloc: Global, node: MemoryNode, given: Vec<Pass>) {
+    let closed = node.close(rt, given).ok().expect(rt, "not closed");
+    has_both(rt, alloc, &closed.history);
+}
+
+fn has_both(rt: &impl Abort, alloc: Global, history: &History) {
+    let entries = history.to_vec(alloc).expect(rt, "out of memory");
+    assert!(rt; entries.len() == 1000);
+    assert!(rt; entries_of(&entries, 0) == 500);
+    assert!(rt; entries_of(&entries, 1) == 500);
 }
 
 /// The node is closed neither with one pass nor with a stranger's, but with its own.
-fn closes<R: Wait>(
-    rt: &R,
+fn closes(
+    rt: &(impl Abort + Wait),
     alloc: Global,
     node: MemoryNode,
     given: Vec<Pass>,
     stranger: Pass,
     second: Pass,
-) -> Option<((CloseRefusal, CloseRefusal), (usize, usize, usize))> {
-    let (missing, node, mut given) = unclosed(rt, node, given)?;
-    given.push(stranger).ok()?;
-    let (differs, node, mut given) = unclosed(rt, node, given)?;
+) {
+    let (node, mut given) = is_unclosed(rt, node, given, CloseRefusal::MissingPass);
+    given.push(stranger).expect(rt, "out of memory");
+    let (node, mut given) = is_unclosed(rt, node, given, CloseRefusal::PassDiffers(1));
     drop(given.pop());
-    given.push(second).ok()?;
-    Some(((missing, differs), closed(rt, alloc, node, given)?))
+    given.push(second).expect(rt, "out of memory");
+    is_closed(rt, alloc, node, given);
 }
 
 #[test]
 fn two_threads_work_and_the_node_is_closed(rt: HostRuntime) {
     let alloc = rt.alloc();
-    let stranger = strange(alloc).expect(&rt, "a stranger");
-    let (node, passes) = opened(alloc, 2).expect(&rt, "cells").expect(&rt, "failed");
-    let (second, given) = worked(&rt, alloc, &node, passes).expect(&rt, "passes");
-    let (causes, entries) = closes(&rt, alloc, node, given, stranger, second).expect(&rt, "closed");
-    assert!(rt; causes == (CloseRefusal::MissingPass, CloseRefusal::PassDiffers(1)));
-    assert!(rt; entries == (1000, 500, 500));
+    let stranger = strange(&rt, alloc);
+    let (node, passes) = opened(&rt, alloc, 2).expect(&rt, "failed");
+    let (first, second) = worked(&rt, &node, passes);
+    let given = vec![in alloc; first].expect(&rt, "out of memory");
+    closes(&rt, alloc, node, given, stranger, second);
 }
 
 #[test]
 fn a_node_has_a_pass(rt: HostRuntime) {
-    let none = opened(rt.alloc(), 0).expect(&rt, "cells").err();
+    let none = opened(&rt, rt.alloc(), 0).err();
     assert!(rt; none == Some(OpenError::NoPasses));
-    let one = opened(rt.alloc(), 1).expect(&rt, "cells").is_ok();
-    assert!(rt; one);
+    assert!(rt; opened(&rt, rt.alloc(), 1).is_ok());
 }

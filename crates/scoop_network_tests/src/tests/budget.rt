@@ -1,31 +1,35 @@
 //! Links that give each client a budget.
 
-use super::{Steps, feeds, gets, hello, tape};
+use super::{Steps, are_equal, brings, gets, tape};
 use scoop_admission::BudgetLink;
+use scoop_link::TapeLink;
 use scoop_message::ClientId;
-use std::test::Fail;
+use std::process::Abort;
+
+// The budget lets 64 greetings pass.
+fn passes_all(rt: &impl Abort, link: &mut BudgetLink<TapeLink, Steps>) {
+    for _ in 0..64 {
+        gets(rt, link, Some(26), 11, 7);
+    }
+}
 
 #[test]
-fn floods_leave_time_for_others(rt: HostRuntime) -> Result<(), Fail> {
+fn floods_leave_time_for_others(rt: HostRuntime) {
     let mut tape = tape(&rt, rt.alloc(), 0);
-    for _ in 0..65 {
-        feeds(&rt, &mut tape, &hello(7));
-    }
-    for client in [8, 7, 7, 99] {
-        feeds(&rt, &mut tape, &hello(client));
-    }
-    let clients = vec![in rt.alloc(); ClientId(7), ClientId(8)]?;
-    let mut link = BudgetLink::new(rt.alloc(), tape, Steps::of(400), &clients)?;
-    for _ in 0..64 {
-        gets(&rt, &mut link, Some(26), 11, 7);
-    }
+    brings(&rt, &mut tape, &[7; 65]);
+    brings(&rt, &mut tape, &[8, 7, 7, 99]);
+    let clients = vec![in rt.alloc(); ClientId(7), ClientId(8)].expect(&rt, "out of memory");
+    let mut link = BudgetLink::new(rt.alloc(), tape, Steps::of(400), &clients).expect(
+        &rt,
+        "out of memory",
+    );
+    passes_all(&rt, &mut link);
     // one too many, after 400 microseconds, and another client's
     gets(&rt, &mut link, Some(26), 11, 8);
-    assert_eq!(rt; link.dropped(), 1);
+    are_equal(&rt, link.dropped(), 1);
     // one after 800 microseconds, and one after 1,200
     gets(&rt, &mut link, Some(26), 11, 7);
-    assert_eq!(rt; link.dropped(), 2);
+    are_equal(&rt, link.dropped(), 2);
     gets(&rt, &mut link, Some(26), 11, 99);
     gets(&rt, &mut link, None, 0, 0);
-    Ok(())
 }

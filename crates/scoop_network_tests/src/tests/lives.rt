@@ -1,11 +1,10 @@
 //! Keys of a system's name and life. The code under test was reckoned by another program.
 
-use super::{HANDLER, feeds, gets, tape};
-use scoop_link::Link;
+use super::{HANDLER, are_equal, feeds, gets, tape};
+use scoop_link::{Link, TapeLink};
 use scoop_seal::{Key, SealedLink};
 use std::alloc::Global;
 use std::process::Abort;
-use std::test::Fail;
 
 const KEY: [u8; 32] = [5; 32];
 
@@ -18,59 +17,45 @@ const LOCK_TAG: [u8; 16] = [
 ];
 
 // A datagram that a system with this name and life sends.
-fn recorded(
-    rt: &impl Abort,
-    alloc: Global,
-    name: &[u8],
-    life: u32,
-) -> SealedLink<scoop_link::TapeLink> {
+fn recorded(rt: &impl Abort, alloc: Global, name: &[u8], life: u32) -> SealedLink<TapeLink> {
     let mut link = SealedLink::new(tape(rt, alloc, 1), Key::new(KEY).of_system(name, life));
-    assert!(rt; link.send(HANDLER, b"lock").is_ok());
+    link.send(HANDLER, b"lock").expect(rt, "not sent");
     link
 }
 
-fn recorded_bytes(link: &SealedLink<scoop_link::TapeLink>) -> &[u8] {
+fn recorded_bytes(link: &SealedLink<TapeLink>) -> &[u8] {
     match link.inner().sent(0) {
         Some((_, bytes)) => bytes,
         None => &[],
     }
 }
 
-#[test]
-fn another_life_or_system_is_refused(rt: HostRuntime) {
-    let mut tape = tape(&rt, rt.alloc(), 0);
-    feeds(
-        &rt,
-        &mut tape,
-        recorded_bytes(&recorded(&rt, rt.alloc(), b"bank", 1)),
-    );
-    feeds(
-        &rt,
-        &mut tape,
-        recorded_bytes(&recorded(&rt, rt.alloc(), b"shop", 2)),
-    );
-    feeds(
-        &rt,
-        &mut tape,
-        recorded_bytes(&recorded(&rt, rt.alloc(), b"", 0)),
-    );
-    feeds(
-        &rt,
-        &mut tape,
-        recorded_bytes(&recorded(&rt, rt.alloc(), b"bank", 2)),
-    );
-    let mut link = SealedLink::new(tape, Key::new(KEY).of_system(b"bank", 2));
-    gets(&rt, &mut link, Some(4), 0, b'l');
-    assert_eq!(rt; link.refused(), 3);
+// The tape brings a datagram of a system with this name and life.
+fn brings(rt: &impl Abort, alloc: Global, tape: &mut TapeLink, name: &[u8], life: u32) {
+    let link = recorded(rt, alloc, name, life);
+    feeds(rt, tape, recorded_bytes(&link));
 }
 
 #[test]
-fn a_key_is_bound_and_read_back(rt: HostRuntime) -> Result<(), Fail> {
+fn another_life_or_system_is_refused(rt: HostRuntime) {
+    let mut tape = tape(&rt, rt.alloc(), 0);
+    brings(&rt, rt.alloc(), &mut tape, b"bank", 1);
+    brings(&rt, rt.alloc(), &mut tape, b"shop", 2);
+    brings(&rt, rt.alloc(), &mut tape, b"", 0);
+    brings(&rt, rt.alloc(), &mut tape, b"bank", 2);
+    let mut link = SealedLink::new(tape, Key::new(KEY).of_system(b"bank", 2));
+    gets(&rt, &mut link, Some(4), 0, b'l');
+    are_equal(&rt, link.refused(), 3);
+}
+
+#[test]
+fn a_key_is_bound_and_read_back(rt: HostRuntime) {
     let key = Key::new(KEY).of_system(b"bank", 1);
-    assert!(rt; key.to_text() == *BANK_1);
-    let mut link = SealedLink::new(tape(&rt, rt.alloc(), 1), Key::read(BANK_1)?);
-    assert!(rt; link.send(HANDLER, b"lock").is_ok());
+    are_equal(&rt, key.to_text().as_slice(), BANK_1.as_slice());
+    let key = Key::read(BANK_1).expect(&rt, "no key");
+    let mut link = SealedLink::new(tape(&rt, rt.alloc(), 1), key);
+    link.send(HANDLER, b"lock").expect(&rt, "not sent");
     let sent = recorded_bytes(&link);
-    assert!(rt; sent.starts_with(b"lock") && sent.ends_with(&LOCK_TAG));
-    Ok(())
+    are_equal(&rt, sent.get(..4), Some(b"lock".as_slice()));
+    are_equal(&rt, sent.get(4..), Some(LOCK_TAG.as_slice()));
 }

@@ -1,6 +1,6 @@
 //! Links to a node that stands at one of several addresses.
 
-use super::HANDLER;
+use super::{HANDLER, are_equal};
 use scoop_free_ports::free_ports;
 use scoop_link::{Addresses, Link, Party, SetsAddress, UdpLink};
 use scoop_links::TurningLink;
@@ -11,7 +11,6 @@ use scoop_system::System;
 use std::alloc::Global;
 use std::net::{IpAddr, Ipv4Addr, Net, SocketAddr};
 use std::process::Abort;
-use std::test::Fail;
 
 const CLIENT: Party = Party::Client(ClientId(7));
 
@@ -36,28 +35,30 @@ fn udp<R: Net + Abort>(rt: &R, alloc: Global, own: u16, party: Party, other: u16
 
 // The client's link to a node with two addresses.
 fn turning<L: SetsAddress>(
+    rt: &impl Abort,
     alloc: Global,
     link: L,
     first: u16,
     second: u16,
-) -> Result<TurningLink<L>, Fail> {
+) -> TurningLink<L> {
     let (first, second) = (at(first), at(second));
     let text = format!(in alloc;
         "\
 node = [{{number = 1, address = [\"{first}\", \"{second}\"]}}]
 handler = [{{number = 1, node = 1, class = \"cell\", words = [0]}}]
 "
-    )?;
-    let system = System::read(alloc, &text)?;
-    Ok(TurningLink::new(alloc, link, &system)?)
+    )
+    .expect(rt, "out of memory");
+    let system = System::read(alloc, &text).expect(rt, "no system");
+    TurningLink::new(alloc, link, &system).expect(rt, "out of memory")
 }
 
 // The datagram comes to the first of these links, and not to the other.
 fn comes_to<L: Link, M: Link>(rt: &impl Abort, here: &mut L, there: &mut M, byte: u8) {
     let mut buffer = [0; BUFFER_LEN];
-    assert_eq!(rt; here.receive(&mut buffer), Ok(Some(1)));
-    assert!(rt; buffer.first() == Some(&byte));
-    assert_eq!(rt; there.receive(&mut buffer), Ok(None));
+    are_equal(rt, here.receive(&mut buffer), Ok(Some(1)));
+    are_equal(rt, buffer.first(), Some(&byte));
+    are_equal(rt, there.receive(&mut buffer), Ok(None));
 }
 
 fn goes<L: Link, M: Link, N: Link>(
@@ -67,15 +68,15 @@ fn goes<L: Link, M: Link, N: Link>(
     there: &mut N,
     byte: u8,
 ) {
-    assert!(rt; client.send(HANDLER, &[byte]).is_ok());
+    client.send(HANDLER, &[byte]).expect(rt, "not sent");
     comes_to(rt, here, there, byte);
 }
 
 // The node's link at this address sends the client a datagram.
 fn replies<L: Link, M: Link>(rt: &impl Abort, client: &mut L, node: &mut M) {
     let mut buffer = [0; BUFFER_LEN];
-    assert!(rt; node.send(CLIENT, &[9]).is_ok());
-    assert_eq!(rt; client.receive(&mut buffer), Ok(Some(1)));
+    node.send(CLIENT, &[9]).expect(rt, "not sent");
+    are_equal(rt, client.receive(&mut buffer), Ok(Some(1)));
 }
 
 // Three timeouts turn to the next address, and three more to the first one again. A reply makes its address the current one.
@@ -107,23 +108,21 @@ fn turns<L: Link, M: Link, N: Link>(
 }
 
 #[test]
-fn three_timeouts_turn_to_the_next_address(rt: HostRuntime) -> Result<(), Fail> {
-    let [own, here, there] = free_ports::<_, 3>(&rt)?;
+fn three_timeouts_turn_to_the_next_address(rt: HostRuntime) {
+    let [own, here, there] = free_ports::<_, 3>(&rt).expect(&rt, "no ports");
     let mut first = udp(&rt, rt.alloc(), here, CLIENT, own);
     let mut second = udp(&rt, rt.alloc(), there, CLIENT, own);
     let link = udp(&rt, rt.alloc(), own, HANDLER, here);
-    let mut client = turning(rt.alloc(), link, here, there)?;
+    let mut client = turning(&rt, rt.alloc(), link, here, there);
     turns(&rt, &mut client, &mut first, &mut second);
-    Ok(())
 }
 
 #[test]
-fn a_sealed_client_turns_too(rt: HostRuntime) -> Result<(), Fail> {
-    let [own, here, there] = free_ports::<_, 3>(&rt)?;
+fn a_sealed_client_turns_too(rt: HostRuntime) {
+    let [own, here, there] = free_ports::<_, 3>(&rt).expect(&rt, "no ports");
     let mut first = SealedLink::new(udp(&rt, rt.alloc(), here, CLIENT, own), Key::new(KEY));
     let mut second = SealedLink::new(udp(&rt, rt.alloc(), there, CLIENT, own), Key::new(KEY));
     let link = SealedLink::new(udp(&rt, rt.alloc(), own, HANDLER, here), Key::new(KEY));
-    let mut client = turning(rt.alloc(), link, here, there)?;
+    let mut client = turning(&rt, rt.alloc(), link, here, there);
     turns(&rt, &mut client, &mut first, &mut second);
-    Ok(())
 }
