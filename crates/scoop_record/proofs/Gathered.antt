@@ -22,6 +22,7 @@ use Rattle.scoop_record.proofs.StoredLemmas.{held_one}
 -- the state that was saved is all that its handler has
 saved_one : (old new : Database) (s : HandlerState) → IsRecord old → IsState s → InRange s → Saves old new s
     → IsTheOne (handlers_in new s.number.0) (Holds s)
+unfolding handlers_in
 saved_one old new s has state range (mid, first, second) =
     let own = own_rows s state range in
     let bytes = image s in

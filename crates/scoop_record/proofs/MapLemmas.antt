@@ -17,7 +17,7 @@ use Rattle.scoop_record.proofs.among.Others.{both_others, put_others}
 same_has : (handler : ℕ) (a b c d : Option Value) (v : Stored) → c ≡ a → d ≡ b → Has handler a b v ↔ Has handler c d v
 same_has handler a b c d v one two = rw (one, two) ((λ h. h), (λ h. h))
 
--- what two puts into a record, for a handler, leave
+-- two puts into a record, for a handler, leave this
 module _ (old mid new : Database) (handler : ℕ) (bytes row : List ℕ) (has : IsRecord old)
     (first : PutsAmong old mid (handlers_tree old.schema) handler (Blob bytes)) (second : PutsAmong mid new (pending_tree old.schema) handler (Blob row)) where
   pub schema_after : new.schema ≡ old.schema
@@ -49,7 +49,7 @@ record_saved old new s has (mid, first, second) = subst HasRecordTables (sym (se
 -- the state whose rows were put is there
 pub saved : (old new : Database) (s : HandlerState) (bytes row : List ℕ) → IsRecord old → IsStored s.number bytes row s
     → PutsBoth old new s.number.0 bytes row → Keeps (handlers_in old) (handlers_in new) s
-unfolding Has
+unfolding Has handlers_in
 saved old new s bytes row has stored (mid, first, second) =
     let images = images_after old mid new s.number.0 bytes row has first second in
     let entries = entries_after old mid new s.number.0 bytes row has first second in
@@ -69,6 +69,7 @@ saved old new s bytes row has stored (mid, first, second) =
 
 pub saved_incs : (old new : Database) (handler : ℕ) (bytes row : List ℕ) → IsRecord old → PutsBoth old new handler bytes row
     → IsSame (incs_in old) (incs_in new)
+unfolding incs_in
 saved_incs old new handler bytes row has (mid, first, second) = record {
   each = λ client. ap (λ rows. option_map inc_in (value_at rows client)) (clients_after old mid new handler bytes row has first second);
 }
@@ -76,6 +77,7 @@ saved_incs old new handler bytes row has (mid, first, second) = record {
 -- the incarnation that was put is there
 pub advanced : (old new : Database) (client inc : ℕ) → inc ≤ last_incarnation → inc ≡ next_of (incs_in old client) → Advances old new client
     → Sets (incs_in old) (incs_in new) client inc
+unfolding incs_in
 advanced old new client inc low is put =
     let same : new.trees (clients_tree new.schema) ≡ new.trees (clients_tree old.schema) = ap (λ s. new.trees (clients_tree s)) put.schema in
     record {
@@ -84,6 +86,7 @@ advanced old new client inc low is put =
     }
 
 pub advanced_handlers : (old new : Database) (client : ℕ) → IsRecord old → Advances old new client → Stays (handlers_in old) (handlers_in new)
+unfolding handlers_in
 advanced_handlers old new client has put =
     let images : new.trees (handlers_tree new.schema) ≡ old.trees (handlers_tree old.schema) = ap (λ s. new.trees (handlers_tree s)) put.schema
     ∙ kept_at old new (clients_tree old.schema) client _ put (handlers (handlers_tree old.schema)) has.first.has_handlers

@@ -171,6 +171,7 @@ module _ (db new : Database) (has : IsRecord db) (rows : List Row) (all : List H
   images = db.trees (handlers_tree db.schema)
 
   pub states_kept : (handler : ℕ) → IsCarried (first_handlers_in db handler) (handlers_in new handler)
+  unfolding handlers_in
   states_kept handler = go (find (has_rowid (pos handler)) images) refl
     where
       go : (found : Option Row) → find (has_rowid (pos handler)) images ≡ found → IsCarried (first_handlers_in db handler) (handlers_in new handler)
@@ -215,6 +216,7 @@ module _ (old db mid new : Database) (all : List HandlerState) (first : IsOfVers
 
   pub migrated : (rows : List Row) → IsPermutation (map keyed_value (db.trees (handlers_tree db.schema))) rows → AllZip IsFirstRow rows all → IsRising all
       → PutsAmong mid new (meta_tree mid.schema) 1 (Int (pos 2)) → IsDatabase new → Migrates old new
+  unfolding handlers_in
   migrated rows same zip rising put whole =
       let before = images_kept old db first room makes in
       let schema : new.schema ≡ created old.schema (pending 0) = put.schema ∙ schema_stays db mid all saves ∙ makes.schema in

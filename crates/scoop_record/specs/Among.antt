@@ -53,16 +53,16 @@ is_unnamed schema name = list_all (λ (child : Table). list_all (λ ref. not (sa
 abbrev pub tree_of : Schema → List ℕ → ℕ
 tree_of schema name = unwrap_or (option_map (λ (t : Table). t.tree) (option_and_then (slice_get schema.tables) (table_named schema name))) 0
 
-abbrev pub meta_tree : Schema → ℕ
+unfoldable pub meta_tree : Schema → ℕ
 meta_tree schema = tree_of schema (codes "meta")
 
-abbrev pub handlers_tree : Schema → ℕ
+unfoldable pub handlers_tree : Schema → ℕ
 handlers_tree schema = tree_of schema (codes "handlers")
 
-abbrev pub clients_tree : Schema → ℕ
+unfoldable pub clients_tree : Schema → ℕ
 clients_tree schema = tree_of schema (codes "clients")
 
-abbrev pub pending_tree : Schema → ℕ
+unfoldable pub pending_tree : Schema → ℕ
 pending_tree schema = tree_of schema (codes "pending")
 
 -- a table that stands somewhere in the schema, alone

@@ -24,7 +24,7 @@ inc_in (Real x) = last_incarnation
 inc_in (Text t) = last_incarnation
 inc_in (Blob b) = last_incarnation
 
-abbrev pub incs_in : Database → ℕ → Option ℕ
+unfoldable pub incs_in : Database → ℕ → Option ℕ
 incs_in db client = option_map inc_in (value_at (db.trees (clients_tree db.schema)) client)
 
 -- in the handler's two rows stand the image and the pending entries of the state
@@ -47,7 +47,7 @@ Has handler first second Missing = first ≡ None
 Has handler first second (Holds s) = AreRowsOf handler first second s
 Has handler first second Damaged = AreNoRows handler first second
 
-abbrev pub handlers_in : Database → ℕ → Stored → Type 0
+unfoldable pub handlers_in : Database → ℕ → Stored → Type 0
 handlers_in db handler = Has handler (value_at (db.trees (handlers_tree db.schema)) handler) (value_at (db.trees (pending_tree db.schema)) handler)
 
 -- the tables of a record are there, with whatever rows and other tables
@@ -116,8 +116,8 @@ SavesAll old new (s ∷ more) = IsState s × InRange s × (mid : Database) × Sa
 abbrev pub IsIdle : {S : Type 0} → Ghosts S → Held S → Type 0
 IsIdle g h = (h.in_transaction ≡ false) × IsReady (state g h)
 
--- Beside the tables of the old database stands a record that holds nothing yet, of this version. The old tables keep
--- their rows, and an open of the new trees finds all tables.
+-- A record of this version that holds nothing yet stands beside the tables of the old database. These keep their rows,
+-- and an open of the new trees finds all tables.
 pub record IsNewRecord (old new : Database) (version : ℕ) : Type 0 where
   pub schema : new.schema ≡ with_record old.schema
   pub sound : IsRecord new

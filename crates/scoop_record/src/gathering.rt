@@ -163,6 +163,7 @@ impl<S: Alter + Drop> Keeper<Global> for GatheringStore<S> {
     }
 
     fn commit(&mut self) -> Result<(), KeeperError>
+        ensures is_open { self.old.pending ≢ [] → IsOpenOnOk result (seen S.Store self.new.store) (seen S.Store self.new.store) }
         ensures handlers { IsSound (seen S.Store self.new.store)
             → Stays (Over self.old.pending (handlers_in (seen S.Store self.old.store).now))
             (Over self.new.pending (handlers_in (seen S.Store self.new.store).now)) }

@@ -47,8 +47,9 @@ impl<S: Alter + Drop> Store<S> {
     /// Makes the tables in one transaction, beside the tables that the database has.
     ///
     /// Refused:
-    /// - `Refused` if a table, an index or a view has one of the four names, a foreign key names one, the connection is
-    ///   in a transaction, or a text is refused;
+    /// - `Refused` if there is no room: a table, an index or a view has one of the four names, a foreign key names one,
+    ///   or no trees are left;
+    /// - `Refused` if the connection is in a transaction, or a text is refused;
     /// - `OutOfMemory`.
     ///
     /// A refusal drops the connection. [`create_tables`], which this calls, says what it leaves.

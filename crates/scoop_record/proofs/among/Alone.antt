@@ -147,15 +147,16 @@ free_kept s u name bare differs h = record {
 pub unnamed_kept : (s : Schema) (u : Table) (name : List ℕ) → u.references ≡ [] → is_unnamed s name ≡ true → is_unnamed (created s u) name ≡ true
 unnamed_kept s u name bare h = with_last (λ ref. not (same_name name ref.parent)) s.tables (placed_at u (next_tree s)) bare h
 
-in_list : (tables : List Table) (p : Table → Bool) (t : Table) → find p tables ≡ Some t → Has tables t
-in_list tables p t is = (has_found p tables t is).0
+-- a table that stands is one of the schema's
+pub is_listed : (s : Schema) (t : Table) → HasTable s t → Has s.tables t
+is_listed s t h = (has_found (λ (u : Table). u.tree == t.tree) s.tables t h.stands.found).0
 
 -- a table of the record stays so
 pub has_kept_table : (s : Schema) (t u : Table) → IsBare u → HasTable s t → HasTable (created s u) t
 has_kept_table s t u bare h = record {
   at = h.at;
   stands = stands_kept s h.at t u h.stands;
-  alone = alone_kept s t u bare (table_below s t (in_list s.tables (λ (v : Table). v.tree == t.tree) t h.stands.found)) h.alone;
+  alone = alone_kept s t u bare (table_below s t (is_listed s t h)) h.alone;
 }
 
 -- a table that is created is one of the record's

@@ -1,12 +1,13 @@
 -- A record's tables have four different trees, so a value that is put in one leaves the other three.
 use Rattle.std.proofs.Common.{◌≡◌, ◌≢◌, ◌==◌, ap, arith, ℕ, unwrap_or, slice_get}
 use Rattle.sqlite_value.specs.declared.value.Value.{Value}
-use Rattle.sqlite_rules.proofs.ListLemmas.{all_has, has_found}
+use Rattle.sqlite_rules.proofs.ListLemmas.{all_has}
 use Rattle.sqlite.specs.Effect.{Database}
 use Rattle.sqlite.specs.Table.{Table}
 use Rattle.sqlite.specs.Schema.{Schema}
 use Rattle.scoop_record.specs.Tables.{meta, handlers, clients, pending}
 use Rattle.scoop_record.specs.Among.{HasTable, HasFirstTables, HasRecordTables, PutsAmong, meta_tree, handlers_tree, clients_tree, pending_tree}
+use Rattle.scoop_record.proofs.among.Alone.{is_listed}
 use Rattle.scoop_record.proofs.among.Making.{trees_apart}
 
 -- the table keeps its rows
@@ -14,7 +15,7 @@ pub kept_at : (old new : Database) (tree key : ℕ) (value : Value) → PutsAmon
     → new.trees t.tree ≡ old.trees t.tree
 kept_at old new tree key value put t has apart =
     all_has (λ (u : Table). u.tree ≢ tree → new.trees u.tree ≡ old.trees u.tree) old.schema.tables t put.tables
-    (has_found (λ (u : Table). u.tree == t.tree) old.schema.tables t has.stands.found).0 apart
+    (is_listed old.schema t has) apart
 
 -- the four names begin differently
 abbrev initial : Table → ℕ

@@ -2,7 +2,7 @@
 use Rattle.std.proofs.Common.{◌≡◌, ◌≢◌, ap, sym, subst, ◌∙◌, arith, List, [], ◌∷◌, codes, pos, ℕ, true, false, inl, refl}
 use Rattle.sqlite_value.specs.declared.value.Value.TheVariants.{Int}
 use Rattle.sqlite_rules.specs.Lists.{Has}
-use Rattle.sqlite_rules.proofs.ListLemmas.{all_has, all_from, has_left, has_right}
+use Rattle.sqlite_rules.proofs.ListLemmas.{all_has, all_from, has_right}
 use Rattle.sqlite_catalog.specs.Change.{created, next_tree}
 use Rattle.sqlite_catalog.proofs.StepLemmas.{table_below}
 use Rattle.sqlite.specs.Does.{lacks_sequence}
@@ -16,15 +16,9 @@ use Rattle.scoop_record.specs.Among.{record_names, with_record}
 use Rattle.scoop_record.specs.Store.{IsSound, IsNewRecord}
 use Rattle.scoop_record.proofs.StatementLemmas.{clean_before}
 use Rattle.scoop_record.proofs.among.Apart.{kept_at, meta_handlers, meta_clients, meta_pending}
-use Rattle.scoop_record.proofs.among.Making.{made_in_turn, record_made, own_tree, room_after_meta, room_after_handlers, room_after_clients}
-use Rattle.scoop_record.proofs.among.Standing.{placed_at}
-
--- a table that stood keeps its rows and stands
-stays : (old new : Database) (table t : Table) → Makes old new table → Has old.schema.tables t → (new.trees t.tree ≡ old.trees t.tree) × Has new.schema.tables t
-stays old new table t makes has = (
-  all_has (λ (u : Table). new.trees u.tree ≡ old.trees u.tree) old.schema.tables t makes.others has,
-  subst (λ (s : Schema). Has s.tables t) (sym makes.schema) (has_left old.schema.tables (placed_at table (next_tree old.schema) ∷ []) t has),
-)
+use Rattle.scoop_record.proofs.among.Making.{made_in_turn, record_made, own_meta, own_handlers, own_clients, own_pending}
+use Rattle.scoop_record.proofs.among.Making.{room_after_meta, room_after_handlers, room_after_clients}
+use Rattle.scoop_record.proofs.among.Standing.{placed_at, kept_beside}
 
 stands : (old new : Database) (table : Table) → Makes old new table → Has new.schema.tables (placed_at table (next_tree old.schema))
 stands old new table makes = subst (λ (s : Schema). Has s.tables (placed_at table (next_tree old.schema))) (sym makes.schema)
@@ -45,35 +39,35 @@ module _ (a b c d e new : Database) (version : ℕ) (room : HasRoom a.schema rec
   schema_e = fourth.schema ∙ ap (λ s. created s (pending 0)) schema_d
 
   meta_at : meta_tree e.schema ≡ next_tree a.schema
-  meta_at = ap meta_tree schema_e ∙ own_tree (with_record a.schema) _ (made_in_turn a.schema room).has_meta
+  meta_at = ap meta_tree schema_e ∙ own_meta (with_record a.schema) _ (made_in_turn a.schema room).has_meta
 
   handlers_at : handlers_tree e.schema ≡ next_tree b.schema
-  handlers_at = ap handlers_tree schema_e ∙ own_tree (with_record a.schema) _ (made_in_turn a.schema room).has_handlers ∙ ap next_tree (sym schema_b)
+  handlers_at = ap handlers_tree schema_e ∙ own_handlers (with_record a.schema) _ (made_in_turn a.schema room).has_handlers ∙ ap next_tree (sym schema_b)
 
   clients_at : clients_tree e.schema ≡ next_tree c.schema
-  clients_at = ap clients_tree schema_e ∙ own_tree (with_record a.schema) _ (made_in_turn a.schema room).has_clients ∙ ap next_tree (sym schema_c)
+  clients_at = ap clients_tree schema_e ∙ own_clients (with_record a.schema) _ (made_in_turn a.schema room).has_clients ∙ ap next_tree (sym schema_c)
 
   pending_at : pending_tree e.schema ≡ next_tree d.schema
-  pending_at = ap pending_tree schema_e ∙ own_tree (with_record a.schema) _ (made_in_turn a.schema room).has_pending ∙ ap next_tree (sym schema_d)
+  pending_at = ap pending_tree schema_e ∙ own_pending (with_record a.schema) _ (made_in_turn a.schema room).has_pending ∙ ap next_tree (sym schema_d)
 
   record_e : HasRecordTables e.schema
   record_e = subst HasRecordTables (sym schema_e) (record_made a.schema room)
 
   meta_empty : e.trees (meta_tree e.schema) ≡ []
   meta_empty =
-      let in_c = stays b c (handlers 0) _ second (stands a b (meta 0) first) in
-      let in_d = stays c d (clients 0) _ third in_c.1 in
-      let in_e = stays d e (pending 0) _ fourth in_d.1 in
+      let in_c = kept_beside b c (handlers 0) _ second (stands a b (meta 0) first) in
+      let in_d = kept_beside c d (clients 0) _ third in_c.1 in
+      let in_e = kept_beside d e (pending 0) _ fourth in_d.1 in
       ap e.trees meta_at ∙ in_e.0 ∙ in_d.0 ∙ in_c.0 ∙ first.empty
 
   handlers_empty : e.trees (handlers_tree e.schema) ≡ []
   handlers_empty =
-      let in_d = stays c d (clients 0) _ third (stands b c (handlers 0) second) in
-      let in_e = stays d e (pending 0) _ fourth in_d.1 in
+      let in_d = kept_beside c d (clients 0) _ third (stands b c (handlers 0) second) in
+      let in_e = kept_beside d e (pending 0) _ fourth in_d.1 in
       ap e.trees handlers_at ∙ in_e.0 ∙ in_d.0 ∙ second.empty
 
   clients_empty : e.trees (clients_tree e.schema) ≡ []
-  clients_empty = ap e.trees clients_at ∙ (stays d e (pending 0) _ fourth (stands c d (clients 0) third)).0 ∙ third.empty
+  clients_empty = ap e.trees clients_at ∙ (kept_beside d e (pending 0) _ fourth (stands c d (clients 0) third)).0 ∙ third.empty
 
   pending_empty : e.trees (pending_tree e.schema) ≡ []
   pending_empty = ap e.trees pending_at ∙ fourth.empty
@@ -81,10 +75,10 @@ module _ (a b c d e new : Database) (version : ℕ) (room : HasRoom a.schema rec
   -- a table of others keeps its rows
   others_kept : (t : Table) → Has a.schema.tables t → new.trees t.tree ≡ a.trees t.tree
   others_kept t has =
-      let in_b = stays a b (meta 0) t first has in
-      let in_c = stays b c (handlers 0) t second in_b.1 in
-      let in_d = stays c d (clients 0) t third in_c.1 in
-      let in_e = stays d e (pending 0) t fourth in_d.1 in
+      let in_b = kept_beside a b (meta 0) t first has in
+      let in_c = kept_beside b c (handlers 0) t second in_b.1 in
+      let in_d = kept_beside c d (clients 0) t third in_c.1 in
+      let in_e = kept_beside d e (pending 0) t fourth in_d.1 in
       let low = table_below a.schema t has in
       let apart : t.tree ≢ meta_tree e.schema = (λ same. omega (arith, low, same, meta_at)) in
       all_has (λ (u : Table). u.tree ≢ meta_tree e.schema → new.trees u.tree ≡ e.trees u.tree) e.schema.tables t put.tables in_e.1 apart
@@ -151,7 +145,7 @@ with_handlers s = created (with_meta s) (handlers 0)
 abbrev with_clients : Schema → Schema
 with_clients s = created (with_handlers s) (clients 0)
 
--- what the calls need that make the tables and put the version
+-- the premises of the next call, which makes a table: its name is free, and no sequence is missing
 abbrev Leaves : State → List ℕ → Type 0
 Leaves s name = IsFree s.now.schema name × (lacks_sequence s.now.schema ≡ false)
 

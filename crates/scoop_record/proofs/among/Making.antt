@@ -14,6 +14,7 @@ use Rattle.sqlite.specs.Table.{Table}
 use Rattle.sqlite.specs.Schema.{Schema}
 use Rattle.scoop_record.specs.Tables.{keyed_table, meta, handlers, clients, pending}
 use Rattle.scoop_record.specs.Among.{IsFree, HasTable, HasRoom, HasRecordTables, is_unnamed, tree_of, record_names, with_record}
+use Rattle.scoop_record.specs.Among.{meta_tree, handlers_tree, clients_tree, pending_tree}
 use Rattle.scoop_record.proofs.among.Standing.{placed_at, lacks_kept}
 use Rattle.scoop_record.proofs.among.Alone.{IsBare, indexes_same, below_kept, free_kept, unnamed_kept, has_kept_table, has_created_table}
 
@@ -67,8 +68,24 @@ made_in_room s u names bare h = has_created_table s u bare h.free.0 (same_itself
     (let low : next_tree s + suc (length names) ≤ 2 ^ 31 = h.low in omega (arith, low)) h.below h.unnamed.0
 
 -- a table's own tree is found by its name
-pub own_tree : (s : Schema) (t : Table) → HasTable s t → tree_of s t.name ≡ t.tree
+own_tree : (s : Schema) (t : Table) → HasTable s t → tree_of s t.name ≡ t.tree
 own_tree s t h = rw (h.stands.named, h.stands.there) refl
+
+pub own_meta : (s : Schema) (tree : ℕ) → HasTable s (meta tree) → meta_tree s ≡ tree
+unfolding meta_tree
+own_meta s tree h = own_tree s (meta tree) h
+
+pub own_handlers : (s : Schema) (tree : ℕ) → HasTable s (handlers tree) → handlers_tree s ≡ tree
+unfolding handlers_tree
+own_handlers s tree h = own_tree s (handlers tree) h
+
+pub own_clients : (s : Schema) (tree : ℕ) → HasTable s (clients tree) → clients_tree s ≡ tree
+unfolding clients_tree
+own_clients s tree h = own_tree s (clients tree) h
+
+pub own_pending : (s : Schema) (tree : ℕ) → HasTable s (pending tree) → pending_tree s ≡ tree
+unfolding pending_tree
+own_pending s tree h = own_tree s (pending tree) h
 
 -- two tables of the schema have different trees
 pub trees_apart : (s : Schema) (t u : Table) → HasTable s t → HasTable s u → t ≢ u → t.tree ≢ u.tree
@@ -126,9 +143,9 @@ record_made s h =
     let made = made_in_turn s h in
     record {
       first = record {
-        has_meta = subst (λ tree. HasTable d (meta tree)) (sym (own_tree d _ made.has_meta)) made.has_meta;
-        has_handlers = subst (λ tree. HasTable d (handlers tree)) (sym (own_tree d _ made.has_handlers)) made.has_handlers;
-        has_clients = subst (λ tree. HasTable d (clients tree)) (sym (own_tree d _ made.has_clients)) made.has_clients;
+        has_meta = subst (λ tree. HasTable d (meta tree)) (sym (own_meta d _ made.has_meta)) made.has_meta;
+        has_handlers = subst (λ tree. HasTable d (handlers tree)) (sym (own_handlers d _ made.has_handlers)) made.has_handlers;
+        has_clients = subst (λ tree. HasTable d (clients tree)) (sym (own_clients d _ made.has_clients)) made.has_clients;
       };
-      has_pending = subst (λ tree. HasTable d (pending tree)) (sym (own_tree d _ made.has_pending)) made.has_pending;
+      has_pending = subst (λ tree. HasTable d (pending tree)) (sym (own_pending d _ made.has_pending)) made.has_pending;
     }

@@ -3,7 +3,7 @@ use Rattle.std.proofs.Common.{◌≡◌, ◌≢◌, ◌∙◌, ap, sym, subst, L
 use Rattle.sqlite_value.specs.declared.value.Value.TheVariants.{Int}
 use Rattle.sqlite_value.specs.Order.{Row}
 use Rattle.sqlite_rules.specs.Lists.{Has}
-use Rattle.sqlite_rules.proofs.ListLemmas.{all_has, all_from}
+use Rattle.sqlite_rules.proofs.ListLemmas.{all_from}
 use Rattle.sqlite.specs.Effect.{Database}
 use Rattle.sqlite.specs.Table.{Table}
 use Rattle.sqlite.specs.Schema.{Schema}
@@ -12,7 +12,9 @@ use Rattle.scoop_record.specs.Tables.{meta, handlers, clients, pending, value_at
 use Rattle.scoop_record.specs.Among.{HasTable, HasRoom, HasRecordTables, PutsAmong, IsNoneOf, KeepsOthers, meta_tree, handlers_tree, clients_tree, pending_tree}
 use Rattle.scoop_record.specs.Store.{IsRecord, IsOfVersionOne, SavesAll}
 use Rattle.scoop_record.specs.Migrate.{keyed_value}
-use Rattle.scoop_record.proofs.among.MigratedTables.{is_listed, still_listed, meta_kept, handlers_kept, clients_kept, second_made, apart_from_pending}
+use Rattle.scoop_record.proofs.among.Alone.{is_listed}
+use Rattle.scoop_record.proofs.among.MigratedTables.{meta_kept, handlers_kept, clients_kept, second_made, apart_from_pending}
+use Rattle.scoop_record.proofs.among.Standing.{kept_beside}
 use Rattle.scoop_record.proofs.among.Apart.{kept_at, meta_handlers, meta_clients, handlers_clients, meta_pending, clients_pending}
 use Rattle.scoop_record.proofs.among.Others.{other_kept, put_others, all_others}
 
@@ -23,7 +25,7 @@ module _ (old db : Database) (first : IsOfVersionOne old) (room : HasRoom old.sc
   is_second = subst HasRecordTables (sym makes.schema) (second_made old.schema room first.0.0)
 
   row_kept : (t : Table) → Has old.schema.tables t → db.trees t.tree ≡ old.trees t.tree
-  row_kept t has = all_has (λ (x : Table). db.trees x.tree ≡ old.trees x.tree) old.schema.tables t makes.others has
+  row_kept t has = (kept_beside old db (pending 0) t makes has).0
 
   meta_same : meta_tree db.schema ≡ meta_tree old.schema
   meta_same = ap (λ (s : Schema). meta_tree s) makes.schema ∙ meta_kept old.schema first.0.0
@@ -57,7 +59,7 @@ module _ (old db : Database) (first : IsOfVersionOne old) (room : HasRoom old.sc
   )
 
   listed_after : (t : Table) → Has old.schema.tables t → Has db.schema.tables t
-  listed_after t has = subst (λ (s : Schema). Has s.tables t) (sym makes.schema) (still_listed old.schema t has)
+  listed_after t has = (kept_beside old db (pending 0) t makes has).1
 
 -- ---- states are put
 

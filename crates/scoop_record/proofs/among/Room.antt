@@ -22,7 +22,7 @@ use Rattle.scoop_record.proofs.among.Standing.{nat_eq_self}
 abbrev named_by : List ℕ → ℕ → Table → Bool
 named_by name tree t = not (t.tree == tree) || same_name t.name name
 
--- what a test finds first is where a test that passes more first passes
+-- an element that passes, after elements that pass neither test, is the first that the other test finds
 found_at : {A : Type 0} (p q : A → Bool) (i at : ℕ) (xs : List A) (x : A) → ((y : A) → Has xs y → p y ≡ false → q y ≡ false)
     → position_from p i xs ≡ Some (i + at) → slice_get xs at ≡ Some x → q x ≡ true → find q xs ≡ Some x
 found_at p q i at [] x so first there is = absurd (let e = there in cc)

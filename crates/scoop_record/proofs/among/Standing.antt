@@ -1,16 +1,20 @@
 -- The places of the tables after a table is created: it stands last, and those before it stay.
-use Rattle.std.proofs.Common.{option_and_then, ◌<◌, ◌&&◌, not, arith, ◌≡◌, ◌∙◌, ap, is_some, length, [], ◌∷◌, codes, false, true, ℕ, Some, None, Option, refl}
+use Rattle.std.proofs.Common.{option_and_then, ◌<◌, ◌&&◌, not, arith, ◌≡◌, ◌∙◌, ap, sym, subst, is_some, length, [], ◌∷◌, codes, false, true, ℕ, Some, None, Option, refl}
 use Rattle.std.proofs.Common.{slice_get, Bool, ◌==◌, ◌^◌}
 use Rattle.std.specs.List.{list_any}
 use Rattle.std.proofs.lemmas.Bool.Decides.{nat_tests}
+use Rattle.sqlite_rules.specs.Lists.{Has}
+use Rattle.sqlite_rules.proofs.ListLemmas.{all_has, has_left}
 use Rattle.sqlite.specs.Rows.{sequence}
 use Rattle.sqlite.specs.Does.{lacks_sequence}
 use Rattle.sqlite_catalog.specs.Change.{created, next_tree}
 use Rattle.sqlite_catalog.proofs.StepLemmas.{table_below}
+use Rattle.sqlite.specs.Effect.{Database}
 use Rattle.sqlite.specs.Table.{Table}
 use Rattle.sqlite.specs.Schema.{Schema}
 use Rattle.sqlite_schema.specs.Names.{table_named, same_name}
 use Rattle.scoop_record.proofs.among.Lists.{slice_get_front, slice_get_last, position_front, position_last, find_front, find_last, any_last, some_of}
+use Rattle.scoop_record.specs.Tables.{Makes}
 use Rattle.scoop_record.specs.Among.{Stands, IsFree}
 
 pub stands_kept : (s : Schema) (at : ℕ) (t u : Table) → Stands s at t → Stands (created s u) at t
@@ -23,6 +27,14 @@ stands_kept s at t u h = record {
 
 abbrev pub placed_at : Table → ℕ → Table
 placed_at table tree = record table { tree = tree }
+
+-- a table that stood before another was made keeps its rows, and is listed still
+pub kept_beside : (old new : Database) (table t : Table) → Makes old new table → Has old.schema.tables t
+    → (new.trees t.tree ≡ old.trees t.tree) × Has new.schema.tables t
+kept_beside old new table t makes has = (
+  all_has (λ (u : Table). new.trees u.tree ≡ old.trees u.tree) old.schema.tables t makes.others has,
+  subst (λ (s : Schema). Has s.tables t) (sym makes.schema) (has_left old.schema.tables (placed_at table (next_tree old.schema) ∷ []) t has),
+)
 
 pub nat_eq_self : (n : ℕ) → (n == n) ≡ true
 nat_eq_self n = grind (arith, nat_tests)
