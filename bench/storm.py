@@ -424,7 +424,7 @@ class Storm:
                 c.kill()
         for n in nodes:
             wrong += n.look()
-        # What killed clients left is cut by a run with no line, and then read by a last client.
+        # A run with no line cuts the blocks that killed clients left. Then a last client reads.
         for c in clients:
             self.greet(c)
         last = self.read(clients[0])
@@ -518,7 +518,7 @@ class Storm:
             known = sorted((b for b in here if id(b) in ticket), key=lambda b: ticket[id(b)])
             lost = sum(1 for b in here if id(b) not in ticket and any(e["handler"] == h for e in b["done"]))
             order[h] = known
-            # What the handler's words may be, each with how many blocks whose ticket nobody was told have run before.
+            # The words that the handler may have, each with the number of blocks of unknown tickets that have run.
             states = {((0, START), 0)}
             for b in known + [None]:
                 want = ticket[id(b)] - 1 if b is not None else last.get(h, (None,))[0]

@@ -86,7 +86,7 @@ pub record OthersWrite : Type 0 where
   pub raised : (txn : Txn) → PutsBothIf txn met → Answers ⊤ (contents 3 before.under) after txn (outcome true 5)
   pub not_alone : (txn : Txn) → PutsBothIf txn met → Answers ⊤ empty after txn (outcome true 5) → ⊥
 
--- what a caller sees that writes and asks for this key alone: other keys stand as they first did
+-- a caller's view that writes and asks for this key alone: other keys stand as they first did
 abbrev pub seen : Bytes → Contents → Contents → Contents
 seen key first now = contents now.revision (λ asked. if bytes_eq asked key then now.under asked else first.under asked)
 

@@ -1,4 +1,4 @@
--- What a node did in its first run is a life: its handlers opened for the first time, and again as they were stored.
+-- The first run of a node is a life: its handlers opened for the first time, and again as they were stored.
 use Rattle.std.proofs.Common.{◌≡◌, ◌⊎◌, inl, inr, ℕ, ◌≤◌, suc, false, List, [], ◌∷◌, ◌++◌, flat_map, slice_get, append-nil, append_assoc}
 use Rattle.std.proofs.Common.{map, length, Option, Some, None, refl, sym, ap, subst, ◌∙◌, arith}
 use Rattle.std.specs.List.{AllByRecursion, AllZip}

@@ -32,7 +32,7 @@ replayed_numbers : (hs : List LocalHandler) (es : List Entry) (ks : List LocalHa
 replayed_numbers hs [] ks same = ap (map number_in) (sym same)
 replayed_numbers hs (e ∷ es) ks r = replayed_numbers r.0 es ks r.2 ∙ (ap (map number_in) r.1.after ∙ newer_numbers r.1.new hs)
 
--- what each move of a handler keeps, every history keeps
+-- a property that each move of a handler keeps is kept by every history
 module _ (Q : LocalHandler → Type 0) (keeps : (e : Event) (r : Reply) (s t : LocalHandler) → HandlerMoves e r s t → Q s → Q t) where
   all_newer : (new : LocalHandler) → Q new → (hs : List LocalHandler) → AllByRecursion Q hs → AllByRecursion Q (with_handler new hs)
   all_newer new q [] all = tt

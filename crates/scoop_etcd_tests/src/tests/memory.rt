@@ -5,7 +5,7 @@ use scoop_etcd_calls::{Compare, Found, Outcome, Pair, Put, Range, Txn};
 use scoop_message::OutOfMemory;
 use std::alloc::Global;
 
-/// What stands under keys, by ascending keys, and the revision.
+/// The values under keys, by ascending keys, and the revision.
 #[derive(Drop)]
 pub struct Memory {
     alloc: Global,

@@ -31,7 +31,7 @@ fn a_name_has_up_to_64_letters_digits_and_signs(rt: HostRuntime) {
     assert!(rt; not_created(rt.alloc(), etcd, "a/b") == Some(OpenError::BadName));
 }
 
-/// What one program stored, the next one finds.
+/// A program finds the values that an earlier one stored.
 #[test]
 fn a_store_is_made_once_and_taken_over(rt: HostRuntime) -> Result<(), Fail> {
     let alloc = rt.alloc();

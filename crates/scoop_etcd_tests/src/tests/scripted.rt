@@ -6,7 +6,7 @@ use scoop_etcd_calls::{Found, Outcome, Put, Range, Txn};
 use scoop_message::OutOfMemory;
 use std::alloc::Global;
 
-/// What happens to a transaction.
+/// The fate of a transaction.
 #[derive(Clone, Copy, Debug, PartialEq, Eq)]
 pub enum Event {
     /// It is made and answered.
@@ -77,7 +77,7 @@ impl Etcd for ScriptedEtcd {
     ghost use Rattle.std.specs.Prelude.{None};
     ghost use Rattle.scoop_etcd.specs.Etcd.{contents};
 
-    // What it does is a script's, of which nothing is promised.
+    // A script says how it answers. Nothing is promised of that.
     ghost contents = { λ _. contents 0 (λ _. None) };
 
     ghost is_honest = { λ _. ⊥ };

@@ -51,7 +51,7 @@ fn a_keeper_fails_after_its_calls(rt: HostRuntime) {
 
 /// The example of `scoop_keeper`.
 fn keeps(rt: &impl Abort, alloc: Global, state: &HandlerState) -> Result<(), KeeperError> {
-    // what is put for a handler is what is loaded
+    // the state that is put for a handler is loaded again
     let mut keeper = MemoryKeeper::new(alloc);
     keeper.put_handler(state)?;
     let loaded = keeper.load_handler(HandlerId(1));
@@ -59,7 +59,7 @@ fn keeps(rt: &impl Abort, alloc: Global, state: &HandlerState) -> Result<(), Kee
     // a client's next incarnation is one more than the last one
     are_equal(rt, keeper.next_incarnation(ClientId(7)), Ok(1));
     are_equal(rt, keeper.next_incarnation(ClientId(7)), Ok(2));
-    // one for tests makes a call of the keeper behind it, and refuses all further ones
+    // one for tests makes a call of the keeper under it, and refuses all further ones
     let mut failing = FailingKeeper::new(keeper, 1);
     are_equal(rt, failing.next_incarnation(ClientId(7)), Ok(3));
     let again = failing.next_incarnation(ClientId(7));

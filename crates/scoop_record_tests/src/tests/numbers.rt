@@ -151,7 +151,7 @@ const OPEN_QUEUES: [Row; 7] = [
     (Part(TOP, TOP, OPENED, 0), Part(TOP, TOP, OPEN, TOP), 2, BAD),
 ];
 
-// What was received is what was pending at last, so the next entry's number is one above it. In an open queue
+// All that was received is pending at last, so the next entry's number is one above it. In an open queue
 // that is TOP at most, which is kept for an End: TOP-1 entries may have been received.
 #[test]
 fn an_open_queue_keeps_the_last_number(rt: HostRuntime) {

@@ -118,8 +118,8 @@ const STORED_OLD: [Step; 5] = [
 ];
 
 /// For a creation no tables; for what comes after one, a store with the word 5, nothing pending and one incarnation;
-/// for a migration, one of version 1 whose handler has pending entries. Where there is to be a checkpoint, the log
-/// isn't empty: before a creation, it has a table that came and went.
+/// for a migration, one of version 1 whose handler has pending entries. The log isn't empty if a checkpoint is to come:
+/// before a creation, it has a table that came and went.
 fn prepared<S: Alter + Drop>(
     rt: &impl Abort,
     alloc: Global,
@@ -346,8 +346,8 @@ fn begins_at(
     high
 }
 
-/// Stops the call at each of that part's calls in turn, up to where it succeeds. What is found is what was there
-/// before or what the call stores, and that it is where the call has succeeded.
+/// Stops the call at each of that part's calls in turn, up to where it succeeds. The file then has what was there
+/// before, or what the call stores; once the call succeeds, it has the latter.
 fn stops_in_turn(rt: &impl Abort, alloc: Global, before: &Files<Stopped>, call: Call, part: Part) {
     let first = begins_at(rt, alloc, before, call, part);
     for more in 0..64u64 {
