@@ -1,12 +1,9 @@
 //! Answers of a book to datagrams.
 
 ghost use Rattle.std.specs.Prelude.{◌≡◌, ◌≢◌, ℕ, None, IfOk, IfErr, OnOk};
-ghost use Rattle.scoop_message.specs.declared.message.Message.{Message};
 ghost use Rattle.scoop_message.specs.Message.{handler_of};
 ghost use Rattle.scoop_frame.specs.declared.error.FrameError.{FrameError};
 ghost use Rattle.scoop_handler.specs.declared.note.Note.{Note};
-ghost use Rattle.scoop_frame.specs.declared.version.Version.{Version};
-ghost use Rattle.scoop_frame.specs.Frame.{IsFrame};
 ghost use Rattle.scoop_book.specs.Books.{IsBook};
 ghost use Rattle.scoop_netloop.specs.Answering.{IsWithinBuffer};
 ghost use Rattle.scoop_netloop.specs.RunningOut.{RunsDry};
@@ -18,9 +15,9 @@ use scoop_book::{Book, BookError};
 use scoop_frame::decode;
 use scoop_handler::{Note, Reason};
 use scoop_keeper::{Keeper, KeeperError};
-use scoop_message::HandlerId;
 use scoop_message::limits::BUFFER_LEN;
-use scoop_netloop::{Answered, answer_datagram, run_out, runs_after};
+use scoop_message::{HandlerId, Message};
+use scoop_netloop::{Answered, answer_message, run_out, runs_after};
 use scoop_object::Behaviour;
 use std::alloc::Global;
 
@@ -41,39 +38,36 @@ fn refusal_of(error: BookError) -> RunError
     }
 }
 
-// The note of every other handler on a datagram's message.
-fn elsewhere(datagram: &[u8]) -> Note
-    ensures { (v : Version) (m : Message) → IsFrame v m datagram.now → result ≡ note_elsewhere m }
+// The note of every other handler on a message.
+fn elsewhere(message: &Message) -> Note
+    ensures { result ≡ note_elsewhere message.now }
 {
-    match decode(datagram) {
-        Ok((_, message)) if message.for_handler() => Note::Dropped(Reason::WrongHandler),
-        _ => Note::Dropped(Reason::NotForHandlers),
+    if message.for_handler() {
+        Note::Dropped(Reason::WrongHandler)
+    } else {
+        Note::Dropped(Reason::NotForHandlers)
     }
 }
 
-// The handler of a datagram's message, if it may have something to run after this note.
-fn runs_by(note: Note, datagram: &[u8]) -> Option<HandlerId>
-    ensures { (v : Version) (m : Message) → IsFrame v m datagram.now → result ≡ runs_by note (handler_of m) }
+// The handler of a message, if it may have something to run after this note.
+fn runs_by(note: Note, message: &Message) -> Option<HandlerId>
+    ensures { result ≡ runs_by note (handler_of message.now) }
 {
-    if !runs_after(note) {
-        return None;
-    }
-    match decode(datagram) {
-        Ok((_, message)) => Some(message.handler()),
-        Err(_) => None,
+    if runs_after(note) {
+        Some(message.handler())
+    } else {
+        None
     }
 }
 
 // The same after this answer.
-fn runs_next(answered: Answered, datagram: &[u8]) -> Option<HandlerId>
+fn runs_next(answered: Answered, message: &Message) -> Option<HandlerId>
     ensures refused { (e : FrameError) → answered ≡ Answered.RefusedFrame e → result ≡ None }
-    ensures silent { (note : Note) (v : Version) (m : Message) → answered ≡ Answered.Silent note → IsFrame v m datagram.now
-        → result ≡ runs_by note (handler_of m) }
-    ensures replied { (n : ℕ) (note : Note) (v : Version) (m : Message) → answered ≡ Answered.Reply n note → IsFrame v m datagram.now
-        → result ≡ runs_by note (handler_of m) }
+    ensures silent { (note : Note) → answered ≡ Answered.Silent note → result ≡ runs_by note (handler_of message.now) }
+    ensures replied { (n : ℕ) (note : Note) → answered ≡ Answered.Reply n note → result ≡ runs_by note (handler_of message.now) }
 {
     match answered {
-        Answered::Reply(_, note) | Answered::Silent(note) => runs_by(note, datagram),
+        Answered::Reply(_, note) | Answered::Silent(note) => runs_by(note, message),
         Answered::RefusedFrame(_) => None,
     }
 }
@@ -94,9 +88,13 @@ pub fn answer<B: Behaviour, K: Keeper<Global>>(
     ensures others { KeepsElsewhere K.handlers K.incarnations K.is_honest book.old.handlers book.old.keeper book.new.keeper }
     ensures sound { IsBook K.handlers K.is_honest book.old → IsBook K.handlers K.is_honest book.new }
 {
-    match answer_datagram(book, PASS, datagram, out) {
-        Ok(answered) => Ok((answered, runs_next(answered, datagram))),
-        Err(BookError::UnknownHandler) => Ok((Answered::Silent(elsewhere(datagram)), None)),
+    let (version, message) = match decode(datagram) {
+        Ok(read) => read,
+        Err(error) => return Ok((Answered::RefusedFrame(error), None)),
+    };
+    match answer_message(book, PASS, version, &message, out) {
+        Ok(answered) => Ok((answered, runs_next(answered, &message))),
+        Err(BookError::UnknownHandler) => Ok((Answered::Silent(elsewhere(&message)), None)),
         Err(error) => Err(refusal_of(error)),
     }
 }

@@ -1,6 +1,7 @@
 //! A node's loop: it answers the datagrams that come over a link, and runs handlers in other threads.
 //!
 //! [`answer_datagram`] maps bytes to bytes: it gives a datagram to a book and writes the datagram that answers it.
+//! [`answer_message`] does so for a message that was read already.
 //! [`serve`] does the same over a link at a node that threads share. It passes each handler that may have
 //! something to run to an executor, which works outside the node's lock. [`LoopLink`] is a node without a network,
 //! for tests.
@@ -31,7 +32,7 @@ mod receiver;
 mod running_out;
 mod stop;
 
-pub use answer::{Answered, answer_datagram, runs_after};
+pub use answer::{Answered, answer_datagram, answer_message, runs_after};
 pub use executor::{Gate, OpenGate};
 pub use loop_link::LoopLink;
 pub use node_loop::serve;
