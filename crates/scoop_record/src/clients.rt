@@ -72,6 +72,7 @@ fn next_in(rows: &[Row]) -> Result<u32, KeeperError>
 }
 
 /// The incarnation after the stored one, if there is one.
+#[tactic(auto, unfolding(crate::specs::Store::incs_in))]
 fn next_after<S: Alter>(tx: &mut Transaction<'_, S>, client: u32) -> Result<u32, KeeperError>
     requires { IsSound (state S.Store tx.old.conn.now) → IsRecord (state S.Store tx.old.conn.now).now }
     ensures same_reference { tx.new.conn.ghost_name ≡ tx.old.conn.ghost_name }

@@ -1,6 +1,6 @@
 //! A keeper that gathers states, and stores them together.
 
-ghost use Rattle.std.specs.Prelude.{◌≡◌, ◌⊎◌, [], find, None, Some, Err, IfOk, IfErr, IfSome, OnOk, OnErr, MatchOption};
+ghost use Rattle.std.specs.Prelude.{◌≡◌, ◌≢◌, ◌⊎◌, [], find, None, Some, Err, IfOk, IfErr, IfSome, OnOk, OnErr, MatchOption};
 ghost use Rattle.scoop_record.specs.Gathering.{AreOfOthers, Gathers, gathering, is_of};
 ghost use Rattle.scoop_keeper.specs.Keyed.{IsFirst};
 

@@ -254,6 +254,7 @@ pub(crate) fn write_states<S: Alter>(
 }
 
 /// The handler's state, in the transaction.
+#[tactic(auto, unfolding(crate::specs::Store::handlers_in))]
 fn find_state<S: Alter>(
     alloc: Global,
     tx: &mut Transaction<'_, S>,

@@ -152,6 +152,7 @@ fn has_table(schema: &Schema, name: &[u8], key: &[u8], column: &[u8], kind: Kind
     is_table(table, name, key, column, kind) && is_alone(schema, name, table.tree)
 }
 
+#[tactic(auto, unfolding(crate::specs::Among::meta_tree, crate::specs::Among::handlers_tree, crate::specs::Among::clients_tree))]
 fn has_first_tables(schema: &Schema) -> bool
     ensures { IsTrue result → HasFirstTables schema.now }
 {
@@ -168,6 +169,7 @@ pub(crate) fn is_first_schema(schema: &Schema) -> bool
 }
 
 /// Whether the tables of a record are there.
+#[tactic(auto, unfolding(crate::specs::Among::pending_tree))]
 pub(crate) fn is_record_schema(schema: &Schema) -> bool
     ensures { IsTrue result → HasRecordTables schema.now }
 {

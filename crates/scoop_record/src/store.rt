@@ -203,6 +203,7 @@ impl<S: Alter + Drop> Keeper<Global> for Store<S> {
         handlers::load(self.alloc, &mut self.conn, handler)
     }
 
+    #[tactic(auto, unfolding(crate::specs::Store::incs_in))]
     fn next_incarnation(&mut self, client: ClientId) -> Result<u32, KeeperError>
         ensures is_open { IsOpenOnOk result (seen S.Store self.new) (seen S.Store self.new) }
         ensures next { IsSound (seen S.Store self.new) → IfOk result (λ inc. inc ≡ next_of (incs_in (seen S.Store self.old).now client.0)) }

@@ -8,7 +8,7 @@ use Rattle.sqlite.specs.Kind.TheVariants.{Blob}
 use Rattle.sqlite.specs.Table.{Table}
 use Rattle.sqlite.specs.Schema.{Schema}
 use Rattle.scoop_record.specs.Tables.{keyed_table, meta, handlers, clients, pending, row_of, value_at}
-use Rattle.scoop_record.specs.Among.{Stands, IsFree, IsAlone, HasTable, HasRoom, PutsAmong, KeepsOthers, record_names, with_record, handlers_tree}
+use Rattle.scoop_record.specs.Among.{Stands, IsFree, IsAlone, HasTable, HasRoom, PutsAmong, KeepsOthers, record_names, with_record, handlers_tree, meta_tree, clients_tree, pending_tree}
 use Rattle.scoop_record.specs.Store.{IsRecord}
 use Rattle.scoop_record.proofs.RowLemmas.{find_put, find_other}
 
@@ -35,7 +35,7 @@ handlers_alone : IsAlone shared (handlers 2)
 handlers_alone = record { unindexed = refl; unreferred = refl }
 
 handlers_found : handlers_tree shared ≡ 2
-unfolding same_name
+unfolding same_name handlers_tree
 handlers_found = refl
 
 spare_free : IsFree shared (codes "spare")
@@ -65,7 +65,7 @@ abbrev no_rows : Database
 no_rows = record { schema = shared; trees = λ tree. [] }
 
 empty_record : IsRecord no_rows
-unfolding same_name
+unfolding same_name meta_tree handlers_tree clients_tree pending_tree
 empty_record =
     let has_meta : HasTable shared (meta 1) = record {
       at = 1;
