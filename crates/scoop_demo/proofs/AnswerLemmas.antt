@@ -11,6 +11,7 @@ use Rattle.scoop_message.proofs.Same.{handler_decides}
 use Rattle.scoop_frame.specs.declared.error.FrameError.{FrameError}
 use Rattle.scoop_frame.specs.declared.version.Version.{Version}
 use Rattle.scoop_frame.specs.Buffer.{written}
+use Rattle.scoop_frame.specs.Fault.{IsFirstFault}
 use Rattle.scoop_frame.specs.Frame.{frame, IsFrame}
 use Rattle.scoop_handler.specs.declared.note.Note.{Note}
 use Rattle.scoop_keeper.specs.Keeper.{Keeps, Stored, StaysAt, Stays as KeeperStays}
@@ -27,8 +28,7 @@ use Rattle.scoop_book.specs.Books.{BookValue, Gains, KeepsNew}
 use Rattle.scoop_handler.proofs.Basics.{key_found}
 use Rattle.scoop_netloop.specs.declared.answer.Answered.{Answered}
 use Rattle.scoop_netloop.specs.declared.answer.Answered.TheVariants as answered
-use Rattle.scoop_netloop.specs.Answering.{AnswersDatagram, KeepsAnswered, answered_of, frame_of, runs_after}
-use Rattle.scoop_netloop.specs.Answering.AnswersDatagram.{refuses, answers}
+use Rattle.scoop_netloop.specs.Answering.{AnswersFrame, answered_of, frame_of, runs_after}
 use Rattle.scoop_netloop.specs.RunningOut.{BreaksOff, KeepsOthers, RunsEntries}
 use Rattle.scoop_netloop.specs.RunningOut.RunsEntries.{none_ran, then_ran}
 use Rattle.scoop_netloop.proofs.Dry.{if_here, moved_there}
@@ -45,30 +45,29 @@ heard_line : (v : Version) (reply : Option Message) (note : Note) (buffer : List
 heard_line v None note buffer = refl
 heard_line v (Some reply) note buffer = ap encode_lower (take_at (frame v reply) (drop (length (frame v reply)) buffer) (length (frame v reply)) refl)
 
--- the handler that may have something to run after an answer
-pub record Follows (d : List ℕ) (a : Answered) (next : Option HandlerId) : Type 0 where
+-- the handler of a message that may have something to run after an answer
+pub record Follows (m : Message) (a : Answered) (next : Option HandlerId) : Type 0 where
   pub refused : (e : FrameError) → a ≡ answered.RefusedFrame e → next ≡ None
-  pub silent : (note : Note) (v : Version) (m : Message) → a ≡ answered.Silent note → IsFrame v m d → next ≡ runs_by note (handler_of m)
-  pub replied : (n : ℕ) (note : Note) (v : Version) (m : Message) → a ≡ answered.Reply n note → IsFrame v m d → next ≡ runs_by note (handler_of m)
+  pub silent : (note : Note) → a ≡ answered.Silent note → next ≡ runs_by note (handler_of m)
+  pub replied : (n : ℕ) (note : Note) → a ≡ answered.Reply n note → next ≡ runs_by note (handler_of m)
 
-follows_heard : (d : List ℕ) (a : Answered) (next : Option HandlerId) (v : Version) (m : Message) (reply : Option Message) (note : Note) → Follows d a next
-    → a ≡ answered_of v reply note
-    → IsFrame v m d → next ≡ runs_by note (handler_of m)
-follows_heard d a next v m None note follows is carried = follows.silent note v m is carried
-follows_heard d a next v m (Some reply) note follows is carried = follows.replied (length (frame v reply)) note v m is carried
+follows_heard : (m : Message) (a : Answered) (next : Option HandlerId) (v : Version) (reply : Option Message) (note : Note) → Follows m a next
+    → a ≡ answered_of v reply note → next ≡ runs_by note (handler_of m)
+follows_heard m a next v None note follows is = follows.silent note is
+follows_heard m a next v (Some reply) note follows is = follows.replied (length (frame v reply)) note is
 
-pub printed : {K : Type 0} (d : List ℕ) (old new : BookValue K) (a : Answered) (buffer out : List ℕ) (next : Option HandlerId) → Follows d a next
-    → AnswersDatagram 0 d old new a buffer out
-    → Prints d old new next (line_of a out)
-printed d old new a buffer out next follows (refuses r) =
-    refused (record {
-      error = r.error;
-      first_fault = r.first_fault;
-      rests = subst (Rests old) (sym r.stays) (rests_same old);
-      nothing = follows.refused r.error r.answer;
-      is = ap (λ x. line_of x out) r.answer;
-    })
-printed d old new a buffer out next follows (answers f) =
+-- bytes that are no frame are refused
+pub printed_refused : {K : Type 0} (d : List ℕ) (old : BookValue K) (e : FrameError) (out : List ℕ) → IsFirstFault e d
+    → Prints d old old None (line_of (answered.RefusedFrame e) out)
+printed_refused d old e out fault = refused (record { error = e; first_fault = fault; rests = rests_same old; nothing = refl; is = refl })
+
+-- the bytes are the frame of no message but this one
+abbrev pub IsOf : List ℕ → Message → Type 0
+IsOf d m = (v : Version) (x : Message) → IsFrame v x d → x ≡ m
+
+pub printed : {K : Type 0} (d : List ℕ) (m : Message) (old new : BookValue K) (a : Answered) (buffer out : List ℕ) (next : Option HandlerId) → IsOf d m
+    → Follows m a next → AnswersFrame 0 d old new a buffer out → Prints d old new next (line_of a out)
+printed d m old new a buffer out next one follows f =
     let bytes = ap (λ b. line_of a b) f.bytes in
     let answer = ap (λ x. line_of x (written (frame_of f.version f.heard.reply) buffer)) f.answer in
     heard (record {
@@ -77,7 +76,8 @@ printed d old new a buffer out next follows (answers f) =
       carried = f.carried;
       heard = f.heard;
       gains = f.gains;
-      runs = follows_heard d a next f.version f.message f.heard.reply f.heard.note follows f.answer f.carried;
+      runs = subst (λ (x : Message). next ≡ runs_by f.heard.note (handler_of x)) (sym (one f.version f.message f.carried))
+          (follows_heard m a next f.version f.heard.reply f.heard.note follows f.answer);
       is = bytes ∙ answer ∙ heard_line f.version f.heard.reply f.heard.note buffer;
     })
 
@@ -173,14 +173,13 @@ others_refused was now stays h = stays.each h.0
 stays_at : (a : ℕ → Stored → Type 0) (n : ℕ) → StaysAt a a n
 stays_at a n v = (λ x. x, λ x. x)
 
-pub others_answered : {K : Type 0} (pass : ℕ) (d : List ℕ) (old new : BookValue K) (a : Answered) (buffer out : List ℕ) (has : K → ℕ → Stored → Type 0)
-    → AnswersDatagram pass d old new a buffer out
-    → KeepsAnswered d new.handlers (has old.keeper) (has new.keeper) → (h : HandlerId) → handler_in h old.handlers ≡ None
+pub others_answered : {K : Type 0} (pass : ℕ) (d : List ℕ) (m : Message) (old new : BookValue K) (a : Answered) (buffer out : List ℕ)
+    (has : K → ℕ → Stored → Type 0) → IsOf d m → AnswersFrame pass d old new a buffer out
+    → KeepsNew (handler_of m) new.handlers (has old.keeper) (has new.keeper) → (h : HandlerId) → handler_in h old.handlers ≡ None
     → StaysAt (has old.keeper) (has new.keeper) h.0
-others_answered pass d old new a buffer out has (refuses r) keeps h none =
-    subst (λ (b : BookValue _). StaysAt (has old.keeper) (has b.keeper) h.0) (sym r.stays) (stays_at (has old.keeper) h.0)
-others_answered pass d old new a buffer out has (answers f) keeps h none =
-    others_heard pass f.message (Heard f.heard) old new (has old.keeper) (has new.keeper) f.gains (keeps f.version f.message f.carried) h none
+others_answered pass d m old new a buffer out has one f keeps h none =
+    others_heard pass m (Heard f.heard) old new (has old.keeper) (has new.keeper)
+    (subst (λ (x : Message). Gains pass (Hear x) (Heard f.heard) old new) (one f.version f.message f.carried) f.gains) keeps h none
 
 module _ {K : Type 0} (has : K → ℕ → Stored → Type 0) (incs : K → ℕ → Option ℕ) (is_honest : K → Type 0) where
   pub elsewhere_same : (hs : List LocalHandler) (a : K) → KeepsElsewhere has incs is_honest hs a a
