@@ -134,10 +134,13 @@ pub trait Trying: Copy {
     fn tries<R: Net + Abort>(self, rt: &R, alloc: Global, count: u32, number: u64) -> Trial;
 }
 
-// Both values are equal in the trial with this growth refused.
-fn agree<T: PartialEq + Debug + Drop>(rt: &impl Abort, number: u64, left: T, right: T) {
+// Both values are equal in the trial with this growth refused. It is proved once, as `are_equal`.
+fn agree<T>(rt: &impl Abort, number: u64, name: &str, left: T, right: T)
+where
+    T: PartialEq + Debug + Drop,
+{
     if left != right {
-        panic!(rt; "growth {number}: {left:?} is not {right:?}");
+        panic!(rt; "growth {number}, {name}: {left:?} is not {right:?}");
     }
 }
 
@@ -145,10 +148,16 @@ fn agree<T: PartialEq + Debug + Drop>(rt: &impl Abort, number: u64, left: T, rig
 // nothing, and the repeated call ends as one without a refusal.
 fn agrees(rt: &impl Abort, number: u64, keeps_room: bool, trial: &Trial, free: &Trial) {
     if trial.ran_out || !keeps_room {
-        agree(rt, number, trial.ran_out, trial.refused);
+        agree(rt, number, "ran out", trial.ran_out, trial.refused);
     }
-    agree(rt, number, trial.changed, false);
-    agree(rt, number, trial.shown.as_str(), free.shown.as_str());
+    agree(rt, number, "changed", trial.changed, false);
+    agree(
+        rt,
+        number,
+        "shown",
+        trial.shown.as_str(),
+        free.shown.as_str(),
+    );
 }
 
 // Makes a trial with the growth of this number refused, which agrees with a free one. Returns whether one was refused.
