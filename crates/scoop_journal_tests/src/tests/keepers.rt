@@ -1,7 +1,7 @@
 //! A keeper that writes a journal.
 
-use crate::tests::are_equal;
-use scoop_handler::{Heard, Note};
+use crate::tests::{are_equal, are_equal_at};
+use scoop_handler::{HandlerState, Heard, Note};
 use scoop_journal_keeper::{JournaledKeeper, Storage};
 use scoop_keeper::{FailingKeeper, Keeper, KeeperError, MemoryKeeper};
 use scoop_message::{ClientId, HandlerId, Message};
@@ -38,17 +38,17 @@ pub(super) struct Failing<'a> {
     pub(super) left: u32,
 }
 
-// A keeper in memory of handler 1, with a journal that takes a number of writes.
+// A keeper of handler 1 over this storage, with a journal that takes a number of writes.
 fn journaled<'a>(
     rt: &impl Abort,
     alloc: Global,
     text: &'a mut Vec<u8>,
+    storage: Storage,
     left: u32,
 ) -> JournaledKeeper<MemoryKeeper, Failing<'a>> {
     let handlers = Vec::from_slice(alloc, &[ONE]).expect(rt, "no memory");
     let writer = Failing { text, left };
-    let kept = kept(rt, alloc);
-    JournaledKeeper::new(alloc, kept, Storage::Memory, writer, 1, handlers)
+    JournaledKeeper::new(alloc, kept(rt, alloc), storage, writer, 1, handlers)
 }
 
 impl Write for Failing<'_> {
@@ -65,61 +65,74 @@ impl Write for Failing<'_> {
     }
 }
 
+// The state of handler 1 as it is new.
+fn fresh(rt: &impl Abort, alloc: Global) -> HandlerState {
+    read_image(alloc, ONE, &IMAGE, &[]).expect(rt, "no image")
+}
+
 // A keeper of handler 1.
 pub(super) fn kept(rt: &impl Abort, alloc: Global) -> MemoryKeeper {
     let mut keeper = MemoryKeeper::new(alloc);
-    let state = read_image(alloc, ONE, &IMAGE, &[]).expect(rt, "no image");
-    keeper.put_handler(&state).expect(rt, "refused");
+    keeper.put_handler(&fresh(rt, alloc)).expect(rt, "not put");
     keeper
+}
+
+// These stand alone, so that the tests don't carry what a note says.
+pub(super) fn hears<K: Keeper<Global>>(rt: &impl Abort, keeper: &mut K, heard: &Heard) {
+    keeper.note_heard(&HELLO, heard).expect(rt, "not heard");
+}
+
+pub(super) fn runs<K: Keeper<Global>>(rt: &impl Abort, keeper: &mut K) {
+    keeper.note_finished(ONE).expect(rt, "not run");
+}
+
+// The keeper refuses to note that the handler greets.
+pub(super) fn refuses_to_hear<K: Keeper<Global>>(rt: &impl Abort, keeper: &mut K) {
+    let heard = keeper.note_heard(&HELLO, &GREETED);
+    are_equal_at(rt, heard, Err(KeeperError::Refused), "what is heard");
+}
+
+pub(super) fn refuses_to_run<K: Keeper<Global>>(
+    rt: &impl Abort,
+    keeper: &mut K,
+    handler: HandlerId,
+) {
+    let run = keeper.note_finished(handler);
+    are_equal_at(rt, run, Err(KeeperError::Refused), "a run");
+}
+
+fn refuses_to_put<K: Keeper<Global>>(rt: &impl Abort, alloc: Global, keeper: &mut K) {
+    let put = keeper.put_handler(&fresh(rt, alloc));
+    are_equal_at(rt, put, Err(KeeperError::Refused), "a put");
+}
+
+// The journal has these parts, one after the other.
+pub(super) fn has(rt: &impl Abort, alloc: Global, text: &[u8], parts: &[&str]) {
+    let mut whole = String::new(alloc);
+    for part in parts {
+        whole.push_str(part).expect(rt, "no memory");
+    }
+    are_equal(rt, text, whole.as_bytes());
 }
 
 #[test]
 fn events_are_written_after_the_first_lines(rt: HostRuntime) {
     let alloc = rt.alloc();
     let mut text = Vec::new(alloc);
-    let handlers = Vec::from_slice(alloc, &[ONE]).expect(&rt, "no memory");
-    let writer = Failing {
-        text: &mut text,
-        left: 9,
-    };
-    let mut keeper = JournaledKeeper::new(
-        alloc,
-        kept(&rt, alloc),
-        Storage::File,
-        writer,
-        1,
-        handlers,
-    );
-    keeper.note_heard(&HELLO, &GREETED).expect(&rt, "refused");
-    keeper.note_finished(ONE).expect(&rt, "refused");
+    let mut keeper = journaled(&rt, alloc, &mut text, Storage::File, 9);
+    hears(&rt, &mut keeper, &GREETED);
+    runs(&rt, &mut keeper);
     let _kept = keeper.into_inner();
-    let whole = format!(in alloc; "{FIRST}{HEARD}{RUN}").expect(&rt, "no memory");
-    are_equal(&rt, text.as_slice(), whole.as_bytes());
+    has(&rt, alloc, text.as_slice(), &[FIRST, HEARD, RUN]);
 }
 
 #[test]
 fn nothing_is_written_after_a_failed_write(rt: HostRuntime) {
     let alloc = rt.alloc();
     let mut text = Vec::new(alloc);
-    let handlers = Vec::from_slice(alloc, &[ONE]).expect(&rt, "no memory");
-    let writer = Failing {
-        text: &mut text,
-        left: 1,
-    };
-    let mut keeper = JournaledKeeper::new(
-        alloc,
-        kept(&rt, alloc),
-        Storage::File,
-        writer,
-        1,
-        handlers,
-    );
-    are_equal(
-        &rt,
-        keeper.note_heard(&HELLO, &GREETED),
-        Err(KeeperError::Refused),
-    );
-    are_equal(&rt, keeper.note_finished(ONE), Err(KeeperError::Refused));
+    let mut keeper = journaled(&rt, alloc, &mut text, Storage::File, 1);
+    refuses_to_hear(&rt, &mut keeper);
+    refuses_to_run(&rt, &mut keeper, ONE);
     let _kept = keeper.into_inner();
     are_equal(&rt, text.as_slice(), FIRST.as_bytes());
 }
@@ -127,7 +140,6 @@ fn nothing_is_written_after_a_failed_write(rt: HostRuntime) {
 #[test]
 fn a_keeper_that_fails_ends_the_node(rt: HostRuntime) {
     let alloc = rt.alloc();
-    let state = read_image(alloc, ONE, &IMAGE, &[]).expect(&rt, "no image");
     let handlers = Vec::from_slice(alloc, &[ONE]).expect(&rt, "no memory");
     // the opening is loaded, and the put is refused
     let failing = FailingKeeper::new(kept(&rt, alloc), 1);
@@ -139,8 +151,8 @@ fn a_keeper_that_fails_ends_the_node(rt: HostRuntime) {
         1,
         handlers,
     );
-    keeper.note_heard(&HELLO, &GREETED).expect(&rt, "refused");
-    are_equal(&rt, keeper.put_handler(&state), Err(KeeperError::Refused));
+    hears(&rt, &mut keeper, &GREETED);
+    refuses_to_put(&rt, alloc, &mut keeper);
 }
 
 #[test]
@@ -155,11 +167,7 @@ fn a_handler_without_a_state_is_refused(rt: HostRuntime) {
         1,
         handlers,
     );
-    are_equal(
-        &rt,
-        keeper.note_finished(HandlerId(2)),
-        Err(KeeperError::Refused),
-    );
+    refuses_to_run(&rt, &mut keeper, HandlerId(2));
 }
 
 // One write for the life's first lines, one for what is heard first, and one for what is heard next with the runs before it.
@@ -167,44 +175,43 @@ fn a_handler_without_a_state_is_refused(rt: HostRuntime) {
 fn runs_over_a_keeper_in_memory_wait_for_what_is_heard_next(rt: HostRuntime) {
     let alloc = rt.alloc();
     let mut text = Vec::new(alloc);
-    let mut keeper = journaled(&rt, alloc, &mut text, 3);
-    keeper.note_heard(&HELLO, &GREETED).expect(&rt, "refused");
-    keeper.note_finished(ONE).expect(&rt, "refused");
-    keeper.note_finished(ONE).expect(&rt, "refused");
-    keeper.note_heard(&HELLO, &GREETED).expect(&rt, "refused");
+    let mut keeper = journaled(&rt, alloc, &mut text, Storage::Memory, 3);
+    hears(&rt, &mut keeper, &GREETED);
+    runs(&rt, &mut keeper);
+    runs(&rt, &mut keeper);
+    hears(&rt, &mut keeper, &GREETED);
     let _kept = keeper.into_inner();
-    let whole = format!(in alloc; "{FIRST}{HEARD}{RUN}{RUN}{HEARD}").expect(&rt, "no memory");
-    are_equal(&rt, text.as_slice(), whole.as_bytes());
+    has(
+        &rt,
+        alloc,
+        text.as_slice(),
+        &[FIRST, HEARD, RUN, RUN, HEARD],
+    );
 }
 
 #[test]
 fn runs_that_wait_are_written_at_the_end(rt: HostRuntime) {
     let alloc = rt.alloc();
-    let whole = format!(in alloc; "{FIRST}{RUN}").expect(&rt, "no memory");
     let mut text = Vec::new(alloc);
-    let mut keeper = journaled(&rt, alloc, &mut text, 2);
-    keeper.note_finished(ONE).expect(&rt, "refused");
+    let mut keeper = journaled(&rt, alloc, &mut text, Storage::Memory, 2);
+    runs(&rt, &mut keeper);
     let _kept = keeper.into_inner();
-    are_equal(&rt, text.as_slice(), whole.as_bytes());
+    has(&rt, alloc, text.as_slice(), &[FIRST, RUN]);
     text.clear();
-    let mut keeper = journaled(&rt, alloc, &mut text, 2);
-    keeper.note_finished(ONE).expect(&rt, "refused");
+    let mut keeper = journaled(&rt, alloc, &mut text, Storage::Memory, 2);
+    runs(&rt, &mut keeper);
     drop(keeper);
-    are_equal(&rt, text.as_slice(), whole.as_bytes());
+    has(&rt, alloc, text.as_slice(), &[FIRST, RUN]);
 }
 
 #[test]
 fn a_run_after_a_failed_write_is_refused(rt: HostRuntime) {
     let alloc = rt.alloc();
     let mut text = Vec::new(alloc);
-    let mut keeper = journaled(&rt, alloc, &mut text, 1);
-    keeper.note_finished(ONE).expect(&rt, "refused");
-    are_equal(
-        &rt,
-        keeper.note_heard(&HELLO, &GREETED),
-        Err(KeeperError::Refused),
-    );
-    are_equal(&rt, keeper.note_finished(ONE), Err(KeeperError::Refused));
+    let mut keeper = journaled(&rt, alloc, &mut text, Storage::Memory, 1);
+    runs(&rt, &mut keeper);
+    refuses_to_hear(&rt, &mut keeper);
+    refuses_to_run(&rt, &mut keeper, ONE);
     let _kept = keeper.into_inner();
     are_equal(&rt, text.as_slice(), FIRST.as_bytes());
 }

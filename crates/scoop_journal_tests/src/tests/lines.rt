@@ -6,7 +6,6 @@ use scoop_journal::{Arrival, Line, LineFault, read, write};
 use scoop_message::{ClientId, HandlerId, Message};
 use std::alloc::Global;
 use std::process::Abort;
-use std::test::Fail;
 
 // Lines of every kind. A frame is that of a Hello or of a Lock, made by hand.
 const TEXTS: [&str; 19] = [
@@ -69,21 +68,17 @@ const FAULTS: [(&str, LineFault); 24] = [
 ];
 
 // These functions borrow the texts, and match what they read: the borrow checker covers that.
-fn is_written_back(rt: &impl Abort, alloc: Global, text: &str) -> Result<(), Fail> {
+fn is_written_back(rt: &impl Abort, alloc: Global, text: &str) {
     let mut out = Vec::new(alloc);
-    write_back(text, &mut out)?;
+    write_back(rt, text, &mut out);
     are_equal(rt, out.pop(), Some(b'\n'));
     are_equal(rt, out.as_slice(), text.as_bytes());
-    Ok(())
 }
 
-fn write_back(text: &str, out: &mut Vec<u8>) -> Result<(), Fail> {
+fn write_back(rt: &impl Abort, text: &str, out: &mut Vec<u8>) {
     match read(text.as_bytes()) {
-        Ok(line) => match write(&line, out) {
-            Ok(()) => Ok(()),
-            Err(error) => Err(Fail::from(error)),
-        },
-        Err(fault) => Err(Fail::from(fault)),
+        Ok(line) => write(&line, out).expect(rt, "no memory"),
+        Err(fault) => panic!(rt; "{text}: {fault:?}"),
     }
 }
 
@@ -102,11 +97,10 @@ fn is_read_as(text: &[u8], line: &Line<'_>) -> bool {
 }
 
 #[test]
-fn a_line_that_is_read_is_written_back(rt: HostRuntime) -> Result<(), Fail> {
+fn a_line_that_is_read_is_written_back(rt: HostRuntime) {
     for text in TEXTS {
-        is_written_back(&rt, rt.alloc(), text)?;
+        is_written_back(&rt, rt.alloc(), text);
     }
-    Ok(())
 }
 
 #[test]
@@ -128,8 +122,7 @@ fn lines_are_what_their_texts_say(rt: HostRuntime) {
 }
 
 #[test]
-fn faults_are_told(rt: HostRuntime) -> Result<(), Fail> {
-    let text = format!(in rt.alloc(); "{}", LineFault::NotHex)?;
+fn faults_are_told(rt: HostRuntime) {
+    let text = format!(in rt.alloc(); "{}", LineFault::NotHex).expect(&rt, "no memory");
     are_equal(&rt, text.as_str(), "not hex");
-    Ok(())
 }

@@ -1,6 +1,6 @@
 //! Keepers whose file loses its name, and client stores that begin above an incarnation.
 
-use crate::tests::are_equal;
+use crate::tests::{are_equal, are_equal_at, path_of};
 use scoop_files::{
     FileError, FiledStore, NamedKeeper, StoreName, adopt_for, close, close_named, create_after,
 };
@@ -8,9 +8,9 @@ use scoop_handler::HandlerState;
 use scoop_keeper::{Keeper, KeeperError, MemoryKeeper};
 use scoop_message::{ClientId, HandlerId};
 use scoop_record::read_image;
-use std::path::PathBuf;
-use std::test::Fail;
-use std::{env, fs, process};
+use std::alloc::Global;
+use std::process::Abort;
+use std::{fs, io};
 
 const ONE: HandlerId = HandlerId(1);
 
@@ -22,7 +22,7 @@ const IMAGE: [u8; 17] = *b"\x02\0\0\0\x01\x01\0\0\0\0\0\0\0\x05\0\0\0";
 const REFUSED: Result<(), KeeperError> = Err(KeeperError::Refused);
 
 // A change of a store's file or its log after the keeper was made.
-#[derive(Clone, Copy)]
+#[derive(Clone, Copy, Debug)]
 enum Change {
     Nothing,
     Grown,
@@ -32,148 +32,191 @@ enum Change {
     LogDeleted,
 }
 
-/// The path of a file of this test's process.
-pub fn path_of(rt: &HostRuntime, name: &str) -> Result<PathBuf, Fail> {
-    let alloc = rt.alloc();
-    let name = format!(in alloc; "scoop-{}-{name}.db", process::id(rt.process()))?;
-    Ok(env::temp_dir(rt)?.join(alloc, name.as_str())?)
+// Changes before the first put, each with the put's result, and whether the name counts as lost then.
+const FIRST_PUTS: [(Change, (Result<(), KeeperError>, bool)); 6] = [
+    (Change::Nothing, (Ok(()), false)),
+    (Change::Grown, (Ok(()), false)),
+    (Change::Cut, (REFUSED, true)),
+    (Change::Moved, (REFUSED, true)),
+    (Change::Replaced, (REFUSED, true)),
+    (Change::LogDeleted, (REFUSED, true)),
+];
+
+// Changes after the last look. Each has whether the store is closed as lost, and then the client's next incarnation.
+const CLOSES: [(Change, (bool, Option<u32>)); 3] = [
+    (Change::Nothing, (false, Some(42))),
+    (Change::LogDeleted, (false, Some(42))),
+    (Change::Moved, (true, None)),
+];
+
+// The path of the log beside this file.
+fn log_of(rt: &impl Abort, alloc: Global, path: &str) -> String {
+    format!(in alloc; "{path}-wal").expect(rt, "no memory")
 }
 
-fn make_change(rt: &HostRuntime, path: &str, log: &str, change: Change) -> Result<(), Fail> {
-    match change {
-        Change::Nothing => {}
-        Change::Grown => fs::write(rt, path, "a longer store")?,
-        Change::Cut => fs::write(rt, path, "cut")?,
-        Change::Moved => fs::rename(rt, path, log)?,
-        Change::Replaced => {
-            fs::write(rt, log, "another store")?;
-            fs::rename(rt, log, path)?;
-        }
-        Change::LogDeleted => fs::remove_file(rt, log)?,
-    }
-    Ok(())
+fn fill(rt: &impl Abort, host: &HostRuntime, path: &str, text: &str) {
+    fs::write(host, path, text).expect(rt, "not written");
+}
+
+// Removes the file and its log, if they are there.
+fn remove(host: &HostRuntime, path: &str, log: &str) {
+    let _gone = fs::remove_file(host, path);
+    let _gone = fs::remove_file(host, log);
+}
+
+fn name_of(rt: &impl Abort, alloc: Global, path: &str) -> StoreName {
+    StoreName::new(alloc, path).expect(rt, "no memory")
+}
+
+fn make_change(rt: &impl Abort, host: &HostRuntime, path: &str, log: &str, change: Change) {
+    let made = match change {
+        Change::Nothing => Ok(()),
+        Change::Grown => fs::write(host, path, "a longer store"),
+        Change::Cut => fs::write(host, path, "cut"),
+        Change::Moved => fs::rename(host, path, log),
+        Change::Replaced => replace(host, path, log),
+        Change::LogDeleted => fs::remove_file(host, log),
+    };
+    made.expect(rt, "not changed");
+}
+
+fn replace(host: &HostRuntime, path: &str, log: &str) -> io::Result<()> {
+    fs::write(host, log, "another store")?;
+    fs::rename(host, log, path)
+}
+
+fn fresh(rt: &impl Abort, alloc: Global) -> HandlerState {
+    read_image(alloc, ONE, &IMAGE, &[]).expect(rt, "no image")
 }
 
 // The first put over a file that was changed so, and whether its name counts as lost then.
-fn first_put(rt: &HostRuntime, changed: Change) -> Result<(Result<(), KeeperError>, bool), Fail> {
-    let alloc = rt.alloc();
-    let path = path_of(rt, "first")?;
-    let path = path.to_str().ok_or("a path")?;
-    let log = format!(in alloc; "{path}-wal")?;
-    fs::write(rt, path, "a store")?;
-    fs::write(rt, log.as_str(), "its log")?;
-    let name = StoreName::new(alloc, path)?;
-    let state = read_image(alloc, ONE, &IMAGE, &[])?;
-    let mut keeper = NamedKeeper::new(rt, MemoryKeeper::new(alloc), &name);
-    make_change(rt, path, log.as_str(), changed)?;
-    let put = keeper.put_handler(&state);
-    let _gone = fs::remove_file(rt, path);
-    let _gone = fs::remove_file(rt, log.as_str());
-    Ok((put, name.is_lost()))
+fn first_put(
+    rt: &impl Abort,
+    host: &HostRuntime,
+    change: Change,
+) -> (Result<(), KeeperError>, bool) {
+    let alloc = host.alloc();
+    let path = path_of(rt, host, "first.db");
+    let log = log_of(rt, alloc, &path);
+    fill(rt, host, &path, "a store");
+    fill(rt, host, &log, "its log");
+    let name = name_of(rt, alloc, &path);
+    let mut keeper = NamedKeeper::new(host, MemoryKeeper::new(alloc), &name);
+    make_change(rt, host, &path, &log, change);
+    let put = keeper.put_handler(&fresh(rt, alloc));
+    remove(host, &path, &log);
+    (put, name.is_lost())
 }
 
 #[test]
-fn the_first_put_looks_at_the_name(rt: HostRuntime) -> Result<(), Fail> {
-    are_equal(&rt, first_put(&rt, Change::Nothing)?, (Ok(()), false));
-    are_equal(&rt, first_put(&rt, Change::Grown)?, (Ok(()), false));
-    are_equal(&rt, first_put(&rt, Change::Cut)?, (REFUSED, true));
-    are_equal(&rt, first_put(&rt, Change::Moved)?, (REFUSED, true));
-    are_equal(&rt, first_put(&rt, Change::Replaced)?, (REFUSED, true));
-    are_equal(&rt, first_put(&rt, Change::LogDeleted)?, (REFUSED, true));
-    Ok(())
+fn the_first_put_looks_at_the_name(rt: HostRuntime) {
+    for (change, wanted) in FIRST_PUTS {
+        are_equal_at(&rt, first_put(&rt, &rt, change), wanted, change);
+    }
 }
 
 // Puts the state that many times.
-fn puts(
-    keeper: &mut NamedKeeper<'_, MemoryKeeper>,
-    state: &HandlerState,
-    count: u32,
-) -> Result<(), KeeperError> {
+fn puts<K: Keeper<Global>>(rt: &impl Abort, keeper: &mut K, state: &HandlerState, count: u32) {
     for _ in 0..count {
-        keeper.put_handler(state)?;
+        keeper.put_handler(state).expect(rt, "not put");
     }
-    Ok(())
+}
+
+fn refuses<K: Keeper<Global>>(rt: &impl Abort, keeper: &mut K, state: &HandlerState) {
+    are_equal(rt, keeper.put_handler(state), REFUSED);
 }
 
 #[test]
-fn a_deleted_file_is_noticed_at_the_64th_put_after_a_look(rt: HostRuntime) -> Result<(), Fail> {
+fn a_deleted_file_is_noticed_at_the_64th_put_after_a_look(rt: HostRuntime) {
     let alloc = rt.alloc();
-    let path = path_of(&rt, "deleted")?;
-    let path = path.to_str().expect(&rt, "a path");
-    fs::write(&rt, path, "a store").expect(&rt, "failed");
-    let name = StoreName::new(alloc, path)?;
-    let state = read_image(alloc, ONE, &IMAGE, &[]).expect(&rt, "failed");
+    let path = path_of(&rt, &rt, "deleted.db");
+    fill(&rt, &rt, &path, "a store");
+    let name = name_of(&rt, alloc, &path);
+    let state = fresh(&rt, alloc);
     let mut keeper = NamedKeeper::new(&rt, MemoryKeeper::new(alloc), &name);
-    puts(&mut keeper, &state, 1).expect(&rt, "failed");
-    fs::remove_file(&rt, path).expect(&rt, "failed");
-    puts(&mut keeper, &state, 63).expect(&rt, "failed");
+    puts(&rt, &mut keeper, &state, 1);
+    fs::remove_file(&rt, path.as_str()).expect(&rt, "not removed");
+    puts(&rt, &mut keeper, &state, 63);
     assert!(rt; !name.is_lost());
-    are_equal(&rt, keeper.put_handler(&state), REFUSED);
-    are_equal(&rt, keeper.put_handler(&state), REFUSED);
+    refuses(&rt, &mut keeper, &state);
+    refuses(&rt, &mut keeper, &state);
     assert!(rt; name.is_lost());
-    Ok(())
 }
 
 // The next incarnation of the client in this store, which is closed then.
-fn next_in(mut store: FiledStore) -> Result<Result<u32, KeeperError>, Fail> {
+fn next_in(rt: &impl Abort, mut store: FiledStore) -> Result<u32, KeeperError> {
     let inc = store.next_incarnation(CLIENT);
-    close(store)?;
-    Ok(inc)
+    close(store).expect(rt, "not closed");
+    inc
 }
 
 // The first two incarnations of a client whose store begins above this one.
-fn first_two(rt: &HostRuntime, last: u32) -> Result<(u32, Option<u32>), Fail> {
-    let path = path_of(rt, "after")?;
-    let path = path.to_str().ok_or("a path")?;
-    let first = next_in(create_after(rt, path, CLIENT, last)?)??;
-    let second = next_in(adopt_for(rt, path, CLIENT)?)?.ok();
-    let log = format!(in rt.alloc(); "{path}-wal")?;
-    fs::remove_file(rt, path)?;
-    let _gone = fs::remove_file(rt, log.as_str());
-    Ok((first, second))
+fn first_two(
+    rt: &impl Abort,
+    host: &HostRuntime,
+    last: u32,
+) -> (Result<u32, KeeperError>, Option<u32>) {
+    let path = path_of(rt, host, "after.db");
+    let store = create_after(host, path.as_str(), CLIENT, last).expect(rt, "not made");
+    let first = next_in(rt, store);
+    let store = adopt_for(host, path.as_str(), CLIENT).expect(rt, "not adopted");
+    let second = next_in(rt, store).ok();
+    fs::remove_file(host, path.as_str()).expect(rt, "not removed");
+    let log = log_of(rt, host.alloc(), &path);
+    let _gone = fs::remove_file(host, log.as_str());
+    (first, second)
 }
 
 #[test]
-fn a_new_store_begins_above_the_incarnation(rt: HostRuntime) -> Result<(), Fail> {
-    are_equal(&rt, first_two(&rt, 0)?, (1, Some(2)));
-    are_equal(&rt, first_two(&rt, 41)?, (42, Some(43)));
-    are_equal(&rt, first_two(&rt, 4_294_967_294)?, (4_294_967_295, None));
-    Ok(())
-}
-
-// Whether a store whose file or log was changed after the last look is closed as lost, and then the client's next incarnation.
-fn closed_after(rt: &HostRuntime, changed: Change) -> Result<(bool, Option<u32>), Fail> {
-    let alloc = rt.alloc();
-    let path = path_of(rt, "closed")?;
-    let path = path.to_str().ok_or("a path")?;
-    let log = format!(in alloc; "{path}-wal")?;
-    let name = StoreName::new(alloc, path)?;
-    let keeper = NamedKeeper::new(rt, create_after(rt, path, CLIENT, 41)?, &name);
-    make_change(rt, path, log.as_str(), changed)?;
-    let is_lost = match close_named(keeper.into_inner(), &name) {
-        Err(FileError::Lost) => true,
-        closed => {
-            closed?;
-            false
-        }
-    };
-    let next = match adopt_for(rt, path, CLIENT) {
-        Ok(store) => Some(next_in(store)??),
-        Err(_) => None,
-    };
-    let _gone = fs::remove_file(rt, path);
-    let _gone = fs::remove_file(rt, log.as_str());
-    Ok((is_lost, next))
-}
-
-#[test]
-fn the_end_looks_at_the_file_and_copies_a_deleted_log(rt: HostRuntime) -> Result<(), Fail> {
-    are_equal(&rt, closed_after(&rt, Change::Nothing)?, (false, Some(42)));
+fn a_new_store_begins_above_the_incarnation(rt: HostRuntime) {
+    are_equal(&rt, first_two(&rt, &rt, 0), (Ok(1), Some(2)));
+    are_equal(&rt, first_two(&rt, &rt, 41), (Ok(42), Some(43)));
     are_equal(
         &rt,
-        closed_after(&rt, Change::LogDeleted)?,
-        (false, Some(42)),
+        first_two(&rt, &rt, 4_294_967_294),
+        (Ok(4_294_967_295), None),
     );
-    are_equal(&rt, closed_after(&rt, Change::Moved)?, (true, None));
-    Ok(())
+}
+
+// Whether a store whose file or log was changed after the last look is closed as lost.
+fn is_closed_as_lost(
+    rt: &impl Abort,
+    host: &HostRuntime,
+    path: &str,
+    log: &str,
+    change: Change,
+) -> bool {
+    let name = name_of(rt, host.alloc(), path);
+    let store = create_after(host, path, CLIENT, 41).expect(rt, "not made");
+    let keeper = NamedKeeper::new(host, store, &name);
+    make_change(rt, host, path, log, change);
+    match close_named(keeper.into_inner(), &name) {
+        Ok(()) => false,
+        Err(FileError::Lost) => true,
+        Err(error) => panic!(rt; "not closed: {error:?}"),
+    }
+}
+
+// The client's next incarnation, if its store is there.
+fn next_of(rt: &impl Abort, host: &HostRuntime, path: &str) -> Option<u32> {
+    match adopt_for(host, path, CLIENT) {
+        Ok(store) => Some(next_in(rt, store).expect(rt, "no incarnation")),
+        Err(_) => None,
+    }
+}
+
+fn closed_after(rt: &impl Abort, host: &HostRuntime, change: Change) -> (bool, Option<u32>) {
+    let path = path_of(rt, host, "closed.db");
+    let log = log_of(rt, host.alloc(), &path);
+    let is_lost = is_closed_as_lost(rt, host, &path, &log, change);
+    let next = next_of(rt, host, &path);
+    remove(host, &path, &log);
+    (is_lost, next)
+}
+
+#[test]
+fn the_end_looks_at_the_file_and_copies_a_deleted_log(rt: HostRuntime) {
+    for (change, wanted) in CLOSES {
+        are_equal_at(&rt, closed_after(&rt, &rt, change), wanted, change);
+    }
 }

@@ -2,8 +2,11 @@
 
 ghost use Rattle.std.specs.Prelude.{◌≡◌, IfErr};
 
-use crate::tests::are_equal;
-use crate::tests::keepers::{FIRST, Failing, GREETED, HEARD, HELLO, ONE, RUN, kept};
+use crate::tests::keepers::{
+    FIRST, Failing, GREETED, HEARD, ONE, RUN, has, hears, kept, refuses_to_hear, refuses_to_run,
+    runs,
+};
+use crate::tests::{are_equal, are_equal_at};
 use scoop_handler::{HandlerState, Heard, Note};
 use scoop_journal_keeper::{SharedJournaledKeeper, SharedKeeper};
 use scoop_keeper::{Keeper, KeeperError, MemoryKeeper};
@@ -98,19 +101,26 @@ fn journaled<'a>(
     SharedJournaledKeeper::new(alloc, keeper, writer, 1, handlers)
 }
 
+fn commits<K: Keeper<Global>>(rt: &impl Abort, keeper: &mut K) {
+    keeper.commit().expect(rt, "not committed");
+}
+
+fn refuses_to_commit<K: Keeper<Global>>(rt: &impl Abort, keeper: &mut K) {
+    are_equal_at(rt, keeper.commit(), Err(KeeperError::Refused), "a commit");
+}
+
 #[test]
 fn a_message_that_changes_nothing_waits_for_the_commit(rt: HostRuntime) {
     let alloc = rt.alloc();
     let mut text = Vec::new(alloc);
     let mut keeper = journaled(&rt, alloc, &mut text, 1, 1);
-    keeper.note_heard(&HELLO, &KNOWN).expect(&rt, "refused");
-    keeper.note_heard(&HELLO, &KNOWN).expect(&rt, "refused");
-    keeper.commit().expect(&rt, "refused");
+    hears(&rt, &mut keeper, &KNOWN);
+    hears(&rt, &mut keeper, &KNOWN);
+    commits(&rt, &mut keeper);
     // nothing waits, so the keeper isn't asked
-    keeper.commit().expect(&rt, "refused");
+    commits(&rt, &mut keeper);
     let _kept = keeper.into_inner();
-    let whole = format!(in alloc; "{FIRST}{HEARD}{HEARD}").expect(&rt, "no memory");
-    are_equal(&rt, text.as_slice(), whole.as_bytes());
+    has(&rt, alloc, text.as_slice(), &[FIRST, HEARD, HEARD]);
 }
 
 #[test]
@@ -118,11 +128,11 @@ fn lines_that_wait_are_not_written_at_the_end(rt: HostRuntime) {
     let alloc = rt.alloc();
     let mut text = Vec::new(alloc);
     let mut keeper = journaled(&rt, alloc, &mut text, 1, 1);
-    keeper.note_heard(&HELLO, &KNOWN).expect(&rt, "refused");
+    hears(&rt, &mut keeper, &KNOWN);
     drop(keeper);
     are_equal(&rt, text.as_slice(), b"");
     let mut keeper = journaled(&rt, alloc, &mut text, 1, 1);
-    keeper.note_heard(&HELLO, &KNOWN).expect(&rt, "refused");
+    hears(&rt, &mut keeper, &KNOWN);
     let _kept = keeper.into_inner();
     are_equal(&rt, text.as_slice(), b"");
 }
@@ -132,14 +142,10 @@ fn nothing_is_written_after_the_record_is_taken_over(rt: HostRuntime) {
     let alloc = rt.alloc();
     let mut text = Vec::new(alloc);
     let mut keeper = journaled(&rt, alloc, &mut text, 0, 9);
-    keeper.note_heard(&HELLO, &KNOWN).expect(&rt, "refused");
-    are_equal(&rt, keeper.commit(), Err(KeeperError::Refused));
-    are_equal(
-        &rt,
-        keeper.note_heard(&HELLO, &GREETED),
-        Err(KeeperError::Refused),
-    );
-    are_equal(&rt, keeper.note_finished(ONE), Err(KeeperError::Refused));
+    hears(&rt, &mut keeper, &KNOWN);
+    refuses_to_commit(&rt, &mut keeper);
+    refuses_to_hear(&rt, &mut keeper);
+    refuses_to_run(&rt, &mut keeper, ONE);
     let _kept = keeper.into_inner();
     are_equal(&rt, text.as_slice(), b"");
 }
@@ -150,13 +156,17 @@ fn a_change_is_written_with_the_lines_that_wait(rt: HostRuntime) {
     let alloc = rt.alloc();
     let mut text = Vec::new(alloc);
     let mut keeper = journaled(&rt, alloc, &mut text, 2, 3);
-    keeper.note_heard(&HELLO, &GREETED).expect(&rt, "refused");
-    keeper.note_heard(&HELLO, &KNOWN).expect(&rt, "refused");
-    keeper.note_finished(ONE).expect(&rt, "refused");
-    keeper.note_heard(&HELLO, &GREETED).expect(&rt, "refused");
+    hears(&rt, &mut keeper, &GREETED);
+    hears(&rt, &mut keeper, &KNOWN);
+    runs(&rt, &mut keeper);
+    hears(&rt, &mut keeper, &GREETED);
     let _kept = keeper.into_inner();
-    let whole = format!(in alloc; "{FIRST}{HEARD}{HEARD}{RUN}{HEARD}").expect(&rt, "no memory");
-    are_equal(&rt, text.as_slice(), whole.as_bytes());
+    has(
+        &rt,
+        alloc,
+        text.as_slice(),
+        &[FIRST, HEARD, HEARD, RUN, HEARD],
+    );
 }
 
 #[test]
@@ -164,11 +174,7 @@ fn a_commit_whose_lines_are_not_written_is_refused(rt: HostRuntime) {
     let alloc = rt.alloc();
     let mut text = Vec::new(alloc);
     let mut keeper = journaled(&rt, alloc, &mut text, 9, 0);
-    keeper.note_heard(&HELLO, &KNOWN).expect(&rt, "refused");
-    are_equal(&rt, keeper.commit(), Err(KeeperError::Refused));
-    are_equal(
-        &rt,
-        keeper.note_heard(&HELLO, &GREETED),
-        Err(KeeperError::Refused),
-    );
+    hears(&rt, &mut keeper, &KNOWN);
+    refuses_to_commit(&rt, &mut keeper);
+    refuses_to_hear(&rt, &mut keeper);
 }
