@@ -160,5 +160,5 @@ fn a_node_refuses_a_store_that_was_emptied(rt: HostRuntime) {
     let (ended, _) = serve(&rt, alloc, &one, serving, EmptiedKeeper::new(alloc, 2));
     are_equal(&rt, ended.err(), Some(RuntimeError::OtherStates));
     let (ended, _) = serve(&rt, alloc, &one, serving, EmptiedKeeper::new(alloc, 3));
-    assert!(rt; ended.is_ok());
+    are_equal(&rt, ended.err(), None);
 }

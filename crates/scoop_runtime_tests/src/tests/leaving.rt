@@ -116,7 +116,7 @@ struct Links {
     eight: UdpLink,
 }
 
-// What both clients told, how often handlers were asked by the first, and what the cut of its block printed.
+// The ends of both clients, how often the first one asked handlers, and the output of the cut of its block.
 #[derive(Drop)]
 struct Pair {
     first: Told,

@@ -140,7 +140,7 @@ fn a_party_over_a_store_goes_on_with_it(rt: HostRuntime) {
     assert!(rt; !unwritten.advice().contains("--store"));
 }
 
-// Errors, each with what its advice is about, and words of it.
+// Errors, each with the subject of its advice, and words of it.
 const ADVICES: [(RuntimeError, About, &str); 7] = [
     (RuntimeError::NoHandler(TWO), About::Store, "Use --new only"),
     (
@@ -184,7 +184,7 @@ fn errors_are_told_with_what_to_do(rt: HostRuntime) {
     advises(&rt, line, About::Nothing, "scoop check shows the numbers");
 }
 
-// Errors of a client, each with what its advice is about, and words of it.
+// Errors of a client, each with the subject of its advice, and words of it.
 const CLIENT_ADVICES: [(RuntimeError, About, &str); 4] = [
     (
         RuntimeError::NotWelcomed(TWO),
