@@ -22,6 +22,7 @@ mod systems;
 mod text_lines;
 
 use scoop_driver::{Interrupt, NoPause};
+use scoop_free_ports::free_ports;
 use scoop_journal::Journal;
 use scoop_keeper::{Keeper, MemoryKeeper};
 use scoop_lines::LineSource;
@@ -37,7 +38,6 @@ use std::fmt::Debug;
 use std::net::Net;
 use std::process::Abort;
 use std::sync::Wait;
-use std::test::Fail;
 use std::thread::Threads;
 use std::time::Clock;
 use text_lines::TextLines;
@@ -55,27 +55,58 @@ struct Told {
 }
 
 /// The text with a port in place of each of these words.
-fn with_ports(alloc: Global, text: &str, words: &[&str], ports: &[u16]) -> Result<String, Fail> {
-    let mut text = String::from_str(alloc, text)?;
+fn with_ports(rt: &impl Abort, alloc: Global, text: &str, words: &[&str], ports: &[u16]) -> String {
+    let mut text = String::from_str(alloc, text).expect(rt, "out of memory");
     for (word, port) in words.iter().zip(ports.iter()) {
-        let port = format!(in alloc; "{port}")?;
-        text = text.replace(alloc, word, &port)?;
+        let port = format!(in alloc; "{port}").expect(rt, "out of memory");
+        text = text.replace(alloc, word, &port).expect(rt, "out of memory");
     }
-    Ok(text)
+    text
 }
 
-/// Opens the link of a node.
-fn node_link<R: Net>(
+/// The system of the text, with a port in place of each of these words.
+fn system_at(rt: &impl Abort, alloc: Global, text: &str, words: &[&str], ports: &[u16]) -> System {
+    let text = with_ports(rt, alloc, text, words, ports);
+    System::read(alloc, &text).expect(rt, "no system")
+}
+
+/// Free ports of this machine.
+fn ports<R: Net + Abort, const N: usize>(rt: &R) -> [u16; N] {
+    match free_ports::<R, N>(rt) {
+        Ok(ports) => ports,
+        Err(error) => panic!(rt; "no ports: {error}"),
+    }
+}
+
+/// Opens the link of a node, unless its address is in use.
+fn node_link<R: Net + Abort>(
     rt: &R,
     alloc: Global,
     system: &System,
     number: u32,
-) -> Option<Result<UdpLink, RuntimeError>> {
-    let place = system.node(number)?;
+) -> Result<UdpLink, RuntimeError> {
+    let place = system.node(number).expect(rt, "no node");
     match open_node_link(rt, alloc, system, place) {
-        Ok((link, _)) => Some(Ok(link)),
-        Err(error) => Some(Err(error)),
+        Ok((link, _)) => Ok(link),
+        Err(error) => Err(error),
     }
+}
+
+/// Opens the link of a client, unless its address is in use.
+fn client_link<R: Net + Abort>(
+    rt: &R,
+    alloc: Global,
+    system: &System,
+    number: u32,
+) -> Result<UdpLink, RuntimeError> {
+    let place = system.client(ClientId(number)).expect(rt, "no client");
+    open_client_link(rt, alloc, system, place)
+}
+
+/// The plan of a node.
+fn node_plan(rt: &impl Abort, alloc: Global, system: &System, number: u32) -> NodePlan {
+    let place = system.node(number).expect(rt, "no node");
+    NodePlan::of(alloc, system, place).expect(rt, "no plan")
 }
 
 /// Serves a node over this link, for `turns` or until it is asked to end. Returns its keeper or its error, and its output.
@@ -89,15 +120,14 @@ fn serve<K, L, R>(
     keeper: K,
     link: L,
     ending: &Ending,
-) -> Option<(Result<K, RuntimeError>, Vec<u8>)>
+) -> (Result<K, RuntimeError>, Vec<u8>)
 where
     K: Keeper<Global> + Send,
     L: Link,
-    R: Threads + Wait + Clock + Sync,
+    R: Threads + Wait + Clock + Sync + Abort,
 {
-    let place = system.node(number)?;
-    let plan = NodePlan::of(alloc, system, place).ok()?;
-    let serving = Serving::new(2, history, turns).ok()?;
+    let plan = node_plan(rt, alloc, system, number);
+    let serving = Serving::new(2, history, turns).expect(rt, "out of range");
     let mut output = Vec::new(alloc);
     let notes = Vec::new(alloc);
     let ended = node_run_until(
@@ -111,43 +141,70 @@ where
         &mut output,
         ending,
     );
-    Some((ended, output))
+    (ended, output)
 }
 
-/// Runs a client with these lines, over this link.
-fn ask<L: Link>(
+/// Serves node 1, with nothing stored, over its link until it is asked to end.
+fn serve_node<R: Threads + Wait + Clock + Sync + Abort>(
+    rt: &R,
     alloc: Global,
     system: &System,
+    history: usize,
+    link: UdpLink,
+    ending: &Ending,
+) {
+    let keeper = MemoryKeeper::new(alloc);
+    let _served = serve(
+        rt,
+        alloc,
+        system,
+        1,
+        history,
+        u64::MAX,
+        keeper,
+        link,
+        ending,
+    );
+}
+
+/// The plan of a client whose lines take at most so many turns each.
+fn client_plan<'s>(
+    rt: &impl Abort,
+    system: &'s System,
     number: u32,
+    turns: u64,
+    is_typed: bool,
+) -> ClientPlan<'s> {
+    let place = *system.client(ClientId(number)).expect(rt, "no client");
+    match ClientPlan::new(system, place, turns, is_typed) {
+        Ok(plan) => plan,
+        Err(error) => panic!(rt; "no plan: {error}"),
+    }
+}
+
+/// The same for a client that ends after the first refusal, and whose lines nobody types.
+fn strict_plan<'s>(rt: &impl Abort, system: &'s System, number: u32, turns: u64) -> ClientPlan<'s> {
+    let place = *system.client(ClientId(number)).expect(rt, "no client");
+    match ClientPlan::new_strict(system, place, turns, false) {
+        Ok(plan) => plan,
+        Err(error) => panic!(rt; "no plan: {error}"),
+    }
+}
+
+/// Runs the client of this plan with these lines, over this link.
+fn ask<L: Link>(
+    alloc: Global,
+    plan: &ClientPlan<'_>,
     keeper: &mut MemoryKeeper,
     link: L,
     lines: &[u8],
-    is_typed: bool,
-) -> Option<Told> {
+) -> Told {
     let lines = &mut TextLines::new(lines);
-    ask_lines(alloc, system, number, keeper, link, lines, is_typed)
-}
-
-/// Runs a client with the lines of this source, over this link.
-fn ask_lines<L: Link, I: LineSource + Interrupt>(
-    alloc: Global,
-    system: &System,
-    number: u32,
-    keeper: &mut MemoryKeeper,
-    link: L,
-    lines: &mut I,
-    is_typed: bool,
-) -> Option<Told> {
-    let place = *system.client(ClientId(number))?;
-    // a client of it, whose commands are these lines
-    let Ok(plan) = ClientPlan::new(system, place, TURNS, is_typed) else {
-        return None;
-    };
-    Some(ask_planned(alloc, &plan, keeper, link, lines))
+    ask_lines(alloc, plan, keeper, link, lines)
 }
 
 /// Runs the client of this plan with the lines of this source, over this link.
-fn ask_planned<L: Link, I: LineSource + Interrupt>(
+fn ask_lines<L: Link, I: LineSource + Interrupt>(
     alloc: Global,
     plan: &ClientPlan<'_>,
     keeper: &mut MemoryKeeper,
@@ -170,24 +227,35 @@ fn ask_planned<L: Link, I: LineSource + Interrupt>(
         &mut output,
         &mut notes,
     );
-    let stop = ended.err();
+    let (ended, progress) = match ended {
+        Ok(()) => (Ok(()), None),
+        Err(stop) => (Err(stop.error), Some(stop.progress)),
+    };
     Told {
-        ended: stop.map_or(Ok(()), |stop| Err(stop.error)),
-        progress: stop.map(|stop| stop.progress),
+        ended,
+        progress,
         output,
         notes,
     }
 }
 
-/// Opens the link of a client.
-fn client_link<R: Net>(
-    rt: &R,
-    alloc: Global,
-    system: &System,
-    number: u32,
-) -> Option<Result<UdpLink, RuntimeError>> {
-    let place = system.client(ClientId(number))?;
-    Some(open_client_link(rt, alloc, system, place))
+/// The client ended so, and printed this.
+fn has_ended(rt: &impl Abort, told: &Told, ended: Result<(), RuntimeError>, output: &str) {
+    are_equal(rt, told.ended, ended);
+    is_text(rt, &told.output, output);
+}
+
+/// The bytes are this text.
+fn is_text(rt: &impl Abort, bytes: &[u8], text: &str) {
+    are_equal(rt, text_of(rt, bytes), text);
+}
+
+/// The text of these bytes.
+fn text_of<'b>(rt: &impl Abort, bytes: &'b [u8]) -> &'b str {
+    match str::from_utf8(bytes) {
+        Ok(text) => text,
+        Err(_) => panic!(rt; "no text: {bytes:?}"),
+    }
 }
 
 /// Both values are equal. It is proved once, where an `assert_eq!` would be proved in each function.

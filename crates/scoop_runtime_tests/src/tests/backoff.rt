@@ -16,16 +16,19 @@ fn takes<R: Clock + Abort>(rt: &R, failed: u32, least: u64) {
     assert!(rt; elapsed < Duration::from_secs(1), "{failed}");
 }
 
+// Numbers of failed tries, each with the least pause after them.
+const PAUSES: [(u32, u64); 6] = [
+    (1, 500),
+    (2, 1_000),
+    (5, 8_000),
+    (8, 50_000),
+    (9, 50_000),
+    (4_000_000_000, 50_000),
+];
+
 #[test]
 fn a_pause_doubles_up_to_100_ms(rt: HostRuntime) {
-    for (failed, least) in [
-        (1, 500),
-        (2, 1_000),
-        (5, 8_000),
-        (8, 50_000),
-        (9, 50_000),
-        (4_000_000_000, 50_000),
-    ] {
+    for (failed, least) in PAUSES {
         takes(&rt, failed, least);
     }
 }

@@ -1,16 +1,13 @@
 //! Ends of clients whose link gives nothing, or only a welcome.
 
-use super::text_lines::TextLines;
-use crate::tests::are_equal;
-use scoop_driver::NoPause;
-use scoop_journal::Journal;
+use super::{Told, are_equal, ask, client_plan, has_ended, strict_plan};
 use scoop_keeper::MemoryKeeper;
 use scoop_link::TapeLink;
 use scoop_message::{Block, ClientId, HandlerId};
-use scoop_runtime::{ClientPlan, ClientStop, Progress, RuntimeError, Unended, client_run};
+use scoop_runtime::{ClientPlan, Progress, RuntimeError, Unended};
 use scoop_system::System;
 use std::alloc::Global;
-use std::test::Fail;
+use std::process::Abort;
 
 const CELL: &str = "\
 [[node]]
@@ -42,62 +39,45 @@ const BLOCK: Block = Block {
 // The turns that a line takes at most.
 const TURNS: u64 = 3;
 
-// Runs the client over a link that gives these datagrams. Returns its end and its output.
-fn ask_planned(
+// A link that gives these datagrams.
+fn link_of(rt: &impl Abort, alloc: Global, datagrams: &[[u8; 26]]) -> TapeLink {
+    let mut link = TapeLink::new(alloc, 64).expect(rt, "out of memory");
+    for datagram in datagrams {
+        link.feed(datagram).expect(rt, "out of memory");
+    }
+    link
+}
+
+// Runs a client over a link that gives these datagrams.
+fn told(
+    rt: &impl Abort,
     alloc: Global,
     plan: &ClientPlan<'_>,
     datagrams: &[[u8; 26]],
     lines: &[u8],
-) -> Option<(Result<(), ClientStop>, Vec<u8>)> {
-    let mut link = TapeLink::new(alloc, 64).ok()?;
-    for datagram in datagrams {
-        link.feed(datagram).ok()?;
-    }
+) -> Told {
+    let link = link_of(rt, alloc, datagrams);
     let mut keeper = MemoryKeeper::new(alloc);
-    let mut output = Vec::new(alloc);
-    let mut notes = Vec::new(alloc);
-    let ended = client_run(
-        alloc,
-        plan,
-        &mut keeper,
-        link,
-        None::<Journal<Vec<u8>>>,
-        &mut TextLines::new(lines),
-        Vec::new(alloc),
-        Vec::new(alloc),
-        &mut NoPause,
-        &mut output,
-        &mut notes,
-    );
-    Some((ended, output))
+    ask(alloc, plan, &mut keeper, link, lines)
 }
 
-// The plan of client 7.
-fn plan_in(system: &System) -> Option<ClientPlan<'_>> {
-    let place = *system.client(ClientId(7))?;
-    match ClientPlan::new(system, place, TURNS, false) {
-        Ok(plan) => Some(plan),
-        Err(_) => None,
-    }
-}
-
-// The same for one that ends after the first refusal.
-fn strict_plan_in(system: &System) -> Option<ClientPlan<'_>> {
-    let place = *system.client(ClientId(7))?;
-    match ClientPlan::new_strict(system, place, TURNS, false) {
-        Ok(plan) => Some(plan),
-        Err(_) => None,
-    }
+// Runs client 7. It ends with this error and progress, and prints nothing.
+fn prints_nothing(
+    rt: &impl Abort,
+    alloc: Global,
+    datagrams: &[[u8; 26]],
+    error: RuntimeError,
+    progress: Progress,
+) {
+    let system = System::read(alloc, CELL).expect(rt, "no system");
+    let plan = client_plan(rt, &system, 7, TURNS, false);
+    let told = told(rt, alloc, &plan, datagrams, b"reserve 1\n");
+    has_ended(rt, &told, Err(error), "");
+    are_equal(rt, told.progress, Some(progress));
 }
 
 #[test]
-fn a_client_that_nobody_welcomes_names_the_handler(rt: HostRuntime) -> Result<(), Fail> {
-    let alloc = rt.alloc();
-    let system = System::read(alloc, CELL).expect(&rt, "failed");
-    let Some(plan) = plan_in(&system) else {
-        return Err(Fail::from("no plan"));
-    };
-    let (ended, output) = ask_planned(alloc, &plan, &[], b"reserve 1\n").expect(&rt, "no client");
+fn a_client_that_nobody_welcomes_names_the_handler(rt: HostRuntime) {
     let progress = Progress {
         is_ready: false,
         answered: None,
@@ -105,22 +85,11 @@ fn a_client_that_nobody_welcomes_names_the_handler(rt: HostRuntime) -> Result<()
         unended: Unended::Nothing,
     };
     let error = RuntimeError::NotWelcomed(HandlerId(1));
-    are_equal(&rt, ended, Err(ClientStop { error, progress }));
-    assert!(rt; output.is_empty());
-    Ok(())
+    prints_nothing(&rt, rt.alloc(), &[], error, progress);
 }
 
 #[test]
-fn a_client_that_nobody_answers_names_the_handler(rt: HostRuntime) -> Result<(), Fail> {
-    let alloc = rt.alloc();
-    let system = System::read(alloc, CELL).expect(&rt, "failed");
-    let Some(plan) = plan_in(&system) else {
-        return Err(Fail::from("no plan"));
-    };
-    let (ended, output) = ask_planned(alloc, &plan, &[WELCOME], b"reserve 1\n").expect(
-        &rt,
-        "no client",
-    );
+fn a_client_that_nobody_answers_names_the_handler(rt: HostRuntime) {
     let progress = Progress {
         is_ready: true,
         answered: None,
@@ -128,36 +97,45 @@ fn a_client_that_nobody_answers_names_the_handler(rt: HostRuntime) -> Result<(),
         unended: Unended::Held(BLOCK),
     };
     let error = RuntimeError::NotAnswered(HandlerId(1));
-    are_equal(&rt, ended, Err(ClientStop { error, progress }));
-    assert!(rt; output.is_empty());
-    Ok(())
+    prints_nothing(&rt, rt.alloc(), &[WELCOME], error, progress);
 }
 
-#[test]
-fn a_strict_client_ends_after_its_first_refusal(rt: HostRuntime) -> Result<(), Fail> {
-    let alloc = rt.alloc();
-    let system = System::read(alloc, CELL).expect(&rt, "failed");
-    let Some(plan) = plan_in(&system) else {
-        return Err(Fail::from("no plan"));
-    };
-    let lines = b"# two ends\nend\nend\n";
-    let (ended, output) = ask_planned(alloc, &plan, &[WELCOME], lines).expect(&rt, "no client");
-    let mut progress = Progress {
+const TWO_ENDS: &[u8] = b"# two ends\nend\nend\n";
+
+// Runs a client whose two ends are refused. It ends with this error after the reply to this line, and prints this.
+fn is_refused(
+    rt: &impl Abort,
+    alloc: Global,
+    plan: &ClientPlan<'_>,
+    error: RuntimeError,
+    line: u32,
+    output: &str,
+) {
+    let told = told(rt, alloc, plan, &[WELCOME], TWO_ENDS);
+    has_ended(rt, &told, Err(error), output);
+    let progress = Progress {
         is_ready: true,
-        answered: Some(3),
+        answered: Some(line),
         has_begun: false,
         unended: Unended::Nothing,
     };
-    let error = RuntimeError::SomeRefused(2, 2);
-    are_equal(&rt, ended, Err(ClientStop { error, progress }));
-    assert!(rt; output.as_slice() == "refused NoBlock\nrefused NoBlock\n".as_bytes());
-    let Some(strict) = strict_plan_in(&system) else {
-        return Err(Fail::from("no plan"));
-    };
-    let (ended, output) = ask_planned(alloc, &strict, &[WELCOME], lines).expect(&rt, "no client");
-    progress.answered = Some(2);
-    let error = RuntimeError::Refused(2);
-    are_equal(&rt, ended, Err(ClientStop { error, progress }));
-    assert!(rt; output.as_slice() == "refused NoBlock\n".as_bytes());
-    Ok(())
+    are_equal(rt, told.progress, Some(progress));
+}
+
+#[test]
+fn a_strict_client_ends_after_its_first_refusal(rt: HostRuntime) {
+    let alloc = rt.alloc();
+    let system = System::read(alloc, CELL).expect(&rt, "no system");
+    let plan = client_plan(&rt, &system, 7, TURNS, false);
+    let both = "refused NoBlock\nrefused NoBlock\n";
+    is_refused(&rt, alloc, &plan, RuntimeError::SomeRefused(2, 2), 3, both);
+    let strict = strict_plan(&rt, &system, 7, TURNS);
+    is_refused(
+        &rt,
+        alloc,
+        &strict,
+        RuntimeError::Refused(2),
+        2,
+        "refused NoBlock\n",
+    );
 }

@@ -2,13 +2,13 @@
 
 ghost use Rattle.std.specs.Prelude.{⊤};
 
-use super::pausing::serve_node;
 use super::text_lines::TextLines;
-use super::{TURNS, Told, ask_lines, client_link, node_link, with_ports};
-use crate::tests::are_equal;
+use super::{
+    TURNS, Told, are_equal, ask_lines, client_link, client_plan, has_ended, node_link, ports,
+    serve_node, system_at,
+};
 use scoop_client::{Client, Phase};
 use scoop_driver::{Driver, DriverError, Interrupt};
-use scoop_free_ports::free_ports;
 use scoop_keeper::MemoryKeeper;
 use scoop_lines::{LineBytes, LineSource, SourceError};
 use scoop_link::UdpLink;
@@ -19,7 +19,6 @@ use std::alloc::Global;
 use std::net::Net;
 use std::process::Abort;
 use std::sync::Wait;
-use std::test::Fail;
 use std::thread;
 use std::thread::Threads;
 use std::time::Clock;
@@ -78,82 +77,78 @@ fn holds(driver: &mut Driver<UdpLink>) -> bool {
     false
 }
 
-// Client 7 holds the handler while client 8 waits and gives up, and then ends its block.
-fn gives_up(
-    alloc: Global,
-    system: &System,
-    driver: &mut Driver<UdpLink>,
-    link: UdpLink,
-) -> (Option<Told>, Result<(), DriverError>) {
-    if !holds(driver) {
-        return (None, Err(DriverError::TurnsOver));
-    }
+// Client 8 waits for the handler, and gives up.
+fn waits(rt: &impl Abort, alloc: Global, system: &System, link: UdpLink) -> Told {
+    let plan = client_plan(rt, system, 8, TURNS, false);
     let mut keeper = MemoryKeeper::new(alloc);
     let lines = &mut GivingLines {
         lines: TextLines::new(b"reserve 1\n"),
     };
-    let told = ask_lines(alloc, system, 8, &mut keeper, link, lines, false);
+    ask_lines(alloc, &plan, &mut keeper, link, lines)
+}
+
+// Client 7 holds the handler while client 8 waits and gives up, and then ends its block.
+fn gives_up(
+    rt: &impl Abort,
+    alloc: Global,
+    system: &System,
+    driver: &mut Driver<UdpLink>,
+    link: UdpLink,
+) -> (Told, Result<(), DriverError>) {
+    assert!(rt; holds(driver), "not held");
+    let told = waits(rt, alloc, system, link);
     (told, driver.end())
 }
 
 // The node in a thread, and both clients beside it.
-fn run_beside<R: Threads + Wait + Clock + Sync>(
+fn run_beside<R: Threads + Wait + Clock + Sync + Abort>(
     rt: &R,
     alloc: Global,
     system: &System,
     node: UdpLink,
     driver: &mut Driver<UdpLink>,
     link: UdpLink,
-) -> (Option<Told>, Result<(), DriverError>) {
+) -> (Told, Result<(), DriverError>) {
     let driver = &mut *driver;
     let ending = Ending::new();
     let ended = &ending;
     thread::scope(thread::scope_env(), rt, move |scope| {
-        let spawned = scope.spawn(move || serve_node(rt, alloc, system, node, ended));
-        if spawned.is_err() {
-            return (None, Err(DriverError::LinkFault));
-        }
-        let told = gives_up(alloc, system, driver, link);
+        let spawned = scope.spawn(move || serve_node(rt, alloc, system, 1_000, node, ended));
+        assert!(rt; spawned.is_ok(), "no thread");
+        let told = gives_up(rt, alloc, system, driver, link);
         ended.ask();
         told
     })
 }
 
-// Runs all of them. Borrows the driver, so that no early return has to drop it.
+// Runs all of them.
 fn plays<R: Threads + Wait + Clock + Net + Sync + Abort>(
     rt: &R,
     alloc: Global,
     system: &System,
     driver: &mut Driver<UdpLink>,
 ) {
-    let link = client_link(rt, alloc, system, 8)
-        .expect(rt, "no client")
-        .expect(rt, "failed");
-    let node = node_link(rt, alloc, system, 1)
-        .expect(rt, "no node")
-        .expect(rt, "failed");
+    let link = client_link(rt, alloc, system, 8).expect(rt, "no link");
+    let node = node_link(rt, alloc, system, 1).expect(rt, "no link");
     let (told, ended) = run_beside(rt, alloc, system, node, driver, link);
-    let told = told.expect(rt, "no client");
-    assert!(rt; told.output.as_slice() == "given up\n".as_bytes());
-    are_equal(rt, told.ended, Ok(()));
+    has_ended(rt, &told, Ok(()), "given up\n");
     are_equal(rt, ended, Ok(()));
 }
 
-#[test]
-fn a_reservation_is_given_up_while_another_client_holds_the_handler(
-    rt: HostRuntime,
-) -> Result<(), Fail> {
-    let alloc = rt.alloc();
-    let ports = free_ports::<_, 3>(&rt).expect(&rt, "failed");
-    let text = with_ports(alloc, CELL, &["NODE", "SEVEN", "EIGHT"], &ports)?;
-    let system = System::read(alloc, &text).ok().expect(&rt, "no system");
-    let link = client_link(&rt, alloc, &system, 7)
-        .expect(&rt, "no link")
-        .expect(&rt, "failed");
+// The driver of client 7, over its link.
+fn seven<R: Net + Abort>(rt: &R, alloc: Global, system: &System) -> Driver<UdpLink> {
+    let link = client_link(rt, alloc, system, 7).expect(rt, "no link");
     let client = Client::begin(alloc, ClientId(7), 1, &[ONE])
         .ok()
-        .expect(&rt, "no client");
-    let mut driver = Driver::new(client, link, TURNS);
+        .expect(rt, "no client");
+    Driver::new(client, link, TURNS)
+}
+
+#[test]
+fn a_reservation_is_given_up_while_another_client_holds_the_handler(rt: HostRuntime) {
+    let alloc = rt.alloc();
+    let ports = ports::<_, 3>(&rt);
+    let system = system_at(&rt, alloc, CELL, &["NODE", "SEVEN", "EIGHT"], &ports);
+    let mut driver = seven(&rt, alloc, &system);
     plays(&rt, alloc, &system, &mut driver);
-    Ok(())
 }

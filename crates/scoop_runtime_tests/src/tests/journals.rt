@@ -1,7 +1,7 @@
 //! The journal of a client: when it is written, and a writer that fails.
 
 use super::text_lines::TextLines;
-use crate::tests::{are_equal, are_equal_at};
+use super::{are_equal, are_equal_at, client_plan, is_text, text_of};
 use scoop_driver::NoPause;
 use scoop_errors::PartyError;
 use scoop_frame::{Version, encode};
@@ -17,7 +17,6 @@ use std::io;
 use std::io::{Error, ErrorKind, Write};
 use std::process::Abort;
 use std::sync::atomic::{AtomicU32, AtomicUsize, Ordering};
-use std::test::Fail;
 
 const ACCOUNTS: &str = "\
 [[node]]
@@ -81,6 +80,9 @@ const TO_ASKS: [Message; 5] = [
     Message::Logged(ONE, BLOCK, 2),
 ];
 
+// The turns that a line takes at most.
+const TURNS: u64 = 20;
+
 const UNWRITTEN: RuntimeError = RuntimeError::Ended(PartyError::Write);
 
 // A writer that counts its writes, and the lines that begin in one of two ways. It fails after a number of writes.
@@ -130,54 +132,42 @@ impl Write for &Written {
     }
 }
 
-// Feeds the frames of these messages.
-fn feed(link: &mut TapeLink, messages: &[Message]) -> Option<()> {
-    for message in messages {
-        if !message.fits() || !Version::One.carries(message) {
-            return None;
-        }
-        let mut buffer = [0; BUFFER_LEN];
-        let len = encode(Version::One, message, &mut buffer);
-        link.feed(&buffer[..len]).ok()?;
+// Feeds the frame of this message.
+fn feed(rt: &impl Abort, link: &mut TapeLink, message: &Message) {
+    if !message.fits() || !Version::One.carries(message) {
+        panic!(rt; "{message:?} has no frame");
     }
-    Some(())
+    let mut buffer = [0; BUFFER_LEN];
+    let len = encode(Version::One, message, &mut buffer);
+    link.feed(&buffer[..len]).expect(rt, "out of memory");
 }
 
 // A link that gives the welcomes, and then these replies.
-fn link_of(alloc: Global, replies: &[Message]) -> Option<TapeLink> {
-    let mut link = TapeLink::new(alloc, 64).ok()?;
-    feed(&mut link, &WELCOMES)?;
-    feed(&mut link, replies)?;
-    Some(link)
-}
-
-// The plan of client 7.
-fn plan_in(system: &System) -> Option<ClientPlan<'_>> {
-    let place = *system.client(SEVEN)?;
-    match ClientPlan::new(system, place, 20, false) {
-        Ok(plan) => Some(plan),
-        Err(_) => None,
+fn link_of(rt: &impl Abort, alloc: Global, replies: &[Message]) -> TapeLink {
+    let mut link = TapeLink::new(alloc, 64).expect(rt, "out of memory");
+    for message in &WELCOMES {
+        feed(rt, &mut link, message);
     }
+    for message in replies {
+        feed(rt, &mut link, message);
+    }
+    link
 }
 
-// Runs client 7 over a link that gives these replies. Returns its end and its output.
-fn ask(
+// Runs a client over this link. Returns its end and its output.
+fn run(
     alloc: Global,
-    system: &System,
+    plan: &ClientPlan<'_>,
+    link: TapeLink,
     lines: &[u8],
-    replies: &[Message],
     written: &Written,
-) -> Option<(Result<(), ClientStop>, Vec<u8>)> {
-    let Some(plan) = plan_in(system) else {
-        return None;
-    };
-    let link = link_of(alloc, replies)?;
+) -> (Result<(), ClientStop>, Vec<u8>) {
     let mut keeper = MemoryKeeper::new(alloc);
     let mut output = Vec::new(alloc);
     let mut notes = Vec::new(alloc);
     let ended = client_run(
         alloc,
-        &plan,
+        plan,
         &mut keeper,
         link,
         Some(Journal::new(alloc, written)),
@@ -188,7 +178,29 @@ fn ask(
         &mut output,
         &mut notes,
     );
-    Some((ended, output))
+    (ended, output)
+}
+
+// Runs client 7 over a link that gives these replies. It ends with this error, if with any, and prints this.
+fn asks(
+    rt: &impl Abort,
+    alloc: Global,
+    lines: &[u8],
+    replies: &[Message],
+    written: &Written,
+    error: Option<RuntimeError>,
+    prints: &str,
+) {
+    let system = System::read(alloc, ACCOUNTS).expect(rt, "no system");
+    let plan = client_plan(rt, &system, 7, TURNS, false);
+    let link = link_of(rt, alloc, replies);
+    let (ended, output) = run(alloc, &plan, link, lines, written);
+    let told = match ended {
+        Ok(()) => None,
+        Err(stop) => Some(stop.error),
+    };
+    are_equal_at(rt, told, error, written.limit);
+    are_equal_at(rt, text_of(rt, &output), prints, written.limit);
 }
 
 // The number of lines of the text that begin so.
@@ -207,13 +219,9 @@ fn lines_of(text: &[u8], start: &[u8]) -> usize {
 // turns.
 #[test]
 fn a_joint_block_takes_six_writes(rt: HostRuntime) {
-    let alloc = rt.alloc();
-    let system = System::read(alloc, ACCOUNTS).expect(&rt, "failed");
     let written = Written::up_to(100, [b"do ", b"turn 53"]);
-    let (ended, output) = ask(alloc, &system, JOINT, &TO_JOINT, &written).expect(&rt, "no client");
-    are_equal(&rt, ended, Ok(()));
     let replies = "reserved 7.1.1\nlogged 1 1\nlogged 2 1\nended\n";
-    assert!(rt; output.as_slice() == replies.as_bytes());
+    asks(&rt, rt.alloc(), JOINT, &TO_JOINT, &written, None, replies);
     are_equal(&rt, written.lines(), [4, 10]);
     are_equal(&rt, written.count(), 2 + 6);
 }
@@ -227,16 +235,8 @@ fn fails_after(
     limit: u32,
     prints: &str,
 ) {
-    let system = System::read(alloc, ACCOUNTS).expect(rt, "failed");
     let written = Written::up_to(limit, [b"do ", b"turn 53"]);
-    let (ended, output) = ask(alloc, &system, lines, replies, &written).expect(rt, "no client");
-    are_equal_at(
-        rt,
-        ended.err().map(|stop| stop.error),
-        Some(UNWRITTEN),
-        limit,
-    );
-    assert!(rt; output.as_slice() == prints.as_bytes(), "{limit}");
+    asks(rt, alloc, lines, replies, &written, Some(UNWRITTEN), prints);
     are_equal(rt, written.count(), limit);
 }
 
@@ -246,48 +246,48 @@ fn a_client_answers_nothing_that_its_journal_lacks(rt: HostRuntime) {
     for limit in 0..6 {
         fails_after(&rt, alloc, JOINT, &TO_JOINT, limit, "");
     }
-    let logged = "reserved 7.1.1\nlogged 1 1\nlogged 2 1\n";
-    fails_after(&rt, alloc, JOINT, &TO_JOINT, 6, logged);
-    fails_after(&rt, alloc, JOINT, &TO_JOINT, 7, logged);
-    let reserved = "reserved 7.1.1\n";
-    fails_after(&rt, alloc, ASKS, &TO_ASKS, 5, reserved);
-    fails_after(&rt, alloc, ASKS, &TO_ASKS, 6, reserved);
+    for limit in 6..8 {
+        let logged = "reserved 7.1.1\nlogged 1 1\nlogged 2 1\n";
+        fails_after(&rt, alloc, JOINT, &TO_JOINT, limit, logged);
+    }
+    for limit in 5..7 {
+        fails_after(&rt, alloc, ASKS, &TO_ASKS, limit, "reserved 7.1.1\n");
+    }
 }
 
 // The call's line waits for the next new message. The client is let go before that, and cuts its block then.
 #[test]
 fn lines_that_wait_are_written_at_the_end(rt: HostRuntime) {
-    let alloc = rt.alloc();
-    let system = System::read(alloc, ACCOUNTS).expect(&rt, "failed");
     let lines = b"reserve 1 2\ncall 1 deposit 5\n";
     let written = Written::up_to(100, [b"do call 1 1 5", b"scoop journal 1 client 7 2 4"]);
+    let (inside, prints) = (RuntimeError::InsideBlock, "reserved 7.1.1\nlogged 1 1\n");
     let replies = &TO_JOINT[..6];
-    let (ended, output) = ask(alloc, &system, lines, replies, &written).expect(&rt, "no client");
-    are_equal(
+    asks(
         &rt,
-        ended.err().map(|stop| stop.error),
-        Some(RuntimeError::InsideBlock),
+        rt.alloc(),
+        lines,
+        replies,
+        &written,
+        Some(inside),
+        prints,
     );
-    assert!(rt; output.as_slice() == b"reserved 7.1.1\nlogged 1 1\n".as_slice());
     are_equal(&rt, written.lines(), [1, 1]);
 }
 
-// Greets with client 7 to cut its blocks. Returns its end and its output.
+// Greets with a client to cut its blocks. No handler is told as one that may hold a block. Returns its end and its output.
 fn cut(
+    rt: &impl Abort,
     alloc: Global,
-    system: &System,
+    plan: &ClientPlan<'_>,
+    link: TapeLink,
     written: &Written,
-) -> Option<(Result<(), RuntimeError>, Vec<u8>)> {
-    let Some(plan) = plan_in(system) else {
-        return None;
-    };
-    let link = link_of(alloc, &[])?;
+) -> (Result<(), RuntimeError>, Vec<u8>) {
     let mut keeper = MemoryKeeper::new(alloc);
     let mut output = Vec::new(alloc);
     let mut notes = Vec::new(alloc);
     let ended = client_cut(
         alloc,
-        &plan,
+        plan,
         &mut keeper,
         link,
         Some(Journal::new(alloc, written)),
@@ -296,24 +296,29 @@ fn cut(
         &mut output,
         &mut notes,
     );
-    // no handler is told as one that may hold a block
-    if !notes.is_empty() {
-        return None;
-    }
-    Some((ended, output))
+    is_text(rt, &notes, "");
+    (ended, output)
+}
+
+// Client 7 cuts its blocks, and its journal takes this number of writes. It ends so, and prints this.
+fn cuts(
+    rt: &impl Abort,
+    alloc: Global,
+    limit: u32,
+    wanted: Result<(), RuntimeError>,
+    prints: &str,
+) {
+    let system = System::read(alloc, ACCOUNTS).expect(rt, "no system");
+    let plan = client_plan(rt, &system, 7, TURNS, false);
+    let written = Written::up_to(limit, [b"do ", b"turn 53"]);
+    let link = link_of(rt, alloc, &[]);
+    let (ended, output) = cut(rt, alloc, &plan, link, &written);
+    are_equal(rt, ended, wanted);
+    is_text(rt, &output, prints);
 }
 
 #[test]
-fn a_cut_is_told_once_the_journal_has_it(rt: HostRuntime) -> Result<(), Fail> {
-    let alloc = rt.alloc();
-    let system = System::read(alloc, ACCOUNTS).expect(&rt, "failed");
-    let written = Written::up_to(1, [b"do ", b"turn 53"]);
-    let (ended, output) = cut(alloc, &system, &written).expect(&rt, "no client");
-    are_equal(&rt, ended, Err(UNWRITTEN));
-    assert!(rt; output.is_empty());
-    let written = Written::up_to(2, [b"do ", b"turn 53"]);
-    let (ended, output) = cut(alloc, &system, &written).expect(&rt, "no client");
-    are_equal(&rt, ended, Ok(()));
-    assert!(rt; output.as_slice() == b"cut client 7 at handlers 1 2\n".as_slice());
-    Ok(())
+fn a_cut_is_told_once_the_journal_has_it(rt: HostRuntime) {
+    cuts(&rt, rt.alloc(), 1, Err(UNWRITTEN), "");
+    cuts(&rt, rt.alloc(), 2, Ok(()), "cut client 7 at handlers 1 2\n");
 }

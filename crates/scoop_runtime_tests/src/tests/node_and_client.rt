@@ -1,9 +1,10 @@
 //! A node and a client beside it.
 
-use super::{Told, ask, client_link, node_link, serve, with_ports};
-use crate::tests::are_equal;
+use super::{
+    TURNS, Told, are_equal, ask, client_link, client_plan, has_ended, is_text, node_link, ports,
+    serve, system_at,
+};
 use scoop_errors::PartyError;
-use scoop_free_ports::free_ports;
 use scoop_keeper::MemoryKeeper;
 use scoop_link::UdpLink;
 use scoop_message::{Block, ClientId, HandlerId};
@@ -14,7 +15,6 @@ use std::alloc::Global;
 use std::net::Net;
 use std::process::Abort;
 use std::sync::Wait;
-use std::test::Fail;
 use std::thread;
 use std::thread::Threads;
 use std::time::Clock;
@@ -90,42 +90,35 @@ const BLOCK: Block = Block {
     num: 1,
 };
 
-// A node in a thread of its own, and its output.
+// A node in a thread of its own: its key if its link is sealed, the limit of its history, and its output.
 #[derive(Drop)]
 struct Beside {
-    keeper: Option<MemoryKeeper>,
-    link: Option<UdpLink>,
-    output: Vec<u8>,
     key: Option<Key>,
+    history: usize,
+    output: Vec<u8>,
 }
 
 impl Beside {
-    // A node with nothing stored.
-    fn new(alloc: Global, key: Option<Key>) -> Beside {
+    // A node whose link isn't sealed.
+    fn new(alloc: Global) -> Beside {
         Beside {
-            keeper: Some(MemoryKeeper::new(alloc)),
-            link: None,
+            key: None,
+            history: 1_000,
             output: Vec::new(alloc),
-            key,
         }
     }
 
-    // Serves node 1 over its link until it is asked to end.
-    fn serve<R: Threads + Wait + Clock + Sync>(
+    // Serves node 1, with nothing stored, over this link until it is asked to end.
+    fn serve<R: Threads + Wait + Clock + Sync + Abort>(
         &mut self,
         rt: &R,
         alloc: Global,
         system: &System,
-        history: usize,
+        link: UdpLink,
         ending: &Ending,
     ) {
-        let Some(link) = self.link.take() else {
-            return;
-        };
-        let Some(keeper) = self.keeper.take() else {
-            return;
-        };
-        let served = match self.key {
+        let (keeper, history) = (MemoryKeeper::new(alloc), self.history);
+        let (_, output) = match self.key {
             Some(key) => {
                 let link = SealedLink::new(link, key);
                 serve(
@@ -152,135 +145,119 @@ impl Beside {
                 ending,
             ),
         };
-        if let Some((ended, output)) = served {
-            self.keeper = ended.ok();
-            self.output = output;
-        }
+        self.output = output;
     }
 }
 
 // Runs the client over its link.
 fn ask_over(
+    rt: &impl Abort,
     alloc: Global,
     system: &System,
     key: Option<Key>,
     link: UdpLink,
     lines: &[u8],
     is_typed: bool,
-) -> Option<Told> {
+) -> Told {
+    let plan = client_plan(rt, system, 7, TURNS, is_typed);
     let mut keeper = MemoryKeeper::new(alloc);
     match key {
-        Some(key) => {
-            let link = SealedLink::new(link, key);
-            ask(alloc, system, 7, &mut keeper, link, lines, is_typed)
-        }
-        None => ask(alloc, system, 7, &mut keeper, link, lines, is_typed),
+        Some(key) => ask(alloc, &plan, &mut keeper, SealedLink::new(link, key), lines),
+        None => ask(alloc, &plan, &mut keeper, link, lines),
     }
 }
 
-// The node in a thread, and the client beside it, over this link. No thread opens a link.
-fn run_both<R: Threads + Wait + Clock + Sync>(
+// The node in a thread, and the client beside it, over these links. No thread opens a link.
+fn run_both<R: Threads + Wait + Clock + Sync + Abort>(
     rt: &R,
     alloc: Global,
     system: &System,
     beside: &mut Beside,
+    node: UdpLink,
     link: UdpLink,
-    history: usize,
     lines: &[u8],
     is_typed: bool,
-) -> Option<Told> {
+) -> Told {
     let key = beside.key;
     let ending = Ending::new();
     let ended = &ending;
     thread::scope(thread::scope_env(), rt, move |scope| {
-        let spawned = scope.spawn(move || beside.serve(rt, alloc, system, history, ended));
-        if spawned.is_err() {
-            return None;
-        }
-        let told = ask_over(alloc, system, key, link, lines, is_typed);
+        let spawned = scope.spawn(move || beside.serve(rt, alloc, system, node, ended));
+        assert!(rt; spawned.is_ok(), "no thread");
+        let told = ask_over(rt, alloc, system, key, link, lines, is_typed);
         ended.ask();
         told
     })
 }
 
-// Runs the client beside the node. Returns its end, its output and its notes.
-fn run_beside<R: Threads + Wait + Clock + Net + Sync>(
+// Runs the client beside the node.
+fn run_beside<R: Threads + Wait + Clock + Net + Sync + Abort>(
     rt: &R,
     alloc: Global,
     system: &System,
     beside: &mut Beside,
-    history: usize,
     lines: &[u8],
     is_typed: bool,
-) -> Option<Told> {
-    let link = client_link(rt, alloc, system, 7)?.ok()?;
-    beside.link = node_link(rt, alloc, system, 1)?.ok();
-    run_both(rt, alloc, system, beside, link, history, lines, is_typed)
-}
-
-// Whether these are the bytes of the text.
-fn is(bytes: &[u8], text: &str) -> bool {
-    bytes == text.as_bytes()
+) -> Told {
+    let link = client_link(rt, alloc, system, 7).expect(rt, "no link");
+    let node = node_link(rt, alloc, system, 1).expect(rt, "no link");
+    run_both(rt, alloc, system, beside, node, link, lines, is_typed)
 }
 
 // The system of the text that has these accounts, at free ports.
-fn accounts<R: Net>(rt: &R, alloc: Global) -> Result<System, Fail> {
-    let text = with_ports(
-        alloc,
-        ACCOUNTS,
-        &["NODE", "CLIENT"],
-        &free_ports::<_, 2>(rt)?,
-    )?;
-    Ok(System::read(alloc, &text)?)
+fn accounts<R: Net + Abort>(rt: &R, alloc: Global) -> System {
+    system_at(rt, alloc, ACCOUNTS, &["NODE", "CLIENT"], &ports::<_, 2>(rt))
 }
 
-// The line of the node that is ready.
-fn ready_line(alloc: Global, system: &System) -> Result<String, Fail> {
-    let place = system.node(1).ok_or("no node")?;
-    let port = place.address.port();
-    Ok(format!(in alloc; "node 1 at 127.0.0.1:{port}: handlers 1 2\n")?)
+// The line of the node that is ready, and then these.
+fn node_text(rt: &impl Abort, alloc: Global, system: &System, rest: &str) -> String {
+    let port = system.node(1).expect(rt, "no node").address.port();
+    format!(in alloc; "node 1 at 127.0.0.1:{port}: handlers 1 2\n{rest}").expect(
+        rt,
+        "out of memory",
+    )
 }
 
-// The client gets the right replies beside this node. Borrows the node, so that no early return has to drop it.
+// The client gets the right replies beside this node.
 fn answers<R: Threads + Wait + Clock + Net + Sync + Abort>(
     rt: &R,
     alloc: Global,
     system: &System,
     node: &mut Beside,
-    history: usize,
-) -> Result<(), Fail> {
-    let told = run_beside(rt, alloc, system, node, history, LINES, false).expect(rt, "no client");
-    assert!(rt; is(&told.output, REPLIES));
-    are_equal(rt, told.ended, Err(RuntimeError::SomeRefused(7, 7)));
+) {
+    let told = run_beside(rt, alloc, system, node, LINES, false);
+    has_ended(rt, &told, Err(RuntimeError::SomeRefused(7, 7)), REPLIES);
     are_equal(rt, told.progress, Some(answered_to(19, Unended::Nothing)));
-    Ok(())
 }
 
 #[test]
-fn a_client_gets_a_reply_to_each_line(rt: HostRuntime) -> Result<(), Fail> {
+fn a_client_gets_a_reply_to_each_line(rt: HostRuntime) {
     let alloc = rt.alloc();
-    let system = accounts(&rt, alloc)?;
-    let mut node = Beside::new(alloc, None);
-    answers(&rt, alloc, &system, &mut node, 1_000)?;
-    let ready = ready_line(alloc, &system)?;
-    let wrote = format!(in alloc; "{ready}node 1 closed\n").expect(&rt, "failed");
-    assert!(rt; is(&node.output, &wrote));
-    Ok(())
+    let system = accounts(&rt, alloc);
+    let mut node = Beside::new(alloc);
+    answers(&rt, alloc, &system, &mut node);
+    let wrote = node_text(&rt, alloc, &system, "node 1 closed\n");
+    is_text(&rt, &node.output, &wrote);
+}
+
+// The output begins so, and ends with a reopening and the end.
+fn goes_on(rt: &impl Abort, output: &[u8], begins: &str) {
+    assert!(rt; output.starts_with(begins.as_bytes()));
+    assert!(rt; output.ends_with(b"node 1 reopened\nnode 1 closed\n"));
 }
 
 #[test]
-fn a_sealed_node_goes_on_after_its_history_is_full(rt: HostRuntime) -> Result<(), Fail> {
+fn a_sealed_node_goes_on_after_its_history_is_full(rt: HostRuntime) {
     let alloc = rt.alloc();
-    let system = accounts(&rt, alloc)?;
-    let mut node = Beside::new(alloc, Some(Key::new([7; 32])));
-    answers(&rt, alloc, &system, &mut node, 6)?;
-    let ready = ready_line(alloc, &system)?;
-    let begins = format!(in alloc; "{ready}node 1 reopened\nnode 1 reopened\n").expect(
-        &rt, "failed",
-    );
-    assert!(rt; node.output.starts_with(begins.as_bytes()));
-    assert!(rt; node.output.ends_with(b"node 1 reopened\nnode 1 closed\n"));
-    Ok(())
+    let system = accounts(&rt, alloc);
+    let mut node = Beside {
+        key: Some(Key::new([7; 32])),
+        history: 6,
+        output: Vec::new(alloc),
+    };
+    answers(&rt, alloc, &system, &mut node);
+    let begins = node_text(&rt, alloc, &system, "node 1 reopened\nnode 1 reopened\n");
+    goes_on(&rt, &node.output, &begins);
 }
 
 const NOTES: &str = "\
@@ -293,37 +270,26 @@ hint: name an operation of the handler's class: scoop check shows those of the f
 
 const MISREAD: &[u8] = b"reserve 1\nreserve 2\nquery 1 balanc\nquery 1 balance\n";
 
-// The end of a client with these lines.
-fn ended<R: Threads + Wait + Clock + Net + Sync>(
+// The end of a client with these lines, beside a new node.
+fn ended<R: Threads + Wait + Clock + Net + Sync + Abort>(
     rt: &R,
     alloc: Global,
-    system: &System,
     lines: &[u8],
     is_typed: bool,
-) -> Option<Told> {
-    let mut node = Beside::new(alloc, None);
-    run_beside(rt, alloc, system, &mut node, 1_000, lines, is_typed)
+) -> Told {
+    let system = accounts(rt, alloc);
+    let mut node = Beside::new(alloc);
+    run_beside(rt, alloc, &system, &mut node, lines, is_typed)
 }
 
 #[test]
-fn a_user_who_types_hears_of_a_line_that_cannot_be_read(rt: HostRuntime) -> Result<(), Fail> {
-    let alloc = rt.alloc();
-    let system = accounts(&rt, alloc)?;
-    let told = ended(&rt, alloc, &system, MISREAD, true).expect(&rt, "no client");
-    assert!(rt;
-        is(
-            &told.output,
-            "reserved 7.1.1\nrefused NotIdle\nanswer 100\ncut 7.1.1\n"
-        )
-    );
-    assert!(rt; is(&told.notes, NOTES));
-    are_equal(&rt, told.ended, Err(RuntimeError::InsideBlock));
-    are_equal(
-        &rt,
-        told.progress,
-        Some(answered_to(4, Unended::Cut(BLOCK))),
-    );
-    Ok(())
+fn a_user_who_types_hears_of_a_line_that_cannot_be_read(rt: HostRuntime) {
+    let told = ended(&rt, rt.alloc(), MISREAD, true);
+    let output = "reserved 7.1.1\nrefused NotIdle\nanswer 100\ncut 7.1.1\n";
+    is_text(&rt, &told.notes, NOTES);
+    has_ended(&rt, &told, Err(RuntimeError::InsideBlock), output);
+    let progress = answered_to(4, Unended::Cut(BLOCK));
+    are_equal(&rt, told.progress, Some(progress));
 }
 
 // The lines up to this one have replies, and this isn't ended.
@@ -337,34 +303,24 @@ fn answered_to(line: u32, unended: Unended) -> Progress {
 }
 
 #[test]
-fn a_line_that_cannot_be_read_ends_a_client(rt: HostRuntime) -> Result<(), Fail> {
-    let alloc = rt.alloc();
-    let system = accounts(&rt, alloc)?;
-    let told = ended(&rt, alloc, &system, MISREAD, false).expect(&rt, "no client");
-    assert!(rt; told.notes.is_empty());
+fn a_line_that_cannot_be_read_ends_a_client(rt: HostRuntime) {
+    let told = ended(&rt, rt.alloc(), MISREAD, false);
     let fault = RuntimeError::Line(
         3,
         LineFault::NoSuchOperation(HandlerId(1), ShownWord::of(b"balanc")),
     );
+    let progress = answered_to(2, Unended::Cut(BLOCK));
+    is_text(&rt, &told.notes, "");
     are_equal(&rt, told.ended, Err(fault));
-    are_equal(
-        &rt,
-        told.progress,
-        Some(answered_to(2, Unended::Cut(BLOCK))),
-    );
-    Ok(())
+    are_equal(&rt, told.progress, Some(progress));
 }
 
 #[test]
-fn nothing_is_done_of_a_block_that_waits_before_its_end(rt: HostRuntime) -> Result<(), Fail> {
-    let alloc = rt.alloc();
-    let system = accounts(&rt, alloc)?;
+fn nothing_is_done_of_a_block_that_waits_before_its_end(rt: HostRuntime) {
     let lines = b"reserve 1 when 1 balance least 0 tries 1\ncall 1 deposit 5\n";
-    let told = ended(&rt, alloc, &system, lines, false).expect(&rt, "no client");
-    assert!(rt; is(&told.output, "noted\nnoted\n"));
-    are_equal(&rt, told.ended, Err(RuntimeError::InsideWhen));
+    let told = ended(&rt, rt.alloc(), lines, false);
+    has_ended(&rt, &told, Err(RuntimeError::InsideWhen), "noted\nnoted\n");
     are_equal(&rt, told.progress, Some(answered_to(2, Unended::When)));
-    Ok(())
 }
 
 // A condition that never holds, and one that holds once its own queries have paid eleven times.
@@ -383,19 +339,14 @@ ended 12
 ";
 
 #[test]
-fn a_user_who_types_hears_how_many_tries_failed(rt: HostRuntime) -> Result<(), Fail> {
-    let alloc = rt.alloc();
-    let system = accounts(&rt, alloc)?;
-    let told = ended(&rt, alloc, &system, TRIES, true).expect(&rt, "no client");
-    assert!(rt; is(&told.output, TRIED));
+fn a_user_who_types_hears_how_many_tries_failed(rt: HostRuntime) {
     let tried = b"scoop: the condition failed in 10 tries, and the client tries again\n";
+    let told = ended(&rt, rt.alloc(), TRIES, true);
+    has_ended(&rt, &told, Ok(()), TRIED);
     assert!(rt; told.notes.ends_with(tried));
-    are_equal(&rt, told.ended, Ok(()));
-    let told = ended(&rt, alloc, &system, TRIES, false).expect(&rt, "no client");
-    assert!(rt; is(&told.output, TRIED));
-    assert!(rt; told.notes.is_empty());
-    are_equal(&rt, told.ended, Err(RuntimeError::SomeRefused(2, 1)));
-    Ok(())
+    let told = ended(&rt, rt.alloc(), TRIES, false);
+    has_ended(&rt, &told, Err(RuntimeError::SomeRefused(2, 1)), TRIED);
+    is_text(&rt, &told.notes, "");
 }
 
 // Conditions of several parts: all of them hold, one fails, and one names a handler outside of the block.
@@ -430,36 +381,34 @@ refused NotReserved 2
 ";
 
 #[test]
-fn a_block_waits_for_all_its_conditions(rt: HostRuntime) -> Result<(), Fail> {
-    let alloc = rt.alloc();
-    let system = accounts(&rt, alloc)?;
-    let told = ended(&rt, alloc, &system, CONDITIONS, false).expect(&rt, "no client");
-    assert!(rt; is(&told.output, CONDITIONS_TOLD));
-    are_equal(&rt, told.ended, Err(RuntimeError::SomeRefused(5, 3)));
-    Ok(())
+fn a_block_waits_for_all_its_conditions(rt: HostRuntime) {
+    let told = ended(&rt, rt.alloc(), CONDITIONS, false);
+    has_ended(
+        &rt,
+        &told,
+        Err(RuntimeError::SomeRefused(5, 3)),
+        CONDITIONS_TOLD,
+    );
+}
+
+// The address of a party is in use.
+fn is_taken(rt: &impl Abort, opened: Result<UdpLink, RuntimeError>) {
+    let refused = RuntimeError::Ended(PartyError::NoLink);
+    are_equal(rt, opened.err(), Some(refused));
 }
 
 // Each link opens once, and not again.
 fn opens_once<R: Net + Abort>(rt: &R, alloc: Global, system: &System) {
-    let refused = Some(RuntimeError::Ended(PartyError::NoLink));
-    let _node = node_link(rt, alloc, system, 1)
-        .expect(rt, "no node")
-        .expect(rt, "failed");
-    let again = node_link(rt, alloc, system, 1).expect(rt, "no node");
-    are_equal(rt, again.err(), refused);
-    let _client = client_link(rt, alloc, system, 7)
-        .expect(rt, "no client")
-        .expect(rt, "failed");
-    let again = client_link(rt, alloc, system, 7).expect(rt, "no client");
-    are_equal(rt, again.err(), refused);
+    let _node = node_link(rt, alloc, system, 1).expect(rt, "no link");
+    is_taken(rt, node_link(rt, alloc, system, 1));
+    let _client = client_link(rt, alloc, system, 7).expect(rt, "no link");
+    is_taken(rt, client_link(rt, alloc, system, 7));
 }
 
 #[test]
-fn a_port_in_use_is_reported(rt: HostRuntime) -> Result<(), Fail> {
-    let alloc = rt.alloc();
-    let system = accounts(&rt, alloc)?;
-    opens_once(&rt, alloc, &system);
-    Ok(())
+fn a_port_in_use_is_reported(rt: HostRuntime) {
+    let system = accounts(&rt, rt.alloc());
+    opens_once(&rt, rt.alloc(), &system);
 }
 
 // A node with an address of no machine and two of this one.
@@ -470,37 +419,23 @@ address = [\"192.0.2.1:9\", \"127.0.0.1:FIRST\", \"127.0.0.1:SECOND\"]
 ";
 
 // Opens the node's link, which is bound to this port.
-fn stands_at<R: Net + Abort>(
-    rt: &R,
-    alloc: Global,
-    system: &System,
-    port: u16,
-) -> Result<UdpLink, Fail> {
-    let node = system.node(1).ok_or("no node")?;
-    let (link, place) = open_node_link(rt, alloc, system, node)?;
-    assert_eq!(rt; place.address.port(), port);
-    Ok(link)
+fn stands_at<R: Net + Abort>(rt: &R, alloc: Global, system: &System, port: u16) -> UdpLink {
+    let node = system.node(1).expect(rt, "no node");
+    let (link, place) = open_node_link(rt, alloc, system, node).expect(rt, "no link");
+    are_equal(rt, place.address.port(), port);
+    link
 }
 
-fn stands_in_turn<R: Net + Abort>(
-    rt: &R,
-    alloc: Global,
-    system: &System,
-    first: u16,
-    second: u16,
-) -> Result<(), Fail> {
-    let _first = stands_at(rt, alloc, system, first)?;
-    let _second = stands_at(rt, alloc, system, second)?;
-    let again = node_link(rt, alloc, system, 1).ok_or("no node")?;
-    assert_eq!(rt; again.err(), Some(RuntimeError::Ended(PartyError::NoLink)));
-    Ok(())
+fn stands_in_turn<R: Net + Abort>(rt: &R, alloc: Global, system: &System, first: u16, second: u16) {
+    let _first = stands_at(rt, alloc, system, first);
+    let _second = stands_at(rt, alloc, system, second);
+    is_taken(rt, node_link(rt, alloc, system, 1));
 }
 
 #[test]
-fn a_node_stands_at_its_first_free_address(rt: HostRuntime) -> Result<(), Fail> {
+fn a_node_stands_at_its_first_free_address(rt: HostRuntime) {
     let alloc = rt.alloc();
-    let [first, second] = free_ports::<_, 2>(&rt)?;
-    let text = with_ports(alloc, PLACES, &["FIRST", "SECOND"], &[first, second])?;
-    let system = System::read(alloc, &text)?;
-    stands_in_turn(&rt, alloc, &system, first, second)
+    let [first, second] = ports::<_, 2>(&rt);
+    let system = system_at(&rt, alloc, PLACES, &["FIRST", "SECOND"], &[first, second]);
+    stands_in_turn(&rt, alloc, &system, first, second);
 }

@@ -1,18 +1,17 @@
 //! A node whose objects a program makes.
 
-use crate::tests::are_equal;
+use super::going_on::serve;
+use super::{are_equal, node_plan};
 use scoop_classes::CellObject;
 use scoop_errors::PartyError;
 use scoop_keeper::{Keeper, MemoryKeeper};
-use scoop_link::TapeLink;
 use scoop_message::{HandlerId, OutOfMemory, Words};
 use scoop_object::{Boxed, Class};
-use scoop_runtime::{NodePlan, Objects, RuntimeError, Serving, node_run};
+use scoop_runtime::{Objects, RuntimeError, Serving};
 use scoop_system::System;
 use std::alloc::Global;
 use std::process::Abort;
 use std::sync::Wait;
-use std::test::Fail;
 use std::thread::Threads;
 use std::time::Clock;
 
@@ -53,20 +52,16 @@ impl Objects for Cells {
 }
 
 // Serves the node of this text for one turn, with cells. Returns its keeper or its error.
-fn serve<R: Threads + Wait + Clock + Sync>(
+fn served<R: Threads + Wait + Clock + Sync + Abort>(
     rt: &R,
     alloc: Global,
     text: &str,
-) -> Option<Result<MemoryKeeper, RuntimeError>> {
-    let system = System::read(alloc, text).ok()?;
-    let plan = NodePlan::of(alloc, &system, system.node(1)?)
-        .ok()?
-        .with(Cells);
-    let serving = Serving::new(1, 1_000, 1).ok()?;
-    let link = TapeLink::new(alloc, 1).ok()?;
-    let mut output = Vec::new(alloc);
-    let (keeper, notes) = (MemoryKeeper::new(alloc), Vec::new(alloc));
-    Some(node_run(rt, alloc, &plan, &serving, keeper, link, notes, &mut output))
+) -> Result<MemoryKeeper, RuntimeError> {
+    let system = System::read(alloc, text).expect(rt, "no system");
+    let plan = node_plan(rt, alloc, &system, 1).with(Cells);
+    let serving = Serving::new(1, 1_000, 1).expect(rt, "out of range");
+    let (ended, _) = serve(rt, alloc, &plan, serving, MemoryKeeper::new(alloc));
+    ended
 }
 
 // The stored word of the handler.
@@ -78,16 +73,14 @@ fn stored(keeper: &mut MemoryKeeper) -> Option<u64> {
 }
 
 #[test]
-fn a_node_serves_the_objects_that_a_program_makes(rt: HostRuntime) -> Result<(), Fail> {
-    let served = serve(&rt, rt.alloc(), CELL).expect(&rt, "no node");
-    let mut keeper = served?;
+fn a_node_serves_the_objects_that_a_program_makes(rt: HostRuntime) {
+    let mut keeper = served(&rt, rt.alloc(), CELL).expect(&rt, "failed");
     are_equal(&rt, stored(&mut keeper), Some(4));
-    Ok(())
 }
 
 #[test]
 fn a_node_refuses_an_object_of_another_class(rt: HostRuntime) {
-    let served = serve(&rt, rt.alloc(), COUNTER).expect(&rt, "no node");
+    let served = served(&rt, rt.alloc(), COUNTER);
     let error = RuntimeError::Ended(PartyError::WrongClass(ONE));
     are_equal(&rt, served.err(), Some(error));
 }

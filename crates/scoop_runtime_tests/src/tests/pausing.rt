@@ -3,20 +3,20 @@
 ghost use Rattle.std.specs.Prelude.{⊤};
 
 use super::text_lines::TextLines;
-use super::{Told, ask, ask_lines, client_link, node_link, serve, with_ports};
-use crate::tests::are_equal;
+use super::{
+    TURNS, Told, ask, ask_lines, client_link, client_plan, has_ended, node_link, ports, serve_node,
+    system_at,
+};
 use scoop_driver::Interrupt;
-use scoop_free_ports::free_ports;
 use scoop_keeper::MemoryKeeper;
 use scoop_lines::{LineBytes, LineSource, SourceError};
 use scoop_link::UdpLink;
-use scoop_runtime::Ending;
+use scoop_runtime::{ClientPlan, Ending};
 use scoop_system::System;
 use std::alloc::Global;
 use std::net::Net;
 use std::process::Abort;
 use std::sync::Wait;
-use std::test::Fail;
 use std::thread;
 use std::thread::Threads;
 use std::time::Clock;
@@ -49,7 +49,7 @@ batch = 1
 #[derive(Drop)]
 struct PausingLines<'a> {
     alloc: Global,
-    system: &'a System,
+    plan: &'a ClientPlan<'a>,
     lines: TextLines<'a>,
     taken: u32,
     other: Option<UdpLink>,
@@ -63,8 +63,14 @@ impl<'a> PausingLines<'a> {
             return;
         };
         let mut keeper = MemoryKeeper::new(self.alloc);
-        let lines = b"reserve 1 2\nend\n";
-        self.told = ask(self.alloc, self.system, 8, &mut keeper, link, lines, false);
+        let told = ask(
+            self.alloc,
+            self.plan,
+            &mut keeper,
+            link,
+            b"reserve 1 2\nend\n",
+        );
+        self.told = Some(told);
     }
 }
 
@@ -86,84 +92,69 @@ impl<'a> Interrupt for PausingLines<'a> {
     }
 }
 
-/// Serves the node over its link until it is asked to end.
-pub fn serve_node<R: Threads + Wait + Clock + Sync>(
-    rt: &R,
+// Runs the client that pauses.
+fn pauses(
+    rt: &impl Abort,
     alloc: Global,
     system: &System,
     link: UdpLink,
-    ending: &Ending,
-) {
-    let keeper = MemoryKeeper::new(alloc);
-    let _served = serve(rt, alloc, system, 1, 1_000, u64::MAX, keeper, link, ending);
+    lines: &mut PausingLines<'_>,
+) -> Told {
+    let plan = client_plan(rt, system, 7, TURNS, false);
+    let mut keeper = MemoryKeeper::new(alloc);
+    ask_lines(alloc, &plan, &mut keeper, link, lines)
 }
 
 // The node in a thread, and the client that pauses beside it.
-fn run_beside<R: Threads + Wait + Clock + Sync>(
+fn run_beside<R: Threads + Wait + Clock + Sync + Abort>(
     rt: &R,
     alloc: Global,
     system: &System,
     node: UdpLink,
     link: UdpLink,
     lines: &mut PausingLines<'_>,
-) -> Option<Told> {
+) -> Told {
     let lines = &mut *lines;
     let ending = Ending::new();
     let ended = &ending;
     thread::scope(thread::scope_env(), rt, move |scope| {
-        let spawned = scope.spawn(move || serve_node(rt, alloc, system, node, ended));
-        if spawned.is_err() {
-            return None;
-        }
-        let mut keeper = MemoryKeeper::new(alloc);
-        let told = ask_lines(alloc, system, 7, &mut keeper, link, lines, false);
+        let spawned = scope.spawn(move || serve_node(rt, alloc, system, 1_000, node, ended));
+        assert!(rt; spawned.is_ok(), "no thread");
+        let told = pauses(rt, alloc, system, link, lines);
         ended.ask();
         told
     })
 }
 
-// Runs all of them. Borrows what it uses, so that no early return has to drop it.
+// Runs all of them.
 fn plays<R: Threads + Wait + Clock + Net + Sync + Abort>(
     rt: &R,
     alloc: Global,
     system: &System,
     lines: &mut PausingLines<'_>,
 ) {
-    lines.other = client_link(rt, alloc, system, 8)
-        .expect(rt, "no client")
-        .ok();
-    let link = client_link(rt, alloc, system, 7)
-        .expect(rt, "no client")
-        .expect(rt, "failed");
-    let node = node_link(rt, alloc, system, 1)
-        .expect(rt, "no node")
-        .expect(rt, "failed");
-    let first = run_beside(rt, alloc, system, node, link, lines).expect(rt, "no client");
-    assert!(rt; first.output.as_slice() == "reserved 7.1.1\nended\n".as_bytes());
-    are_equal(rt, first.ended, Ok(()));
+    lines.other = Some(client_link(rt, alloc, system, 8).expect(rt, "no link"));
+    let link = client_link(rt, alloc, system, 7).expect(rt, "no link");
+    let node = node_link(rt, alloc, system, 1).expect(rt, "no link");
+    let first = run_beside(rt, alloc, system, node, link, lines);
+    has_ended(rt, &first, Ok(()), "reserved 7.1.1\nended\n");
     let second = lines.told.as_ref().expect(rt, "no pause");
-    assert!(rt; second.output.as_slice() == "reserved 8.1.1\nended\n".as_bytes());
-    are_equal(rt, second.ended, Ok(()));
+    has_ended(rt, second, Ok(()), "reserved 8.1.1\nended\n");
 }
 
 #[test]
-fn a_client_that_pauses_in_its_block_keeps_no_lock(rt: HostRuntime) -> Result<(), Fail> {
+fn a_client_that_pauses_in_its_block_keeps_no_lock(rt: HostRuntime) {
     let alloc = rt.alloc();
-    let text = with_ports(
-        alloc,
-        CELLS,
-        &["NODE", "SEVEN", "EIGHT"],
-        &free_ports::<_, 3>(&rt).expect(&rt, "failed"),
-    )?;
-    let system = System::read(alloc, &text).ok().expect(&rt, "no system");
+    let ports = ports::<_, 3>(&rt);
+    let system = system_at(&rt, alloc, CELLS, &["NODE", "SEVEN", "EIGHT"], &ports);
+    let other = client_plan(&rt, &system, 8, TURNS, false);
     let mut lines = PausingLines {
         alloc,
-        system: &system,
+        plan: &other,
         lines: TextLines::new(b"reserve 1 2\nend\n"),
         taken: 0,
         other: None,
         told: None,
     };
     plays(&rt, alloc, &system, &mut lines);
-    Ok(())
 }

@@ -1,26 +1,24 @@
 //! Programs that run as clients.
 
-use super::leaving::ACCOUNTS;
-use super::{TURNS, client_link, node_link, serve, with_ports};
-use crate::tests::are_equal;
+use super::leaving::{ACCOUNTS, WORDS};
+use super::{
+    TURNS, are_equal, client_link, client_plan, is_text, node_link, ports, serve_node, system_at,
+};
 use scoop_client::ClientError;
 use scoop_driver::{DriverError, NoPause};
 use scoop_errors::PartyError;
-use scoop_free_ports::free_ports;
 use scoop_journal::Journal;
 use scoop_keeper::MemoryKeeper;
 use scoop_link::UdpLink;
 use scoop_message::{Answer, Block, ClientId, HandlerId};
 use scoop_runtime::{
-    Caller, Calls, ClientPlan, ClientProgram, Ending, ProgramEnd, RuntimeError, Unended,
-    program_run,
+    Caller, Calls, ClientProgram, Ending, ProgramEnd, RuntimeError, Unended, program_run,
 };
 use scoop_system::System;
 use std::alloc::Global;
 use std::net::Net;
 use std::process::Abort;
 use std::sync::Wait;
-use std::test::Fail;
 use std::thread;
 use std::thread::Threads;
 use std::time::Clock;
@@ -83,11 +81,14 @@ struct Told {
 }
 
 // Runs the program as client 7.
-fn run_payer(alloc: Global, system: &System, link: UdpLink, payer: &mut Payer) -> Option<Told> {
-    let place = *system.client(ClientId(7))?;
-    let Ok(plan) = ClientPlan::new(system, place, TURNS, false) else {
-        return None;
-    };
+fn run_payer(
+    rt: &impl Abort,
+    alloc: Global,
+    system: &System,
+    link: UdpLink,
+    payer: &mut Payer,
+) -> Told {
+    let plan = client_plan(rt, system, 7, TURNS, false);
     let mut keeper = MemoryKeeper::new(alloc);
     let (waits, faults) = (Vec::new(alloc), Vec::new(alloc));
     let mut notes = Vec::new(alloc);
@@ -103,23 +104,26 @@ fn run_payer(alloc: Global, system: &System, link: UdpLink, payer: &mut Payer) -
         NoPause,
         &mut notes,
     );
-    Some(Told {
+    Told {
         end: Some(end),
         notes,
-    })
+    }
 }
 
 // Makes the calls of a client, and lets it go inside its block.
-fn let_go(alloc: Global, system: &System, link: UdpLink, payer: &mut Payer) -> Option<Told> {
-    let place = *system.client(ClientId(7))?;
-    let Ok(plan) = ClientPlan::new(system, place, TURNS, false) else {
-        return None;
-    };
+fn let_go(
+    rt: &impl Abort,
+    alloc: Global,
+    system: &System,
+    link: UdpLink,
+    payer: &mut Payer,
+) -> Told {
+    let plan = client_plan(rt, system, 7, TURNS, false);
     let mut keeper = MemoryKeeper::new(alloc);
     let mut journal = None::<Journal<Vec<u8>>>;
     let mut notes = Vec::new(alloc);
     let known = [ONE, TWO];
-    let begun = Caller::begin(
+    match Caller::begin(
         alloc,
         &plan,
         &known,
@@ -128,36 +132,33 @@ fn let_go(alloc: Global, system: &System, link: UdpLink, payer: &mut Payer) -> O
         &mut journal,
         NoPause,
         &mut notes,
-    );
-    let mut caller = begun.ok()?;
-    let _ended = payer.run(&mut caller);
-    drop(caller);
-    Some(Told { end: None, notes })
+    ) {
+        Ok(begun) => {
+            let mut caller = begun;
+            let _ended = payer.run(&mut caller);
+        }
+        Err(error) => panic!(rt; "not begun: {error}"),
+    }
+    Told { end: None, notes }
 }
 
 // Runs the program beside the node.
-fn run_beside<R: Threads + Wait + Clock + Sync>(
+fn run_beside<R: Threads + Wait + Clock + Sync + Abort>(
     rt: &R,
     alloc: Global,
     system: &System,
     node: UdpLink,
     link: UdpLink,
     payer: &mut Payer,
-) -> Option<Told> {
+) -> Told {
     let ending = Ending::new();
     let ended = &ending;
     thread::scope(thread::scope_env(), rt, move |scope| {
-        let spawned = scope.spawn(move || {
-            let keeper = MemoryKeeper::new(alloc);
-            let _served = serve(rt, alloc, system, 1, 10_000, u64::MAX, keeper, node, ended);
-        });
-        let told = if spawned.is_ok() {
-            match payer.then {
-                Then::IsLetGo => let_go(alloc, system, link, payer),
-                _ => run_payer(alloc, system, link, payer),
-            }
-        } else {
-            None
+        let spawned = scope.spawn(move || serve_node(rt, alloc, system, 10_000, node, ended));
+        assert!(rt; spawned.is_ok(), "no thread");
+        let told = match payer.then {
+            Then::IsLetGo => let_go(rt, alloc, system, link, payer),
+            _ => run_payer(rt, alloc, system, link, payer),
         };
         ended.ask();
         told
@@ -171,30 +172,18 @@ fn runs<R: Threads + Wait + Clock + Net + Sync + Abort>(
     then: Then,
     end: Option<ProgramEnd>,
     notes: &str,
-) -> Result<(), Fail> {
-    let words = ["NODE", "SEVEN", "EIGHT"];
-    let text = with_ports(
-        alloc,
-        ACCOUNTS,
-        &words,
-        &free_ports::<_, 3>(rt).expect(rt, "failed"),
-    )?;
-    let system = System::read(alloc, &text).expect(rt, "failed");
-    let node = node_link(rt, alloc, &system, 1)
-        .expect(rt, "no node")
-        .expect(rt, "failed");
-    let link = client_link(rt, alloc, &system, 7)
-        .expect(rt, "no client")
-        .expect(rt, "failed");
+) {
+    let system = system_at(rt, alloc, ACCOUNTS, &WORDS, &ports::<_, 3>(rt));
+    let node = node_link(rt, alloc, &system, 1).expect(rt, "no link");
+    let link = client_link(rt, alloc, &system, 7).expect(rt, "no link");
     let mut payer = Payer {
         then,
         balance: None,
     };
-    let told = run_beside(rt, alloc, &system, node, link, &mut payer).expect(rt, "it didn't run");
+    let told = run_beside(rt, alloc, &system, node, link, &mut payer);
     are_equal(rt, told.end, end);
-    assert!(rt; told.notes.as_slice() == notes.as_bytes());
+    is_text(rt, &told.notes, notes);
     are_equal(rt, payer.balance, Some(Answer::Value(100)));
-    Ok(())
 }
 
 fn end_of(ended: Result<(), RuntimeError>, unended: Unended) -> Option<ProgramEnd> {
@@ -202,25 +191,25 @@ fn end_of(ended: Result<(), RuntimeError>, unended: Unended) -> Option<ProgramEn
 }
 
 #[test]
-fn a_program_makes_its_calls_and_ends_its_block(rt: HostRuntime) -> Result<(), Fail> {
+fn a_program_makes_its_calls_and_ends_its_block(rt: HostRuntime) {
     let end = end_of(Ok(()), Unended::Nothing);
-    runs(&rt, rt.alloc(), Then::Ends, end, "")
+    runs(&rt, rt.alloc(), Then::Ends, end, "");
 }
 
 #[test]
-fn a_program_that_returns_inside_a_block_cuts_it(rt: HostRuntime) -> Result<(), Fail> {
+fn a_program_that_returns_inside_a_block_cuts_it(rt: HostRuntime) {
     let end = end_of(Ok(()), Unended::Cut(BLOCK));
-    runs(&rt, rt.alloc(), Then::Returns, end, "cut 7.1.1\n")
+    runs(&rt, rt.alloc(), Then::Returns, end, "cut 7.1.1\n");
 }
 
 #[test]
-fn a_client_that_is_let_go_inside_a_block_cuts_it(rt: HostRuntime) -> Result<(), Fail> {
-    runs(&rt, rt.alloc(), Then::IsLetGo, None, "cut 7.1.1\n")
+fn a_client_that_is_let_go_inside_a_block_cuts_it(rt: HostRuntime) {
+    runs(&rt, rt.alloc(), Then::IsLetGo, None, "cut 7.1.1\n");
 }
 
 #[test]
-fn a_refused_call_is_the_programs_error(rt: HostRuntime) -> Result<(), Fail> {
+fn a_refused_call_is_the_programs_error(rt: HostRuntime) {
     let refused = PartyError::Driver(DriverError::Client(ClientError::NotIdle));
     let end = end_of(Err(RuntimeError::Ended(refused)), Unended::Cut(BLOCK));
-    runs(&rt, rt.alloc(), Then::Fails, end, "cut 7.1.1\n")
+    runs(&rt, rt.alloc(), Then::Fails, end, "cut 7.1.1\n");
 }

@@ -6,20 +6,17 @@ use super::deals::{DEAL_LINES, Deal, LINES_BOUND, first_lines, read_deals};
 use super::lossy_link::LossyLink;
 use super::moments::Moments;
 use super::replay::{Purse, replay};
-use super::{ask, client_link, node_link, serve, with_ports};
-use crate::tests::are_equal;
-use scoop_free_ports::free_ports;
+use super::{TURNS, are_equal, ask, client_link, client_plan, node_link, ports, serve, system_at};
 use scoop_keeper::{Keeper, MemoryKeeper};
 use scoop_link::UdpLink;
 use scoop_message::HandlerId;
-use scoop_runtime::{Ending, RuntimeError};
+use scoop_runtime::{ClientPlan, Ending, RuntimeError};
 use scoop_system::System;
 use std::alloc::Global;
 use std::net::Net;
 use std::process::Abort;
 use std::sync::Wait;
 use std::sync::atomic::{AtomicBool, Ordering};
-use std::test::Fail;
 use std::thread;
 use std::thread::Threads;
 use std::time::Clock;
@@ -119,12 +116,10 @@ impl Host {
     }
 
     // Opens its link, after the last one has closed.
-    fn open<R: Net>(&mut self, rt: &R, alloc: Global, system: &System) -> bool {
+    fn open<R: Net + Abort>(&mut self, rt: &R, alloc: Global, system: &System) {
         self.link = None;
-        if let Some(Ok(link)) = node_link(rt, alloc, system, self.number) {
-            self.link = Some(link);
-        }
-        self.link.is_some()
+        let link = node_link(rt, alloc, system, self.number).expect(rt, "no link");
+        self.link = Some(link);
     }
 
     // The purse of a handler in its record.
@@ -134,7 +129,7 @@ impl Host {
     }
 
     // One life of this many turns.
-    fn live<R: Threads + Wait + Clock + Sync>(
+    fn live<R: Threads + Wait + Clock + Sync + Abort>(
         &mut self,
         rt: &R,
         alloc: Global,
@@ -149,7 +144,7 @@ impl Host {
         };
         let link = LossyLink::new(link);
         let ending = Ending::new();
-        let served = serve(
+        let (ended, _) = serve(
             rt,
             alloc,
             system,
@@ -160,11 +155,11 @@ impl Host {
             link,
             &ending,
         );
-        self.keeper = served.and_then(|(ended, _)| ended.ok());
+        self.keeper = ended.ok();
     }
 
     // Lives until the storm is over. One more life runs what is pending.
-    fn live_on<R: Threads + Wait + Clock + Sync>(
+    fn live_on<R: Threads + Wait + Clock + Sync + Abort>(
         &mut self,
         rt: &R,
         alloc: Global,
@@ -207,25 +202,20 @@ impl Guest {
     }
 
     // Opens its link, after the last one has closed.
-    fn open<R: Net>(&mut self, rt: &R, alloc: Global, system: &System) -> bool {
+    fn open<R: Net + Abort>(&mut self, rt: &R, alloc: Global, system: &System) {
         self.link = None;
-        if let Some(Ok(link)) = client_link(rt, alloc, system, self.number) {
-            self.link = Some(link);
-        }
-        self.link.is_some()
+        let link = client_link(rt, alloc, system, self.number).expect(rt, "no link");
+        self.link = Some(link);
     }
 
     // One life of this many lines. Returns whether it ended as it should, with a reply to each line.
-    fn live(&mut self, alloc: Global, system: &System, lines: usize) -> bool {
+    fn live(&mut self, alloc: Global, plan: &ClientPlan<'_>, lines: usize) -> bool {
         let Some(link) = &mut self.link else {
             return false;
         };
         let link = LossyLink::new(link);
-        let text = first_lines(lines);
         let keeper = &mut self.keeper;
-        let Some(told) = ask(alloc, system, self.number, keeper, link, text, false) else {
-            return false;
-        };
+        let told = ask(alloc, plan, keeper, link, first_lines(lines));
         let is_right = match told.ended {
             Ok(()) => lines % DEAL_LINES == 0,
             Err(error) => lines % DEAL_LINES != 0 && error == RuntimeError::InsideBlock,
@@ -234,12 +224,13 @@ impl Guest {
     }
 
     // Lives all its lives. One more frees what the last one left reserved.
-    fn live_on(&mut self, alloc: Global, system: &System) {
+    fn live_on(&mut self, rt: &impl Abort, alloc: Global, system: &System) {
+        let plan = client_plan(rt, system, self.number, TURNS, false);
         for _ in 0..CLIENT_LIVES {
             let lines = usize::try_from(self.moments.between(1, LINES_BOUND)).unwrap_or(0);
-            self.failed |= !self.live(alloc, system, lines);
+            self.failed |= !self.live(alloc, &plan, lines);
         }
-        self.failed |= !self.live(alloc, system, 0);
+        self.failed |= !self.live(alloc, &plan, 0);
     }
 }
 
@@ -264,15 +255,13 @@ impl Parties {
     }
 
     // Opens the links of all. No thread opens one.
-    fn open<R: Net>(&mut self, rt: &R, alloc: Global, system: &System) -> bool {
-        let mut all = true;
+    fn open<R: Net + Abort>(&mut self, rt: &R, alloc: Global, system: &System) {
         for host in self.hosts.iter_mut() {
-            all &= host.open(rt, alloc, system);
+            host.open(rt, alloc, system);
         }
         for guest in self.guests.iter_mut() {
-            all &= guest.open(rt, alloc, system);
+            guest.open(rt, alloc, system);
         }
-        all
     }
 
     // The purse of a handler in the nodes' records.
@@ -288,7 +277,7 @@ impl Parties {
 }
 
 // All clients live, each in a thread.
-fn let_live<R: Threads + Wait + Sync>(
+fn let_live<R: Threads + Wait + Sync + Abort>(
     rt: &R,
     alloc: Global,
     system: &System,
@@ -297,14 +286,15 @@ fn let_live<R: Threads + Wait + Sync>(
     thread::scope(thread::scope_env(), rt, move |scope| {
         let mut all = true;
         for guest in guests.iter_mut() {
-            all &= scope.spawn(move || guest.live_on(alloc, system)).is_ok();
+            let spawned = scope.spawn(move || guest.live_on(rt, alloc, system));
+            all &= spawned.is_ok();
         }
         all
     })
 }
 
 // Nodes and clients live side by side until the clients are done.
-fn storm<R: Threads + Wait + Clock + Sync>(
+fn storm<R: Threads + Wait + Clock + Sync + Abort>(
     rt: &R,
     alloc: Global,
     system: &System,
@@ -360,7 +350,7 @@ fn plays<R: Threads + Wait + Clock + Net + Sync + Abort>(
     parties: &mut Parties,
 ) {
     for _ in 0..ROUNDS {
-        assert!(rt; parties.open(rt, alloc, system));
+        parties.open(rt, alloc, system);
         assert!(rt; storm(rt, alloc, system, parties));
     }
     let mut deals = Vec::new(alloc);
@@ -370,17 +360,10 @@ fn plays<R: Threads + Wait + Clock + Net + Sync + Abort>(
 }
 
 #[test]
-fn blocks_keep_one_order_through_a_storm(rt: HostRuntime) -> Result<(), Fail> {
+fn blocks_keep_one_order_through_a_storm(rt: HostRuntime) {
     let alloc = rt.alloc();
     let words = ["ONE", "TWO", "SEVEN", "EIGHT", "NINE"];
-    let text = with_ports(
-        alloc,
-        PURSES,
-        &words,
-        &free_ports::<_, 5>(&rt).expect(&rt, "failed"),
-    )?;
-    let system = System::read(alloc, &text).ok().expect(&rt, "no system");
+    let system = system_at(&rt, alloc, PURSES, &words, &ports::<_, 5>(&rt));
     let mut parties = Parties::new(alloc);
     plays(&rt, alloc, &system, &mut parties);
-    Ok(())
 }

@@ -3,7 +3,7 @@
 use crate::tests::are_equal;
 use scoop_system::{System, SystemError};
 use std::alloc::Global;
-use std::test::Fail;
+use std::process::Abort;
 
 // Texts that are no systems, each with what is told of it.
 const FAULTS: [(&str, &str); 54] = [
@@ -233,29 +233,30 @@ const NO_TOML: [(&str, &str); 4] = [
     ),
 ];
 
-fn told(alloc: Global, text: &str) -> Result<String, Fail> {
+// The text is no system, and this is told of it.
+fn tells(rt: &impl Abort, alloc: Global, text: &str, wanted: &str) {
     let Err(error) = System::read(alloc, text) else {
-        return Err(Fail::from("a system"));
+        panic!(rt; "a system: {text}");
     };
-    Ok(format!(in alloc; "{error}")?)
+    let told = format!(in alloc; "{error}").expect(rt, "out of memory");
+    are_equal(rt, told.as_str(), wanted);
 }
 
 #[test]
-fn the_first_fault_is_told(rt: HostRuntime) -> Result<(), Fail> {
-    let alloc = rt.alloc();
-    for (text, wanted) in FAULTS.iter().chain(&NO_TOML) {
-        let told = told(alloc, text)?;
-        are_equal(&rt, told.as_str(), *wanted);
+fn the_first_fault_is_told(rt: HostRuntime) {
+    for (text, wanted) in &FAULTS {
+        tells(&rt, rt.alloc(), text, wanted);
     }
-    Ok(())
+    for (text, wanted) in &NO_TOML {
+        tells(&rt, rt.alloc(), text, wanted);
+    }
 }
 
 #[test]
-fn what_is_not_toml_is_told_with_its_place(rt: HostRuntime) -> Result<(), Fail> {
+fn what_is_not_toml_is_told_with_its_place(rt: HostRuntime) {
     let Err(SystemError::Toml(fault)) = System::read(rt.alloc(), "[[node]]\nnumber = = 1\n") else {
-        return Err("no fault of TOML".into());
+        panic!(rt; "no fault of TOML");
     };
     are_equal(&rt, fault.line, 2);
     are_equal(&rt, fault.column, 10);
-    Ok(())
 }

@@ -1,6 +1,6 @@
 //! Lines of a client.
 
-use super::SYSTEM;
+use super::{SYSTEM, read, reads};
 use crate::tests::are_equal;
 use scoop_message::{Args, HandlerId, Request};
 use scoop_system::{
@@ -9,7 +9,6 @@ use scoop_system::{
 };
 use std::alloc::Global;
 use std::process::Abort;
-use std::test::Fail;
 
 const FAULTS: [(&[u8], &str); 22] = [
     (b"lock 1", "unknown line \"lock\""),
@@ -48,100 +47,87 @@ const FAULTS: [(&[u8], &str); 22] = [
     ),
 ];
 
-// The text of the fault of a line.
-fn told(alloc: Global, system: &System, line: &[u8]) -> Result<String, Fail> {
-    match read_line(system, line) {
-        Ok(_) => Ok(String::new(alloc)),
-        Err(fault) => Ok(format!(in alloc; "{fault}")?),
+// The line has a fault with this text.
+fn tells(rt: &impl Abort, alloc: Global, system: &System, line: &[u8], wanted: &str) {
+    let Err(fault) = read_line(system, line) else {
+        panic!(rt; "no fault: {wanted}");
+    };
+    let told = format!(in alloc; "{fault}").expect(rt, "out of memory");
+    are_equal(rt, told.as_str(), wanted);
+}
+
+// A request with these arguments.
+fn request(rt: &impl Abort, op: u16, args: &[u64]) -> Request {
+    Request {
+        op,
+        args: Args::of(args).expect(rt, "too many arguments"),
     }
 }
 
-// Operation 1 with the argument 5.
-fn request_of_5(rt: &impl Abort) -> Request {
-    Request {
-        op: 1,
-        args: Args::of(&[5]).expect(rt, "failed"),
-    }
+// Handlers 3 and 1.
+fn both(rt: &impl Abort) -> NamedHandlers {
+    NamedHandlers::of(&[HandlerId(3), HandlerId(1)]).expect(rt, "too many handlers")
 }
+
+// Lines that ask for nothing.
+const BLANKS: [&[u8]; 4] = [b"", b"\r", b"  ", b"# call 1"];
 
 fn asks_a_client(rt: &impl Abort, system: &System) {
-    let handlers = NamedHandlers::of(&[HandlerId(3), HandlerId(1)]).expect(rt, "failed");
-    let reserve = read_line(system, b"reserve 3  1\r").expect(rt, "failed");
-    are_equal(rt, reserve, ClientLine::Reserve(handlers));
-    let call = read_line(system, b" call 1 order 5 ").expect(rt, "failed");
-    are_equal(rt, call, ClientLine::Call(HandlerId(1), request_of_5(rt)));
-    let query = read_line(system, b"query 2 1 5").expect(rt, "failed");
-    are_equal(rt, query, ClientLine::Query(HandlerId(2), request_of_5(rt)));
-    are_equal(
-        rt,
-        read_line(system, b"end").expect(rt, "failed"),
-        ClientLine::End,
-    );
-    for blank in [&b""[..], b"\r", b"  ", b"# call 1"] {
-        are_equal(
-            rt,
-            read_line(system, blank).expect(rt, "failed"),
-            ClientLine::Blank,
-        );
+    let reserve = ClientLine::Reserve(both(rt));
+    reads(rt, system, b"reserve 3  1\r", &reserve);
+    let call = ClientLine::Call(HandlerId(1), request(rt, 1, &[5]));
+    reads(rt, system, b" call 1 order 5 ", &call);
+    let query = ClientLine::Query(HandlerId(2), request(rt, 1, &[5]));
+    reads(rt, system, b"query 2 1 5", &query);
+    reads(rt, system, b"end", &ClientLine::End);
+    for blank in BLANKS {
+        reads(rt, system, blank, &ClientLine::Blank);
     }
 }
 
 #[test]
 fn lines_ask_a_client(rt: HostRuntime) {
-    let system = System::read(rt.alloc(), SYSTEM).expect(&rt, "failed");
+    let system = read(&rt, rt.alloc(), SYSTEM);
     asks_a_client(&rt, &system);
 }
 
 fn waits_for_a_balance(rt: &impl Abort, system: &System) {
-    let line = read_line(system, b"reserve 3 1 when 3 balance least 40 tries 9").expect(
-        rt, "failed",
-    );
-    let request = Request {
-        op: 3,
-        args: Args::of(&[]).expect(rt, "failed"),
+    let condition = NamedCondition {
+        asked: HandlerId(3),
+        request: request(rt, 3, &[]),
+        test: Test::Least(40),
     };
     let wanted = ClientLine::ReserveWhen {
-        handlers: NamedHandlers::of(&[HandlerId(3), HandlerId(1)]).expect(rt, "failed"),
-        conditions: NamedConditions::of(&[NamedCondition {
-            asked: HandlerId(3),
-            request,
-            test: Test::Least(40),
-        }])
-        .expect(rt, "failed"),
+        handlers: both(rt),
+        conditions: NamedConditions::of(&[condition]).expect(rt, "too many conditions"),
         tries: 9,
     };
-    are_equal(rt, line, wanted);
+    let line = b"reserve 3 1 when 3 balance least 40 tries 9";
+    reads(rt, system, line, &wanted);
 }
 
 #[test]
 fn a_condition_stands_after_when(rt: HostRuntime) {
-    let system = System::read(rt.alloc(), SYSTEM).expect(&rt, "failed");
+    let system = read(&rt, rt.alloc(), SYSTEM);
     waits_for_a_balance(&rt, &system);
 }
 
-#[test]
-fn each_fault_of_a_line(rt: HostRuntime) -> Result<(), Fail> {
-    let system = System::read(rt.alloc(), SYSTEM).expect(&rt, "failed");
+fn has_faults(rt: &impl Abort, alloc: Global, system: &System) {
     for (line, fault) in &FAULTS {
-        are_equal(&rt, told(rt.alloc(), &system, line)?.as_str(), *fault);
+        tells(rt, alloc, system, line, fault);
     }
-    Ok(())
 }
 
 #[test]
-fn more_handlers_than_a_system_has_are_too_many(rt: HostRuntime) -> Result<(), Fail> {
-    are_equal(
-        &rt,
-        NamedHandlers::of(&[HandlerId(1); 65]),
-        Err(TooManyNamed),
-    );
-    are_equal(
-        &rt,
-        NamedHandlers::of(&[HandlerId(1); 64])
-            .expect(&rt, "failed")
-            .as_slice()
-            .len(),
-        64,
-    );
-    Ok(())
+fn each_fault_of_a_line(rt: HostRuntime) {
+    let system = read(&rt, rt.alloc(), SYSTEM);
+    has_faults(&rt, rt.alloc(), &system);
+}
+
+#[test]
+fn more_handlers_than_a_system_has_are_too_many(rt: HostRuntime) {
+    let refused = NamedHandlers::of(&[HandlerId(1); 65]);
+    are_equal(&rt, refused, Err(TooManyNamed));
+    let most = NamedHandlers::of(&[HandlerId(1); 64]).expect(&rt, "too many");
+    are_equal(&rt, most.as_slice().len(), 64);
 }

@@ -1,6 +1,6 @@
 //! Names of handlers, conditions of lines, and status addresses.
 
-use super::printed;
+use super::{prints, read, reads};
 use crate::tests::are_equal;
 use scoop_message::{Args, HandlerId, Request};
 use scoop_system::{
@@ -9,7 +9,6 @@ use scoop_system::{
 };
 use std::alloc::Global;
 use std::process::Abort;
-use std::test::Fail;
 
 // A node with a status page, an account with a name, and a counter without one.
 const SYSTEM: &str = "\
@@ -21,102 +20,101 @@ handler = [
 ";
 
 #[test]
-fn names_and_status_addresses_are_printed(rt: HostRuntime) -> Result<(), Fail> {
+fn names_and_status_addresses_are_printed(rt: HostRuntime) {
     let wanted = "\
 node 1 127.0.0.1:1 status 127.0.0.1:2
   handler 1 account 5 name till
   handler 2 counter 0
 ";
-    let output = printed(rt.alloc(), SYSTEM)?;
-    assert!(rt; output.as_slice() == wanted.as_bytes());
-    Ok(())
+    prints(&rt, rt.alloc(), SYSTEM, wanted);
+}
+
+// Lines with a name, each with the same line with the number.
+const NAMED: [(&[u8], &[u8]); 4] = [
+    (b"reserve 2 till", b"reserve 2 1"),
+    (b"call till deposit 4", b"call 1 1 4"),
+    (b"query till balance", b"query 1 3"),
+    (
+        b"reserve till when till balance is 5 tries 1",
+        b"reserve 1 when 1 3 is 5 tries 1",
+    ),
+];
+
+fn is_numbered(rt: &impl Abort, system: &System, named: &[u8], numbered: &[u8]) {
+    let wanted = read_line(system, numbered).expect(rt, "failed");
+    reads(rt, system, named, &wanted);
 }
 
 fn has_names(rt: &impl Abort, system: &System) {
     are_equal(rt, system.handler_by_name(b"till"), Some(HandlerId(1)));
     are_equal(rt, system.handler_by_name(b"1"), None);
-    let node = system.node(1).expect(rt, "node 1");
+    let node = system.node(1).expect(rt, "no node 1");
     are_equal(rt, node.status.expect(rt, "no status").port(), 2);
-    for (named, numbered) in [
-        (&b"reserve 2 till"[..], &b"reserve 2 1"[..]),
-        (b"call till deposit 4", b"call 1 1 4"),
-        (b"query till balance", b"query 1 3"),
-        (
-            b"reserve till when till balance is 5 tries 1",
-            b"reserve 1 when 1 3 is 5 tries 1",
-        ),
-    ] {
-        let line = read_line(system, named).expect(rt, "failed");
-        are_equal(rt, line, read_line(system, numbered).expect(rt, "failed"));
+    for (named, numbered) in &NAMED {
+        is_numbered(rt, system, named, numbered);
     }
 }
 
 #[test]
 fn a_name_stands_for_its_handler(rt: HostRuntime) {
-    let system = System::read(rt.alloc(), SYSTEM).expect(&rt, "failed");
+    let system = read(&rt, rt.alloc(), SYSTEM);
     has_names(&rt, &system);
 }
 
-fn condition(asked: u32, op: u16, test: Test) -> Result<NamedCondition, Fail> {
-    let args = Args::of(&[])?;
-    Ok(NamedCondition {
+// A condition on a query without arguments.
+fn condition(rt: &impl Abort, asked: u32, op: u16, test: Test) -> NamedCondition {
+    let args = Args::of(&[]).expect(rt, "too many arguments");
+    NamedCondition {
         asked: HandlerId(asked),
         request: Request { op, args },
         test,
-    })
+    }
 }
 
-fn has_conditions(rt: &impl Abort, system: &System) -> Result<(), Fail> {
+fn has_conditions(rt: &impl Abort, system: &System) {
     let line = b"reserve till 2 when till balance least 3 and 2 get most 9 and till 3 is 5 tries 7";
     let conditions = [
-        condition(1, 3, Test::Least(3))?,
-        condition(2, 2, Test::Most(9))?,
-        condition(1, 3, Test::Is(5))?,
+        condition(rt, 1, 3, Test::Least(3)),
+        condition(rt, 2, 2, Test::Most(9)),
+        condition(rt, 1, 3, Test::Is(5)),
     ];
     let wanted = ClientLine::ReserveWhen {
-        handlers: NamedHandlers::of(&[HandlerId(1), HandlerId(2)]).expect(rt, "failed"),
-        conditions: NamedConditions::of(&conditions).expect(rt, "failed"),
+        handlers: NamedHandlers::of(&[HandlerId(1), HandlerId(2)]).expect(rt, "too many handlers"),
+        conditions: NamedConditions::of(&conditions).expect(rt, "too many conditions"),
         tries: 7,
     };
-    are_equal(rt, read_line(system, line).expect(rt, "failed"), wanted);
-    Ok(())
+    reads(rt, system, line, &wanted);
 }
 
 #[test]
-fn a_line_has_several_conditions(rt: HostRuntime) -> Result<(), Fail> {
-    let system = System::read(rt.alloc(), SYSTEM).expect(&rt, "failed");
-    has_conditions(&rt, &system)?;
-    let nine = [condition(1, 3, Test::Is(5))?; 9];
+fn a_line_has_several_conditions(rt: HostRuntime) {
+    let system = read(&rt, rt.alloc(), SYSTEM);
+    has_conditions(&rt, &system);
+    let nine = [condition(&rt, 1, 3, Test::Is(5)); 9];
     are_equal(&rt, NamedConditions::of(&nine), Err(TooManyConditions));
-    are_equal(
-        &rt,
-        NamedConditions::of(&nine[..8])
-            .expect(&rt, "failed")
-            .as_slice()
-            .len(),
-        8,
-    );
-    Ok(())
+    let most = NamedConditions::of(&nine[..8]).expect(&rt, "too many");
+    are_equal(&rt, most.as_slice().len(), 8);
+}
+
+fn has_single_words(rt: &impl Abort, system: &System) {
+    reads(rt, system, b"giveup", &ClientLine::GiveUp);
+    reads(rt, system, b"help", &ClientLine::Help);
+    reads(rt, system, b" quit ", &ClientLine::Quit);
 }
 
 #[test]
 fn single_words_are_lines(rt: HostRuntime) {
-    let system = System::read(rt.alloc(), SYSTEM).expect(&rt, "failed");
-    for (line, wanted) in [
-        (&b"giveup"[..], ClientLine::GiveUp),
-        (b"help", ClientLine::Help),
-        (b" quit ", ClientLine::Quit),
-    ] {
-        assert!(rt; read_line(&system, line) == Ok(wanted));
-    }
+    let system = read(&rt, rt.alloc(), SYSTEM);
+    has_single_words(&rt, &system);
 }
 
-// The text of the fault of a line to this system.
-fn told(alloc: Global, system: &System, line: &[u8]) -> Result<String, Fail> {
-    match read_line(system, line) {
-        Ok(_) => Ok(String::new(alloc)),
-        Err(fault) => Ok(format!(in alloc; "{}", LineFaultIn { system, fault })?),
-    }
+// The line to this system has a fault with this text.
+fn tells(rt: &impl Abort, alloc: Global, system: &System, line: &[u8], wanted: &str) {
+    let Err(fault) = read_line(system, line) else {
+        panic!(rt; "no fault: {wanted}");
+    };
+    let told = format!(in alloc; "{}", LineFaultIn { system, fault }).expect(rt, "out of memory");
+    are_equal(rt, told.as_str(), wanted);
 }
 
 const FAULTS: [(&[u8], &str); 9] = [
@@ -149,11 +147,14 @@ const FAULTS: [(&[u8], &str); 9] = [
     ),
 ];
 
-#[test]
-fn a_fault_names_what_the_system_has(rt: HostRuntime) -> Result<(), Fail> {
-    let system = System::read(rt.alloc(), SYSTEM).expect(&rt, "failed");
+fn has_faults(rt: &impl Abort, alloc: Global, system: &System) {
     for (line, wanted) in &FAULTS {
-        are_equal(&rt, told(rt.alloc(), &system, line)?.as_str(), *wanted);
+        tells(rt, alloc, system, line, wanted);
     }
-    Ok(())
+}
+
+#[test]
+fn a_fault_names_what_the_system_has(rt: HostRuntime) {
+    let system = read(&rt, rt.alloc(), SYSTEM);
+    has_faults(&rt, rt.alloc(), &system);
 }

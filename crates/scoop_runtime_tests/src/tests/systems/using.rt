@@ -1,7 +1,8 @@
 //! Clients that use some of the handlers.
 
-use crate::tests::are_equal;
+use super::read;
 use crate::tests::text_lines::TextLines;
+use crate::tests::{are_equal, is_text};
 use scoop_message::{ClientId, HandlerId};
 use scoop_runtime::check_script;
 use scoop_system::System;
@@ -42,7 +43,7 @@ fn knows(rt: &impl Abort, alloc: Global, system: &System, number: u32, wanted: &
 
 #[test]
 fn a_client_knows_the_handlers_that_it_uses(rt: HostRuntime) {
-    let system = System::read(rt.alloc(), SYSTEM).expect(&rt, "failed");
+    let system = read(&rt, rt.alloc(), SYSTEM);
     knows(&rt, rt.alloc(), &system, 7, ONE);
     knows(&rt, rt.alloc(), &system, 8, BOTH);
 }
@@ -54,12 +55,12 @@ fn has_faults(rt: &impl Abort, alloc: Global, system: &System, number: u32, faul
     let client = system.client(ClientId(number));
     let is_right = check_script(system, client, &mut lines, &mut notes).expect(rt, "failed");
     are_equal(rt, is_right, faults.is_empty());
-    assert!(rt; notes.as_slice() == faults.as_bytes());
+    is_text(rt, &notes, faults);
 }
 
 #[test]
 fn a_script_names_handlers_that_its_client_uses(rt: HostRuntime) {
-    let system = System::read(rt.alloc(), SYSTEM).expect(&rt, "failed");
+    let system = read(&rt, rt.alloc(), SYSTEM);
     has_faults(&rt, rt.alloc(), &system, 7, FAULTS);
     has_faults(&rt, rt.alloc(), &system, 8, "");
 }
