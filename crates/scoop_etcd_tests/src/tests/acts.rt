@@ -46,7 +46,7 @@ pub fn word<K: Keeper<Global>>(keeper: &mut K, handler: u32) -> Result<Option<u6
     }
 }
 
-// Puts the state of this handler with this word.
+// The store puts the state of this handler with this word.
 fn puts(
     rt: &impl Abort,
     alloc: Global,

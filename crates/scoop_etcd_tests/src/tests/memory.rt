@@ -106,7 +106,7 @@ impl Memory {
         }
     }
 
-    // Copies the pairs that the range asks for.
+    // The pairs that the range asks for are copied.
     fn find(&self, range: &Range, found: &mut Vec<Pair>) -> Result<(), OutOfMemory> {
         for one in &self.pairs {
             if asks(range, &one.key) {
