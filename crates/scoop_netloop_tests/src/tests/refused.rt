@@ -132,7 +132,7 @@ fn heard_by(passes: &[Pass<Heap<'_>>]) -> usize {
     }
 }
 
-// Runs a loop over what this link brings, and closes its node.
+// A loop runs over what this link brings, and its node is closed.
 fn tries_link<'a, R>(
     rt: &R,
     alloc: Global,
