@@ -9,6 +9,5 @@ mod examples;
 mod tests;
 
 pub use examples::{
-    absent_keys, both_are_found, both_are_put, both_if_met, nothing_is_put, others_write,
-    prefix_range, two_callers,
+    absent_keys, both_are_found, both_are_put, nothing_is_put, others_write, two_callers,
 };

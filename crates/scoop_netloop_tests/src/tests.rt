@@ -27,18 +27,13 @@ const EIGHT: ClientId = ClientId(8);
 
 /// A client that knows one handler alone.
 fn client(rt: &impl Abort, alloc: Global, number: ClientId, handler: HandlerId) -> Client {
-    match Client::begin(alloc, number, 1, &[handler]) {
-        Ok(client) => client,
-        Err(_) => panic!(rt; "no client"),
-    }
+    Client::begin(alloc, number, 1, &[handler]).expect(rt, "no client")
 }
 
 /// A request of an account, with this argument.
 fn request(rt: &impl Abort, op: u16, argument: u64) -> Request {
-    match Args::of(&[argument]) {
-        Ok(args) => Request { op, args },
-        Err(_) => panic!(rt; "no request"),
-    }
+    let args = Args::of(&[argument]).expect(rt, "no request");
+    Request { op, args }
 }
 
 /// Both values are equal. It is proved once, where an `assert_eq!` would be proved in each function.

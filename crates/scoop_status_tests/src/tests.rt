@@ -6,7 +6,8 @@ mod texts;
 mod watching;
 
 use scoop_handler::{HandlerState, Heard, Mark, Note, Stage};
-use scoop_message::{Block, ClientId, HandlerId, Words};
+use scoop_keeper::Keeper;
+use scoop_message::{Block, ClientId, HandlerId, Message, Words};
 use scoop_queue::QueueOfQueues;
 use scoop_watch::{LogLevel, Settings, Watch};
 use std::alloc::Global;
@@ -48,9 +49,10 @@ fn watch(alloc: Global, log: LogLevel) -> Watch {
     Watch::new(alloc, settings)
 }
 
-// A message without a reply.
-fn heard(note: Note) -> Heard {
-    Heard { reply: None, note }
+// The keeper notes a message without a reply.
+fn hears<K: Keeper<Global>>(rt: &impl Abort, keeper: &mut K, message: &Message, note: Note) {
+    let heard = Heard { reply: None, note };
+    keeper.note_heard(message, &heard).expect(rt, "refused");
 }
 
 /// Both values are equal. It is proved once, where an `assert_eq!` would be proved in each function.

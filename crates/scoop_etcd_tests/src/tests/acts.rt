@@ -1,6 +1,7 @@
 //! Calls of a store, as rows with the expected results.
 
 use super::scripted::{Event, ScriptedEtcd};
+use crate::tests::are_equal;
 use scoop_etcd::{EtcdStore, OpenError, Owner, StoreFault};
 use scoop_handler::HandlerState;
 use scoop_keeper::{Keeper, KeeperError};
@@ -8,7 +9,6 @@ use scoop_message::{ClientId, HandlerId, Words};
 use scoop_queue::QueueOfQueues;
 use std::alloc::Global;
 use std::process::Abort;
-use std::test::Fail;
 
 /// The owner of the tests' store.
 pub const OWNER: Owner = Owner::Node(1);
@@ -46,13 +46,23 @@ pub fn word<K: Keeper<Global>>(keeper: &mut K, handler: u32) -> Result<Option<u6
     }
 }
 
+// The store puts the state of this handler with this word.
+fn puts(
+    rt: &impl Abort,
+    alloc: Global,
+    store: &mut EtcdStore<ScriptedEtcd>,
+    handler: u32,
+    word: u64,
+) -> Result<(), KeeperError> {
+    let state = state(rt, alloc, handler, word);
+    store.put_handler(&state)
+}
+
 /// Makes the call, and returns whether its result is the expected one.
 fn acts(rt: &impl Abort, alloc: Global, store: &mut EtcdStore<ScriptedEtcd>, act: Act) -> bool {
     match act {
-        Act::Put(handler, number) => store
-            .put_handler(&state(rt, alloc, handler, number))
-            .is_ok(),
-        Act::NoPut => store.put_handler(&state(rt, alloc, 1, 0)) == Err(KeeperError::Refused),
+        Act::Put(handler, number) => puts(rt, alloc, store, handler, number).is_ok(),
+        Act::NoPut => puts(rt, alloc, store, 1, 0) == Err(KeeperError::Refused),
         Act::Commit(done) => store.commit() == done,
         Act::Load(handler, found) => word(store, handler) == found,
         Act::Next(client, next) => store.next_incarnation(ClientId(client)) == next,
@@ -73,31 +83,41 @@ pub fn created(
     alloc: Global,
     script: &'static [Event],
     rows: &[Act],
-) -> Result<ScriptedEtcd, Fail> {
+) -> ScriptedEtcd {
     let etcd = ScriptedEtcd::new(alloc, script);
-    let mut store = EtcdStore::create(alloc, etcd, "shop", OWNER, [7; 16])?;
+    let mut store = EtcdStore::create(alloc, etcd, "shop", OWNER, [7; 16]).expect(rt, "no store");
     plays(rt, alloc, &mut store, rows);
-    Ok(store.into_etcd())
+    store.into_etcd()
 }
 
 /// The store that is there, taken over, after these calls; its etcd is returned.
-pub fn opened(
+pub fn opened(rt: &impl Abort, alloc: Global, etcd: ScriptedEtcd, rows: &[Act]) -> ScriptedEtcd {
+    let mut store = EtcdStore::open(alloc, etcd, "shop", OWNER, [8; 16]).expect(rt, "no store");
+    plays(rt, alloc, &mut store, rows);
+    store.into_etcd()
+}
+
+/// No store of this name is made, for this reason.
+pub fn not_created(
     rt: &impl Abort,
     alloc: Global,
     etcd: ScriptedEtcd,
-    rows: &[Act],
-) -> Result<ScriptedEtcd, Fail> {
-    let mut store = EtcdStore::open(alloc, etcd, "shop", OWNER, [8; 16])?;
-    plays(rt, alloc, &mut store, rows);
-    Ok(store.into_etcd())
+    name: &str,
+    wanted: OpenError,
+) {
+    let error = EtcdStore::create(alloc, etcd, name, OWNER, [7; 16]).err();
+    are_equal(rt, error, Some(wanted));
 }
 
-/// Why no store of this name is made, if none is.
-pub fn not_created(alloc: Global, etcd: ScriptedEtcd, name: &str) -> Option<OpenError> {
-    EtcdStore::create(alloc, etcd, name, OWNER, [7; 16]).err()
+/// No store is taken over, for this reason.
+pub fn not_opened(rt: &impl Abort, alloc: Global, etcd: ScriptedEtcd, wanted: OpenError) {
+    let error = EtcdStore::open(alloc, etcd, "shop", OWNER, [8; 16]).err();
+    are_equal(rt, error, Some(wanted));
 }
 
-/// Why no store of this name is taken over, if none is.
-pub fn not_opened(alloc: Global, etcd: ScriptedEtcd, name: &str) -> Option<OpenError> {
-    EtcdStore::open(alloc, etcd, name, OWNER, [8; 16]).err()
+/// Another program puts these values under these keys.
+pub fn puts_each(rt: &impl Abort, etcd: &mut ScriptedEtcd, rows: &[(&[u8], &[u8])]) {
+    for (key, value) in rows {
+        let _ = etcd.put(*key, *value).expect(rt, "no answer");
+    }
 }

@@ -59,9 +59,8 @@ fn changes(
     keeper: &mut impl Keeper<Global>,
     word: u64,
 ) -> Result<(), KeeperError> {
-    let state = state(rt, alloc, 1, word);
     hears(keeper, Note::Greeted)?;
-    keeper.put_handler(&state)
+    keeper.put_handler(&state(rt, alloc, 1, word))
 }
 
 // Whether another program takes the store over.
@@ -96,6 +95,13 @@ fn takes(rt: &impl Abort, setting: &mut Setting<'_>, step: Step) -> bool {
     }
 }
 
+// All steps of the keeper are as expected.
+fn takes_all(rt: &impl Abort, setting: &mut Setting<'_>, steps: &[Step]) {
+    for (i, step) in steps.iter().enumerate() {
+        assert!(rt; takes(rt, setting, *step), "step {i}");
+    }
+}
+
 // All steps of a keeper over a new store in an etcd with this script are as expected. Then its fate is this one, also after
 // the keeper is dropped.
 fn plays(
@@ -111,16 +117,13 @@ fn plays(
     let store = EtcdStore::create(alloc, LentEtcd::new(&etcd), "shop", OWNER, [7; 16]).expect(
         rt, "no store",
     );
-    let keeper = FatefulKeeper::new(store, &fate);
     let mut setting = Setting {
         alloc,
         etcd: &etcd,
         fate: &fate,
-        keeper,
+        keeper: FatefulKeeper::new(store, &fate),
     };
-    for (i, step) in steps.iter().enumerate() {
-        assert!(rt; takes(rt, &mut setting, *step), "step {i}");
-    }
+    takes_all(rt, &mut setting, steps);
     drop(setting);
     are_equal(rt, fate.fault(), fault);
 }
@@ -134,67 +137,72 @@ const DROPPED: Step = Step::Hears(Note::Dropped(Reason::Gap));
 
 const COMMITTED: Step = Step::Commits(Ok(()));
 
+const PASSED_ON: [Step; 13] = [
+    Step::Loads(1, Ok(None)),
+    Step::Changes(5),
+    Step::Loads(1, Ok(Some(5))),
+    Step::Finishes,
+    COMMITTED,
+    Step::Next(7, Ok(1)),
+    Step::Next(7, Ok(2)),
+    Step::Noted(None),
+    // from here on, this program is refused every call
+    Step::TakenOver,
+    Step::Changes(6),
+    Step::Commits(Err(REFUSED)),
+    Step::Loads(1, Err(REFUSED)),
+    Step::Next(7, Err(REFUSED)),
+];
+
 #[test]
 fn a_keeper_passes_each_call_on(rt: HostRuntime) {
-    let steps = [
-        Step::Loads(1, Ok(None)),
-        Step::Changes(5),
-        Step::Loads(1, Ok(Some(5))),
-        Step::Finishes,
-        COMMITTED,
-        Step::Next(7, Ok(1)),
-        Step::Next(7, Ok(2)),
-        Step::Noted(None),
-        // from here on, this program is refused every call
-        Step::TakenOver,
-        Step::Changes(6),
-        Step::Commits(Err(REFUSED)),
-        Step::Loads(1, Err(REFUSED)),
-        Step::Next(7, Err(REFUSED)),
-    ];
-    plays(&rt, rt.alloc(), &[], &steps, Some(EtcdFault::TakenOver));
+    let fault = Some(EtcdFault::TakenOver);
+    plays(&rt, rt.alloc(), &[], &PASSED_ON, fault);
 }
+
+const COMMITS: [Step; 16] = [
+    Step::Asked(1, 1),
+    COMMITTED,
+    Step::Asked(1, 1),
+    KNOWN,
+    DROPPED,
+    Step::Asked(1, 1),
+    COMMITTED,
+    Step::Asked(1, 2),
+    // a second commit has heard nothing
+    COMMITTED,
+    Step::Asked(1, 2),
+    // the transaction of a put compares the token itself
+    Step::Changes(5),
+    COMMITTED,
+    Step::Asked(2, 2),
+    DROPPED,
+    COMMITTED,
+    Step::Asked(2, 3),
+];
 
 /// A commit after messages that changed nothing costs one range, and no transaction.
 #[test]
 fn a_commit_asks_who_owns_the_record_if_nothing_was_put(rt: HostRuntime) {
-    let steps = [
-        Step::Asked(1, 1),
-        COMMITTED,
-        Step::Asked(1, 1),
-        KNOWN,
-        DROPPED,
-        Step::Asked(1, 1),
-        COMMITTED,
-        Step::Asked(1, 2),
-        // a second commit has heard nothing
-        COMMITTED,
-        Step::Asked(1, 2),
-        // the transaction of a put compares the token itself
-        Step::Changes(5),
-        COMMITTED,
-        Step::Asked(2, 2),
-        DROPPED,
-        COMMITTED,
-        Step::Asked(2, 3),
-    ];
-    plays(&rt, rt.alloc(), &[], &steps, None);
+    plays(&rt, rt.alloc(), &[], &COMMITS, None);
 }
+
+// What happens between a commit and one that is refused.
+const TAKEOVERS: [[Step; 3]; 8] = [
+    [Step::TakenOver, KNOWN, DROPPED],
+    [KNOWN, Step::TakenOver, KNOWN],
+    [KNOWN, KNOWN, Step::TakenOver],
+    [Step::TakenOver, Step::Changes(6), KNOWN],
+    [Step::TakenOver, KNOWN, Step::MayChange(6)],
+    [KNOWN, Step::TakenOver, Step::MayChange(6)],
+    [KNOWN, Step::Changes(6), Step::TakenOver],
+    [Step::Changes(6), KNOWN, Step::TakenOver],
+];
 
 /// No reply goes out after a takeover, whatever was heard and put since the last commit.
 #[test]
 fn no_commit_succeeds_after_a_takeover(rt: HostRuntime) {
-    let rows = [
-        [Step::TakenOver, KNOWN, DROPPED],
-        [KNOWN, Step::TakenOver, KNOWN],
-        [KNOWN, KNOWN, Step::TakenOver],
-        [Step::TakenOver, Step::Changes(6), KNOWN],
-        [Step::TakenOver, KNOWN, Step::MayChange(6)],
-        [KNOWN, Step::TakenOver, Step::MayChange(6)],
-        [KNOWN, Step::Changes(6), Step::TakenOver],
-        [Step::Changes(6), KNOWN, Step::TakenOver],
-    ];
-    for [first, second, third] in rows {
+    for [first, second, third] in TAKEOVERS {
         let steps = [
             Step::Changes(5),
             COMMITTED,
@@ -210,15 +218,17 @@ fn no_commit_succeeds_after_a_takeover(rt: HostRuntime) {
     }
 }
 
+// What is heard before a commit.
+const ORDERS: [[Step; 2]; 3] = [
+    [KNOWN, Step::Changes(6)],
+    [Step::Changes(6), KNOWN],
+    [Step::Changes(7), Step::Changes(6)],
+];
+
 /// Each order of messages is committed while the store owns its record.
 #[test]
 fn each_order_is_committed_before_a_takeover(rt: HostRuntime) {
-    let rows = [
-        [KNOWN, Step::Changes(6)],
-        [Step::Changes(6), KNOWN],
-        [Step::Changes(7), Step::Changes(6)],
-    ];
-    for [first, second] in rows {
+    for [first, second] in ORDERS {
         let steps = [
             first,
             second,
@@ -280,14 +290,16 @@ fn a_fate_has_the_last_refusal(rt: HostRuntime) {
     }
 }
 
+const NO_NEXT: [Step; 3] = [
+    Step::Next(7, Err(REFUSED)),
+    Step::Noted(Some(EtcdFault::NoSpace)),
+    Step::Next(7, Ok(1)),
+];
+
 /// The client's next incarnation is refused as a commit is.
 #[test]
 fn a_refused_incarnation_is_noted(rt: HostRuntime) {
-    let steps = [
-        Step::Next(7, Err(REFUSED)),
-        Step::Noted(Some(EtcdFault::NoSpace)),
-        Step::Next(7, Ok(1)),
-    ];
     let script = &[Event::Answered, Event::Refused(EtcdError::NoSpace)];
-    plays(&rt, rt.alloc(), script, &steps, Some(EtcdFault::NoSpace));
+    let fault = Some(EtcdFault::NoSpace);
+    plays(&rt, rt.alloc(), script, &NO_NEXT, fault);
 }

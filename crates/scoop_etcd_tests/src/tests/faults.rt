@@ -61,6 +61,18 @@ const ETCD_ERRORS: [(EtcdError, EtcdFault); 5] = [
     (EtcdError::BadAnswer, EtcdFault::BadAnswer),
 ];
 
+const STORE_FAULTS: [(StoreFault, EtcdFault); 2] = [
+    (StoreFault::TakenOver, EtcdFault::TakenOver),
+    (StoreFault::Overtaken, EtcdFault::Overtaken),
+];
+
+const OPEN_ERRORS: [(OpenError, EtcdFault); 4] = [
+    (OpenError::BadName, EtcdFault::Refused),
+    (OpenError::Exists, EtcdFault::Exists),
+    (OpenError::NoStore, EtcdFault::NoStore),
+    (OpenError::Raced, EtcdFault::Raced),
+];
+
 #[test]
 fn each_error_below_has_its_fault(rt: HostRuntime) {
     for (error, fault) in ETCD_ERRORS {
@@ -68,20 +80,10 @@ fn each_error_below_has_its_fault(rt: HostRuntime) {
         are_equal(&rt, EtcdFault::from(StoreFault::Etcd(error)), fault);
         are_equal(&rt, EtcdFault::from(OpenError::Etcd(error)), fault);
     }
-    let faults = [
-        (StoreFault::TakenOver, EtcdFault::TakenOver),
-        (StoreFault::Overtaken, EtcdFault::Overtaken),
-    ];
-    for (error, fault) in faults {
+    for (error, fault) in STORE_FAULTS {
         are_equal(&rt, EtcdFault::from(error), fault);
     }
-    let errors = [
-        (OpenError::BadName, EtcdFault::Refused),
-        (OpenError::Exists, EtcdFault::Exists),
-        (OpenError::NoStore, EtcdFault::NoStore),
-        (OpenError::Raced, EtcdFault::Raced),
-    ];
-    for (error, fault) in errors {
+    for (error, fault) in OPEN_ERRORS {
         are_equal(&rt, EtcdFault::from(error), fault);
     }
 }

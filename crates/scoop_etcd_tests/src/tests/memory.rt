@@ -13,11 +13,20 @@ pub struct Memory {
     pairs: Vec<Pair>,
 }
 
-fn copy_of(alloc: Global, pair: &Pair) -> Result<Pair, OutOfMemory> {
+/// Copies of a key and a value.
+pub fn copies(alloc: Global, key: &[u8], value: &[u8]) -> Result<(Vec<u8>, Vec<u8>), OutOfMemory> {
+    let key = Vec::from_slice(alloc, key)?;
+    let value = Vec::from_slice(alloc, value)?;
+    Ok((key, value))
+}
+
+// A pair with this revision.
+fn pair(alloc: Global, key: &[u8], value: &[u8], revision: u64) -> Result<Pair, OutOfMemory> {
+    let (key, value) = copies(alloc, key, value)?;
     Ok(Pair {
-        key: Vec::from_slice(alloc, &pair.key)?,
-        value: Vec::from_slice(alloc, &pair.value)?,
-        revision: pair.revision,
+        key,
+        value,
+        revision,
     })
 }
 
@@ -71,32 +80,45 @@ impl Memory {
         }
     }
 
+    // The pair takes the place of an older one.
+    fn replace(&mut self, place: usize, pair: Pair) {
+        if let Some(old) = self.pairs.get_mut(place) {
+            *old = pair;
+        }
+    }
+
+    fn insert(&mut self, place: usize, pair: Pair) -> Result<(), OutOfMemory> {
+        if place <= self.pairs.len() {
+            self.pairs.insert(place, pair)?;
+        }
+        Ok(())
+    }
+
     fn put(&mut self, put: &Put) -> Result<(), OutOfMemory> {
         let place = place_of(&self.pairs, &put.key);
-        let pair = Pair {
-            key: Vec::from_slice(self.alloc, &put.key)?,
-            value: Vec::from_slice(self.alloc, &put.value)?,
-            revision: self.revision,
-        };
-        if self.look(&put.key).is_some() {
-            if let Some(old) = self.pairs.get_mut(place) {
-                *old = pair;
+        let stands = self.look(&put.key).is_some();
+        let pair = pair(self.alloc, &put.key, &put.value, self.revision)?;
+        if stands {
+            self.replace(place, pair);
+            Ok(())
+        } else {
+            self.insert(place, pair)
+        }
+    }
+
+    // The pairs that the range asks for are copied.
+    fn find(&self, range: &Range, found: &mut Vec<Pair>) -> Result<(), OutOfMemory> {
+        for one in &self.pairs {
+            if asks(range, &one.key) {
+                found.push(pair(self.alloc, &one.key, &one.value, one.revision)?)?;
             }
-        } else if place <= self.pairs.len() {
-            self.pairs.insert(place, pair)?;
         }
         Ok(())
     }
 
     pub fn range(&self, range: &Range) -> Result<Found, EtcdError> {
         let mut pairs = Vec::new(self.alloc);
-        for pair in &self.pairs {
-            if asks(range, &pair.key) {
-                let Ok(()) = pairs.push(copy_of(self.alloc, pair)?) else {
-                    return Err(EtcdError::OutOfMemory);
-                };
-            }
-        }
+        self.find(range, &mut pairs)?;
         Ok(Found {
             revision: self.revision,
             pairs,

@@ -86,40 +86,49 @@ fn a_text_that_is_no_place_has_its_fault(rt: HostRuntime) {
     }
 }
 
+// Texts, and whether each begins as one of an etcd.
+const BEGINNINGS: [(&str, bool); 7] = [
+    ("etcd://", true),
+    ("etcd://a:1/b", true),
+    ("etcd://no place", true),
+    ("", false),
+    ("etcd:/a", false),
+    ("/etcd://a:1/b", false),
+    ("ETCD://a:1/b", false),
+];
+
 /// Any other text is a file's path.
 #[test]
 fn a_text_begins_as_one_of_an_etcd(rt: HostRuntime) {
-    for text in ["etcd://", "etcd://a:1/b", "etcd://no place"] {
-        assert!(rt; begins_as_etcd(text), "{text}");
-    }
-    for text in ["", "etcd:/a", "/etcd://a:1/b", "ETCD://a:1/b"] {
-        assert!(rt; !begins_as_etcd(text), "{text}");
+    for (text, begins) in BEGINNINGS {
+        are_equal(&rt, (text, begins_as_etcd(text)), (text, begins));
     }
 }
 
+const FAULTS: [(PlaceFault, &str); 6] = [
+    (PlaceFault::NotEtcd, "it doesn't begin with etcd://"),
+    (
+        PlaceFault::NoMember,
+        "it names no member: write etcd://HOST:PORT,HOST:PORT/NAME",
+    ),
+    (PlaceFault::TooManyMembers, "it names more than 8 members"),
+    (
+        PlaceFault::BadMember,
+        "a member must be HOST:PORT, with a port from 1 to 65535",
+    ),
+    (
+        PlaceFault::NoName,
+        "it has no name: write etcd://HOST:PORT,HOST:PORT/NAME",
+    ),
+    (
+        PlaceFault::BadName,
+        "its name must be 1 to 64 letters, digits, -, _ and .",
+    ),
+];
+
 #[test]
 fn a_fault_of_a_place_says_what_to_write(rt: HostRuntime) {
-    let faults = [
-        (PlaceFault::NotEtcd, "it doesn't begin with etcd://"),
-        (
-            PlaceFault::NoMember,
-            "it names no member: write etcd://HOST:PORT,HOST:PORT/NAME",
-        ),
-        (PlaceFault::TooManyMembers, "it names more than 8 members"),
-        (
-            PlaceFault::BadMember,
-            "a member must be HOST:PORT, with a port from 1 to 65535",
-        ),
-        (
-            PlaceFault::NoName,
-            "it has no name: write etcd://HOST:PORT,HOST:PORT/NAME",
-        ),
-        (
-            PlaceFault::BadName,
-            "its name must be 1 to 64 letters, digits, -, _ and .",
-        ),
-    ];
-    for (fault, wanted) in faults {
+    for (fault, wanted) in FAULTS {
         let text = format!(in rt.alloc(); "{fault}").expect(&rt, "no memory");
         are_equal(&rt, text.as_str(), wanted);
     }

@@ -1,6 +1,6 @@
 //! An etcd whose answers are lost, or that another program writes, at some of its transactions.
 
-use super::memory::Memory;
+use super::memory::{Memory, copies};
 use scoop_etcd::{Etcd, EtcdError};
 use scoop_etcd_calls::{Found, Outcome, Put, Range, Txn};
 use scoop_message::OutOfMemory;
@@ -65,11 +65,11 @@ impl ScriptedEtcd {
 
 // Puts the value under the key.
 fn putting(alloc: Global, key: &[u8], value: &[u8]) -> Result<Txn, OutOfMemory> {
-    let key = Vec::from_slice(alloc, key)?;
-    let value = Vec::from_slice(alloc, value)?;
+    let (key, value) = copies(alloc, key, value)?;
+    let puts = vec![in alloc; Put { key, value }]?;
     Ok(Txn {
         compares: Vec::new(alloc),
-        puts: vec![in alloc; Put { key, value }]?,
+        puts,
     })
 }
 

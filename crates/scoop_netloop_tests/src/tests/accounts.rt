@@ -1,6 +1,6 @@
 //! Books and nodes of two accounts.
 
-ghost use Rattle.std.specs.Prelude.{◌≡◌, IfSome, length};
+ghost use Rattle.std.specs.Prelude.{◌≡◌, length};
 
 use super::{ONE, TWO};
 use scoop_book::{Book, Node, Pass};
@@ -28,40 +28,53 @@ const AMOUNT: Term = Term::Arg(0);
 
 const NOTHING: Term = Term::Const(0);
 
-fn row(op: u16, test: Option<(Term, Term)>, base: Term, plus: Term, minus: Term) -> Option<OpRow> {
+fn row(
+    rt: &impl Abort,
+    op: u16,
+    test: Option<(Term, Term)>,
+    base: Term,
+    plus: Term,
+    minus: Term,
+) -> OpRow {
     let write = Write {
         word: 0,
         base,
         plus,
         minus,
     };
-    Some(OpRow {
+    OpRow {
         op,
         test,
-        writes: Writes::of(&[write]).ok()?,
+        writes: Writes::of(&[write]).expect(rt, "too many writes"),
         answer: BALANCE_NOW,
-    })
+    }
 }
 
-fn class(alloc: Global) -> Option<Class> {
+fn class(rt: &impl Abort, alloc: Global) -> Class {
     let covered = Some((AMOUNT, BALANCE_NOW));
-    let deposit = row(DEPOSIT, None, BALANCE_NOW, AMOUNT, NOTHING)?;
-    let withdraw = row(WITHDRAW, covered, BALANCE_NOW, NOTHING, AMOUNT)?;
-    let balance = row(BALANCE, None, BALANCE_NOW, NOTHING, NOTHING)?;
-    let set = row(SET, None, AMOUNT, NOTHING, NOTHING)?;
-    Class::build(alloc, 1, &[deposit, withdraw, balance, set]).ok()
+    let deposit = row(rt, DEPOSIT, None, BALANCE_NOW, AMOUNT, NOTHING);
+    let withdraw = row(rt, WITHDRAW, covered, BALANCE_NOW, NOTHING, AMOUNT);
+    let balance = row(rt, BALANCE, None, BALANCE_NOW, NOTHING, NOTHING);
+    let set = row(rt, SET, None, AMOUNT, NOTHING, NOTHING);
+    Class::build(alloc, 1, &[deposit, withdraw, balance, set]).expect(rt, "no class")
 }
 
-fn account(alloc: Global, number: HandlerId) -> Option<(HandlerId, Class, Table)> {
-    let object = Table::new(class(alloc)?, Words::of(&[0]).ok()?).ok()?;
-    Some((number, class(alloc)?, object))
+fn account(rt: &impl Abort, alloc: Global, number: HandlerId) -> (HandlerId, Class, Table) {
+    let words = Words::of(&[0]).expect(rt, "no words");
+    let object = Table::new(class(rt, alloc), words).expect(rt, "no object");
+    (number, class(rt, alloc), object)
 }
 
-// The handlers of a book or node, which has them or none.
-fn accounts(alloc: Global) -> Option<Vec<(HandlerId, Class, Table)>>
-    ensures { IfSome result (λ all. length all.items ≡ 2) }
+// The handlers of a book or node.
+fn accounts(rt: &impl Abort, alloc: Global) -> Vec<(HandlerId, Class, Table)>
+    ensures { length result.items ≡ 2 }
 {
-    vec![in alloc; account(alloc, ONE)?, account(alloc, TWO)?].ok()
+    let one = account(rt, alloc, ONE);
+    let two = account(rt, alloc, TWO);
+    match vec![in alloc; one, two] {
+        Ok(accounts) => accounts,
+        Err(_) => panic!(rt; "out of memory"),
+    }
 }
 
 /// A book of handlers 1 and 2 over this heap, each with an account of balance 0.
@@ -70,13 +83,8 @@ pub fn book<A: Allocator + Copy>(
     alloc: Global,
     heap: A,
 ) -> Book<Table, MemoryKeeper<A>, A> {
-    let Some(accounts) = accounts(alloc) else {
-        panic!(rt; "no accounts");
-    };
-    match Book::open(heap, accounts, MemoryKeeper::new(heap)) {
-        Ok(book) => book,
-        Err(_) => panic!(rt; "no book"),
-    }
+    let accounts = accounts(rt, alloc);
+    Book::open(heap, accounts, MemoryKeeper::new(heap)).expect(rt, "no book")
 }
 
 /// A node of handlers 1 and 2 over this heap and keeper, each with an account of balance 0 where it has no
@@ -88,11 +96,6 @@ pub fn node<A: Allocator + Copy, K: Keeper<A>>(
     keeper: K,
     passes: u32,
 ) -> (Node<Table, K, A>, Vec<Pass<A>, A>) {
-    let Some(accounts) = accounts(alloc) else {
-        panic!(rt; "no accounts");
-    };
-    match Node::open(heap, accounts, keeper, passes) {
-        Ok(opened) => opened,
-        Err(_) => panic!(rt; "no node"),
-    }
+    let accounts = accounts(rt, alloc);
+    Node::open(heap, accounts, keeper, passes).expect(rt, "no node")
 }

@@ -14,36 +14,33 @@ use scoop_message::limits::BUFFER_LEN;
 use scoop_netloop::{Answered, LoopLink, answer_datagram};
 use scoop_object::Table;
 use std::process::Abort;
-use std::test::Fail;
 
-// Each part of the example borrows what it works on, so that no early return has to drop it.
-fn answers(rt: &impl Abort, book: &mut Book<Table, MemoryKeeper>) -> Result<(), Fail> {
+// Each part of the example borrows what it works on, so that few values are owned where a call can fail.
+fn answers(rt: &impl Abort, book: &mut Book<Table, MemoryKeeper>) {
     // client 7 greets handler 1 of the book, and the handler's reply is a frame too
     let hello = b"SQ\x01\x01\0\0\0\x01\0\0\0\x07\0\0\0\x01\0\0\0\0\0\0\0\0\0\0";
     let mut reply = [0; BUFFER_LEN];
-    let answered = answer_datagram(book, 0, hello, &mut reply)?;
+    let answered = answer_datagram(book, 0, hello, &mut reply).expect(rt, "no answer");
     are_equal(rt, answered, Answered::Reply(26, Note::Greeted));
     // what is no frame is told as such, and nothing has happened
-    let cut = answer_datagram(book, 0, &hello[..25], &mut reply)?;
+    let cut = answer_datagram(book, 0, &hello[..25], &mut reply).expect(rt, "no answer");
     are_equal(rt, cut, Answered::RefusedFrame(FrameError::Short));
-    Ok(())
 }
 
-fn reaches(rt: &impl Abort, driver: &mut Looped) -> Result<(), Fail> {
+fn reaches(rt: &impl Abort, driver: &mut Looped) {
     // its first turn greets the handler, and then it reserves
-    are_equal(rt, driver.turn()?, Some(ClientNote::Welcomed(ONE)));
-    driver.reserve(&[ONE])?;
-    Ok(())
+    are_equal(rt, driver.turn(), Ok(Some(ClientNote::Welcomed(ONE))));
+    driver.reserve(&[ONE]).expect(rt, "not reserved");
 }
 
 /// The example of `scoop_netloop`.
 #[test]
-fn a_book_answers_datagrams(rt: HostRuntime) -> Result<(), Fail> {
+fn a_book_answers_datagrams(rt: HostRuntime) {
     let alloc = rt.alloc();
     let mut book = book(&rt, alloc, alloc);
-    answers(&rt, &mut book)?;
+    answers(&rt, &mut book);
     // a client's driver reaches the same book without a network
     let link = LoopLink::new(alloc, book, 0);
     let mut driver = Driver::new(client(&rt, alloc, SEVEN, ONE), link, 10);
-    reaches(&rt, &mut driver)
+    reaches(&rt, &mut driver);
 }

@@ -29,10 +29,8 @@ const UNLOCK: Message = Message::Unlock(ONE, FIRST);
 /// The first entry of the block: a deposit of 50.
 pub fn deposit(rt: &impl Abort) -> Message {
     let entry = Entry::Call(request(rt, DEPOSIT, 50));
-    match Entries::of(&[entry]) {
-        Ok(entries) => Message::Log(ONE, FIRST, 1, entries),
-        Err(_) => panic!(rt; "no entries"),
-    }
+    let entries = Entries::of(&[entry]).expect(rt, "no entries");
+    Message::Log(ONE, FIRST, 1, entries)
 }
 
 /// The messages of client 7 up to its first entry.
@@ -54,18 +52,19 @@ pub fn frame_to(rt: &impl Abort, message: &Message, buffer: &mut [u8; BUFFER_LEN
 fn feed(rt: &impl Abort, link: &mut TapeLink, message: &Message) {
     let mut buffer = [0; BUFFER_LEN];
     let len = frame_to(rt, message, &mut buffer);
-    let fed = link.feed(&buffer[..len]).is_ok();
-    assert!(rt; fed);
+    link.feed(&buffer[..len]).expect(rt, "out of memory");
+}
+
+fn feed_all(rt: &impl Abort, link: &mut TapeLink, messages: &[Message]) {
+    for message in messages {
+        feed(rt, link, message);
+    }
 }
 
 /// A tape to which these messages are to come, and with room for what is sent.
 pub fn tape(rt: &impl Abort, alloc: Global, messages: &[Message]) -> TapeLink {
-    let Ok(mut link) = TapeLink::new(alloc, 8) else {
-        panic!(rt; "no tape");
-    };
-    for message in messages {
-        feed(rt, &mut link, message);
-    }
+    let mut link = TapeLink::new(alloc, 8).expect(rt, "no tape");
+    feed_all(rt, &mut link, messages);
     link
 }
 
@@ -73,6 +72,12 @@ pub fn tape(rt: &impl Abort, alloc: Global, messages: &[Message]) -> TapeLink {
 pub fn sends<L: Link>(rt: &impl Abort, link: &mut L, to: Party, message: &Message) {
     let mut buffer = [0; BUFFER_LEN];
     let len = frame_to(rt, message, &mut buffer);
-    let sent = link.send(to, &buffer[..len]).is_ok();
-    assert!(rt; sent);
+    link.send(to, &buffer[..len]).expect(rt, "not sent");
+}
+
+/// Sends the frames of these messages to handler 1.
+pub fn sends_all<L: Link>(rt: &impl Abort, link: &mut L, messages: &[Message]) {
+    for message in messages {
+        sends(rt, link, Party::Handler(ONE), message);
+    }
 }

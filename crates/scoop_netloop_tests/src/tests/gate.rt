@@ -1,6 +1,6 @@
 //! Two handlers that run side by side, over UDP.
 
-use super::frames::{FIRST, deposit, first_messages, sends, tape};
+use super::frames::{FIRST, deposit, first_messages, sends, sends_all, tape};
 use super::loops::{Passes, balance, closes, opened, turns};
 use super::{EIGHT, ONE, SEVEN, TWO, client};
 use crate::tests::are_equal;
@@ -63,17 +63,20 @@ impl Gate for Held {
 
 // Free ports.
 fn ports<R: Net + Abort, const N: usize>(rt: &R) -> [u16; N] {
-    match free_ports::<R, N>(rt) {
-        Ok(ports) => ports,
-        Err(error) => panic!(rt; "{error}"),
-    }
+    free_ports::<R, N>(rt).expect(rt, "no ports")
 }
 
 // A link from this port.
 fn open<R: Net + Abort>(rt: &R, alloc: Global, own: u16, table: &[(Party, u16)]) -> UdpLink {
-    match UdpLink::open(rt, alloc, Peers { own, table }) {
-        Ok(link) => link,
-        Err(error) => panic!(rt; "{error}"),
+    UdpLink::open(rt, alloc, Peers { own, table }).expect(rt, "no link")
+}
+
+// The client's turns, until it hears something.
+fn greets<L: Link>(driver: &mut Driver<L>) {
+    for _ in 0..200 {
+        if let Ok(Some(_)) = driver.turn() {
+            break;
+        }
     }
 }
 
@@ -86,11 +89,7 @@ fn asks<L: Link>(
     handler: HandlerId,
 ) -> Result<Answer, DriverError> {
     let mut driver = Driver::new(client(rt, alloc, number, handler), link, 2_000);
-    for _ in 0..200 {
-        if let Ok(Some(_)) = driver.turn() {
-            break;
-        }
-    }
+    greets(&mut driver);
     balance(rt, &mut driver, handler)
 }
 
@@ -185,10 +184,8 @@ fn paced<R: Net + Abort>(
     node: u16,
 ) -> PacedLink<Sealed> {
     let link = open(rt, alloc, own, &[(Party::Handler(handler), node)]);
-    match PacedLink::new(alloc, SealedLink::new(link, Key::new(KEY)), 1, 1) {
-        Ok(link) => link,
-        Err(_) => panic!(rt; "no link"),
-    }
+    let sealed = SealedLink::new(link, Key::new(KEY));
+    PacedLink::new(alloc, sealed, 1, 1).expect(rt, "no link")
 }
 
 // Client 8's first block.
@@ -230,16 +227,44 @@ fn make_forgers<R: Net + Abort>(rt: &R, alloc: Global, parties: [u16; 3]) -> For
     Forgers { bare, sealed }
 }
 
+// Each forger sends its messages.
+fn both_forge(rt: &impl Abort, forgers: &mut Forgers) {
+    forge(rt, &mut forgers.bare);
+    forge(rt, &mut forgers.sealed);
+}
+
 // Forges until client 8 has its answer, and at least once.
 fn forges<R: Clock + Abort>(rt: &R, forgers: &mut Forgers, gate: &Held) {
     for _ in 0..LOOKS {
-        forge(rt, &mut forgers.bare);
-        forge(rt, &mut forgers.sealed);
+        both_forge(rt, forgers);
         if gate.answered.load(Ordering::SeqCst) {
             return;
         }
         thread::sleep(rt, Duration::from_millis(2));
     }
+}
+
+// Client 7 is held as without forgers, which forge all the while.
+fn one_is_held_beside<R, L, M>(
+    rt: &R,
+    alloc: Global,
+    link: &mut L,
+    first: M,
+    second: M,
+    forgers: &mut Forgers,
+)
+where
+    R: Threads + Wait + Clock + Abort + Sync,
+    L: Link + Send,
+    M: Link + Send,
+{
+    let gate = Held::new();
+    both_forge(rt, forgers);
+    thread::join(
+        rt,
+        || one_is_held(rt, alloc, link, first, second, &gate),
+        || forges(rt, forgers, &gate),
+    );
 }
 
 #[test]
@@ -251,14 +276,7 @@ fn nothing_forged_is_heard_under_seals(rt: HostRuntime) {
     let first = paced(&rt, alloc, seven, ONE, node);
     let second = paced(&rt, alloc, eight, TWO, node);
     let mut forgers = make_forgers(&rt, alloc, [node, seven, eight]);
-    let gate = Held::new();
-    forge(&rt, &mut forgers.bare);
-    forge(&rt, &mut forgers.sealed);
-    thread::join(
-        &rt,
-        || one_is_held(&rt, alloc, &mut link, first, second, &gate),
-        || forges(&rt, &mut forgers, &gate),
-    );
+    one_is_held_beside(&rt, alloc, &mut link, first, second, &mut forgers);
     assert!(rt; link.refused() >= 2);
 }
 
@@ -294,28 +312,20 @@ where
 // The executor's pass has the run of the entry.
 fn has_run(rt: &impl Abort, pass: &Pass) {
     let mut entries = pass.events().reader();
-    let Some((_, _, begun)) = entries.next_entry() else {
-        panic!(rt; "no entry");
-    };
+    let (_, _, begun) = entries.next_entry().expect(rt, "no entry");
     are_equal(rt, begun, Reply::Began(Some((FIRST, 1))));
     are_equal(rt, pass.events().len(), 3);
 }
 
-#[test]
-fn a_gate_that_stays_shut_ends_the_loop(rt: HostRuntime) {
-    let alloc = rt.alloc();
-    let [node, seven] = ports::<_, 2>(&rt);
-    let mut link = open(&rt, alloc, node, &[(Party::Client(SEVEN), seven)]);
-    let mut client = open(&rt, alloc, seven, &[(Party::Handler(ONE), node)]);
-    for message in first_messages(&rt).iter() {
-        sends(&rt, &mut client, Party::Handler(ONE), message);
-    }
-    let keeper = kept_by_shut(&rt, alloc, &mut link);
-    // the entry is still pending
-    let mut tape = tape(&rt, alloc, &[deposit(&rt)]);
-    let (node, passes) = opened(&rt, alloc, keeper, 2);
+// The node of this record runs the entry that is still pending.
+fn runs_pending<R>(rt: &R, alloc: Global, keeper: MemoryKeeper)
+where
+    R: Threads + Wait + Clock + Abort + Sync,
+{
+    let mut tape = tape(rt, alloc, &[deposit(rt)]);
+    let (node, passes) = opened(rt, alloc, keeper, 2);
     let passes = turns(
-        &rt,
+        rt,
         alloc,
         &node,
         &mut tape,
@@ -325,5 +335,16 @@ fn a_gate_that_stays_shut_ends_the_loop(rt: HostRuntime) {
         1,
         ServeEnd::TurnsOver,
     );
-    has_run(&rt, &passes.list[1]);
+    has_run(rt, &passes.list[1]);
+}
+
+#[test]
+fn a_gate_that_stays_shut_ends_the_loop(rt: HostRuntime) {
+    let alloc = rt.alloc();
+    let [node, seven] = ports::<_, 2>(&rt);
+    let mut link = open(&rt, alloc, node, &[(Party::Client(SEVEN), seven)]);
+    let mut client = open(&rt, alloc, seven, &[(Party::Handler(ONE), node)]);
+    sends_all(&rt, &mut client, &first_messages(&rt));
+    let keeper = kept_by_shut(&rt, alloc, &mut link);
+    runs_pending(&rt, alloc, keeper);
 }

@@ -71,10 +71,8 @@ pub fn closes<R: Wait + Abort, K: Keeper<Global>>(
     node: Node<Table, K>,
     passes: Passes,
 ) -> K {
-    match node.close(rt, passes.list) {
-        Ok(closed) => closed.keeper,
-        Err(_) => panic!(rt; "not closed"),
-    }
+    let closed = node.close(rt, passes.list).ok();
+    closed.expect(rt, "not closed").keeper
 }
 
 /// The driver of client 7, which knows this handler of the book.

@@ -40,12 +40,8 @@ struct Painter {
 }
 
 fn make_painter(rt: &impl Abort, alloc: Global, number: ClientId, colour: u64) -> Painter {
-    let Ok((link, end)) = ScriptLink::pair(alloc, LOSSY, LOSSY, ROOM) else {
-        panic!(rt; "no link");
-    };
-    let Ok(client) = Client::begin(alloc, number, 1, &[ONE, TWO]) else {
-        panic!(rt; "no client");
-    };
+    let (link, end) = ScriptLink::pair(alloc, LOSSY, LOSSY, ROOM).expect(rt, "no link");
+    let client = Client::begin(alloc, number, 1, &[ONE, TWO]).expect(rt, "no client");
     Painter {
         driver: Driver::new(client, link, 0),
         end,
@@ -55,24 +51,35 @@ fn make_painter(rt: &impl Abort, alloc: Global, number: ClientId, colour: u64) -
     }
 }
 
-// The book answers what has come to the node's end, and runs what it can.
+// The book answers a datagram, and runs what it can.
+fn answer(
+    rt: &impl Abort,
+    book: &mut Painted,
+    end: &mut ScriptLink,
+    client: ClientId,
+    datagram: &[u8],
+) {
+    let mut out = [0; BUFFER_LEN];
+    match answer_datagram(book, 0, datagram, &mut out) {
+        Ok(Answered::Reply(len, _)) => {
+            end.send(Party::Client(client), &out[..len])
+                .expect(rt, "not sent");
+        }
+        Ok(Answered::Silent(_)) => {}
+        Ok(Answered::RefusedFrame(_)) | Err(_) => panic!(rt; "not answered"),
+    }
+    run_out(book, 0, ONE).expect(rt, "not run");
+    run_out(book, 0, TWO).expect(rt, "not run");
+}
+
+// The book answers what has come to the node's end.
 fn answer_all(rt: &impl Abort, book: &mut Painted, end: &mut ScriptLink, client: ClientId) {
     let mut buffer = [0; BUFFER_LEN];
-    let mut out = [0; BUFFER_LEN];
     for _ in 0..ROOM {
         let Ok(Some(len)) = end.receive(&mut buffer) else {
             return;
         };
-        match answer_datagram(book, 0, &buffer[..len], &mut out) {
-            Ok(Answered::Reply(len, _)) => {
-                assert!(rt; end.send(Party::Client(client), &out[..len]).is_ok());
-            }
-            Ok(Answered::Silent(_)) => {}
-            Ok(Answered::RefusedFrame(_)) | Err(_) => panic!(rt; "not answered"),
-        }
-        for handler in [ONE, TWO] {
-            assert!(rt; run_out(book, 0, handler).is_ok());
-        }
+        answer(rt, book, end, client, &buffer[..len]);
     }
 }
 

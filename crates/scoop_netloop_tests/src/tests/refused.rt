@@ -2,6 +2,7 @@
 
 use super::accounts::{book, node};
 use super::frames::{first_messages, tape};
+use crate::tests::are_equal;
 use scoop_book::{Book, Event, History, Node, Pass, Reply};
 use scoop_handler::{Done, Heard, Ran};
 use scoop_keeper::MemoryKeeper;
@@ -13,7 +14,6 @@ use scoop_refusing::Refusing;
 use std::alloc::Global;
 use std::process::Abort;
 use std::sync::Wait;
-use std::test::Fail;
 use std::thread::Threads;
 use std::time::Clock;
 
@@ -90,9 +90,7 @@ fn all_happen(
 
 /// The history happens again at a book that has just opened.
 fn replays<'a>(rt: &impl Abort, alloc: Global, history: &History<Heap<'a>>) {
-    let Ok(history) = history.to_vec(alloc) else {
-        panic!(rt; "out of memory");
-    };
+    let history = history.to_vec(alloc).expect(rt, "out of memory");
     let mut book = book(rt, alloc, alloc);
     let mut out = None;
     all_happen(rt, &mut book, &mut out, &history);
@@ -122,10 +120,34 @@ where
 
 /// The node is closed over a history that replays.
 fn closes<'a>(rt: &(impl Abort + Wait), alloc: Global, node: HeapNode<'a>, passes: HeapPasses<'a>) {
-    match node.close(rt, passes) {
-        Ok(closed) => replays(rt, alloc, &closed.history),
-        Err(_) => panic!(rt; "not closed"),
+    let closed = node.close(rt, passes).ok().expect(rt, "not closed");
+    replays(rt, alloc, &closed.history);
+}
+
+// How many messages were heard.
+fn heard_by(passes: &[Pass<Heap<'_>>]) -> usize {
+    match passes.first() {
+        Some(pass) => pass.events().len(),
+        None => 0,
     }
+}
+
+// A loop runs over what this link brings, and its node is closed.
+fn tries_link<'a, R>(
+    rt: &R,
+    alloc: Global,
+    heap: Heap<'a>,
+    link: &mut TapeLink,
+    number: u64,
+) -> (ServeEnd, bool, usize)
+where
+    R: Threads + Wait + Clock + Abort + Sync,
+{
+    let (node, passes) = node(rt, alloc, heap, MemoryKeeper::new(heap), 2);
+    let (end, refused, passes) = loops(rt, heap, &node, link, passes, number);
+    let heard = heard_by(&passes);
+    closes(rt, alloc, node, passes);
+    (end, refused, heard)
 }
 
 /// Runs a loop over the first messages of a client.
@@ -134,14 +156,8 @@ where
     R: Threads + Wait + Clock + Abort + Sync,
 {
     let heap = Refusing::new(alloc, 0);
-    let (node, passes) = node(rt, alloc, &heap, MemoryKeeper::new(&heap), 2);
     let mut link = tape(rt, alloc, &first_messages(rt));
-    let (end, refused, passes) = loops(rt, &heap, &node, &mut link, passes, number);
-    let heard = match passes.first() {
-        Some(pass) => pass.events().len(),
-        None => 0,
-    };
-    closes(rt, alloc, node, passes);
+    let (end, refused, heard) = tries_link(rt, alloc, &heap, &mut link, number);
     Trial {
         end,
         refused,
@@ -152,14 +168,14 @@ where
 
 /// An executor's end doesn't show behind the receiver's, whose turns may be over first.
 #[test]
-fn a_loop_ends_where_memory_is_refused(rt: HostRuntime) -> Result<(), Fail> {
+fn a_loop_ends_where_memory_is_refused(rt: HostRuntime) {
     let mut unsent = false;
     for number in 1..200u64 {
         let trial = tries(&rt, rt.alloc(), number);
         if !trial.refused {
-            assert!(rt; (trial.end, trial.heard) == (ServeEnd::TurnsOver, 5));
+            are_equal(&rt, (trial.end, trial.heard), (ServeEnd::TurnsOver, 5));
             assert!(rt; unsent);
-            return Ok(());
+            return;
         }
         assert!(rt; trial.end == ServeEnd::OutOfMemory || trial.heard == 5);
         // The greeting is heard and stands, but no executor can be told of its handler.
@@ -167,5 +183,5 @@ fn a_loop_ends_where_memory_is_refused(rt: HostRuntime) -> Result<(), Fail> {
             unsent = true;
         }
     }
-    Err("too many growths".into())
+    panic!(rt; "too many growths");
 }

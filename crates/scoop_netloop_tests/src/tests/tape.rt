@@ -1,6 +1,6 @@
 //! A node over a tape.
 
-use super::frames::{FIRST, HELLO, LOCK, sends, tape};
+use super::frames::{FIRST, HELLO, LOCK, sends_all, tape};
 use super::loops::{Passes, closes, opened, turns};
 use super::{ONE, SEVEN};
 use crate::tests::are_equal;
@@ -23,13 +23,20 @@ type MemoryNode = Node<Table, MemoryKeeper>;
 const EARLY: [Message; 3] = [LOCK, HELLO, LOCK];
 
 fn has_sent(rt: &impl Abort, link: &TapeLink, i: usize, message: Message) {
-    match link.sent(i) {
-        Some((to, bytes)) => {
-            are_equal(rt, to, Party::Client(SEVEN));
-            are_equal(rt, decode(bytes), Ok((Version::One, message)));
-        }
-        None => panic!(rt; "nothing was sent"),
-    }
+    let (to, bytes) = link.sent(i).expect(rt, "nothing was sent");
+    are_equal(rt, to, Party::Client(SEVEN));
+    are_equal(rt, decode(bytes), Ok((Version::One, message)));
+}
+
+// The link has sent no more than this many.
+fn has_no_more(rt: &impl Abort, link: &TapeLink, count: usize) {
+    are_equal(rt, link.sent(count), None);
+}
+
+fn has_sent_both(rt: &impl Abort, link: &TapeLink) {
+    has_sent(rt, link, 0, Message::Welcome(ONE, SEVEN, 1));
+    has_sent(rt, link, 1, Message::Locked(ONE, FIRST));
+    has_no_more(rt, link, 2);
 }
 
 // The node hears all three messages by this link.
@@ -87,9 +94,7 @@ fn a_greeting_and_a_lock_are_answered(rt: HostRuntime) {
         ServeEnd::TurnsOver,
     );
     let _keeper = closes(&rt, node, passes);
-    has_sent(&rt, &link, 0, Message::Welcome(ONE, SEVEN, 1));
-    has_sent(&rt, &link, 1, Message::Locked(ONE, FIRST));
-    assert!(rt; link.sent(2).is_none());
+    has_sent_both(&rt, &link);
 }
 
 // Both ends of a link: the fifth call at the first end is the send of the second reply, and fails.
@@ -99,19 +104,14 @@ fn faulty(rt: &impl Abort, alloc: Global) -> (ScriptLink, ScriptLink) {
         double_every: 0,
         fail_at: 5,
     };
-    match ScriptLink::pair(alloc, script, Script::default(), 8) {
-        Ok(ends) => ends,
-        Err(_) => panic!(rt; "no link"),
-    }
+    ScriptLink::pair(alloc, script, Script::default(), 8).expect(rt, "no link")
 }
 
 #[test]
 fn a_loop_goes_on_after_a_fault_with_another_link(rt: HostRuntime) {
     let alloc = rt.alloc();
     let (mut link, mut other) = faulty(&rt, alloc);
-    for message in EARLY.iter() {
-        sends(&rt, &mut other, Party::Handler(ONE), message);
-    }
+    sends_all(&rt, &mut other, &EARLY);
     let (node, passes) = opened(&rt, alloc, MemoryKeeper::new(alloc), 2);
     // a fault of a link doesn't ask the stop
     let stop = Stop::new();
@@ -148,9 +148,8 @@ where
         10,
         ServeEnd::NodeFailed,
     );
-    let keeper = closes(rt, node, passes).into_inner();
-    assert!(rt; link.sent(1).is_none());
-    keeper
+    has_no_more(rt, &link, 1);
+    closes(rt, node, passes).into_inner()
 }
 
 #[test]
@@ -184,26 +183,20 @@ where
     link
 }
 
-fn has_sent_both(rt: &impl Abort, link: &HoldingLink<TapeLink>) {
-    has_sent(rt, link.inner(), 0, Message::Welcome(ONE, SEVEN, 1));
-    has_sent(rt, link.inner(), 1, Message::Locked(ONE, FIRST));
-    assert!(rt; link.inner().sent(2).is_none());
-}
-
 /// Two states are loaded, and three put. The next call is the commit.
 #[test]
 fn replies_that_are_held_go_after_a_commit_alone(rt: HostRuntime) {
     let link = held(&rt, rt.alloc(), 5, 10, ServeEnd::NodeFailed);
-    assert!(rt; link.inner().sent(0).is_none());
+    has_no_more(&rt, link.inner(), 0);
     let link = held(&rt, rt.alloc(), 100, 10, ServeEnd::TurnsOver);
-    has_sent_both(&rt, &link);
+    has_sent_both(&rt, link.inner());
 }
 
 /// No turn is left for an empty receive.
 #[test]
 fn what_came_in_the_last_turns_is_committed_and_answered(rt: HostRuntime) {
     let link = held(&rt, rt.alloc(), 100, 3, ServeEnd::TurnsOver);
-    has_sent_both(&rt, &link);
+    has_sent_both(&rt, link.inner());
     let link = held(&rt, rt.alloc(), 5, 3, ServeEnd::NodeFailed);
-    assert!(rt; link.inner().sent(0).is_none());
+    has_no_more(&rt, link.inner(), 0);
 }

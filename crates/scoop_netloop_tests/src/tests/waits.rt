@@ -38,16 +38,19 @@ fn does(rt: &impl Abort, driver: &mut Looped, step: Step) -> Result<u32, DriverE
     driver.when(&[ONE], condition, &body, step.tries)
 }
 
+// Steps, each with its fields, what is told, and the balance after it.
+const STEPS: [(u16, u64, HandlerId, u64, u32, Result<u32, DriverError>, u64); 5] = [
+    (WITHDRAW, 100, ONE, 100, 2, FAILED, 0),
+    (DEPOSIT, 150, ONE, 0, 1, Ok(1), 150),
+    (WITHDRAW, 100, ONE, 100, 2, Ok(1), 50),
+    (WITHDRAW, 100, ONE, 50, 1, Ok(1), 50),
+    (WITHDRAW, 100, NINE, 0, 1, OUTSIDE, 50),
+];
+
 // Borrows the driver, so that no early return has to drop it.
 fn waits(rt: &impl Abort, driver: &mut Looped) {
     are_equal(rt, driver.turn(), Ok(Some(ClientNote::Welcomed(ONE))));
-    for (op, amount, handler, least, tries, told, left) in [
-        (WITHDRAW, 100, ONE, 100, 2, FAILED, 0),
-        (DEPOSIT, 150, ONE, 0, 1, Ok(1), 150),
-        (WITHDRAW, 100, ONE, 100, 2, Ok(1), 50),
-        (WITHDRAW, 100, ONE, 50, 1, Ok(1), 50),
-        (WITHDRAW, 100, NINE, 0, 1, OUTSIDE, 50),
-    ] {
+    for (op, amount, handler, least, tries, told, left) in STEPS {
         let step = Step {
             op,
             amount,

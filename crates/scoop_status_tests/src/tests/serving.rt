@@ -12,8 +12,8 @@ use std::hash::RandomState;
 use std::io::{ErrorKind, Read, Write};
 use std::net::{Net, SocketAddr, TcpStream};
 use std::process::Abort;
+use std::random::RandomSource;
 use std::sync::Wait;
-use std::test::Fail;
 use std::thread;
 use std::time::{Clock, Duration, Instant};
 
@@ -38,11 +38,13 @@ struct Served {
     address: SocketAddr,
 }
 
-fn serve(rt: &HostRuntime) -> Result<Served, Fail> {
-    let listener = TcpListener::bind(rt, "127.0.0.1:0".parse::<SocketAddr>()?)?;
-    let address = listener.local_addr()?;
-    let server = Server::new(rt.alloc(), RandomState::new(rt)?, listener)?;
-    Ok(Served { server, address })
+fn serve<R: Net + RandomSource + Abort>(rt: &R, alloc: Global) -> Served {
+    let any = "127.0.0.1:0".parse::<SocketAddr>().expect(rt, "no address");
+    let listener = TcpListener::bind(rt, any).expect(rt, "not bound");
+    let address = listener.local_addr().expect(rt, "no address");
+    let keys = RandomState::new(rt).expect(rt, "no keys");
+    let server = Server::new(alloc, keys, listener).expect(rt, "no server");
+    Served { server, address }
 }
 
 fn about<'a>(system: &'a System, place: &NodePlace, started: Timestamp) -> About<'a> {
@@ -55,34 +57,62 @@ fn about<'a>(system: &'a System, place: &NodePlace, started: Timestamp) -> About
     }
 }
 
-// Sends these bytes, and turns the server until the connection ends. Returns what came back, and after how long.
-fn ask<R: Wait + Clock + Abort>(
+// Takes what has come back, or waits for it. Returns whether the connection has ended.
+fn ends<R: Wait + Clock + Abort>(rt: &R, stream: &mut TcpStream, back: &mut Vec<u8>) -> bool {
+    let mut buffer = [0; 4096];
+    match stream.read(&mut buffer) {
+        Ok(0) => true,
+        Ok(len) => {
+            back.extend_from_slice(&buffer[..len])
+                .expect(rt, "no memory");
+            false
+        }
+        Err(error) if error.kind() == ErrorKind::WouldBlock => {
+            thread::sleep(rt, Duration::from_millis(5));
+            false
+        }
+        Err(_) => true,
+    }
+}
+
+// Turns the server until the connection ends.
+fn turns<R: Wait + Clock + Abort>(
+    rt: &R,
+    served: &mut Served,
+    pages: &mut Pages<'_, R>,
+    stream: &mut TcpStream,
+    back: &mut Vec<u8>,
+) {
+    for _ in 0..1_000 {
+        served.server.turn(rt, pages);
+        if ends(rt, stream, back) {
+            break;
+        }
+    }
+}
+
+fn sends(rt: &impl Abort, stream: &mut TcpStream, bytes: &[u8]) {
+    stream.write_all(bytes).expect(rt, "not sent");
+    stream.set_nonblocking(true).expect(rt, "it waits");
+}
+
+// The answer to these bytes over a new connection begins so. Returns the time that it took.
+fn answers<R: Wait + Clock + Abort + Net<Stream = TcpStream>>(
     rt: &R,
     alloc: Global,
     served: &mut Served,
     pages: &mut Pages<'_, R>,
-    mut stream: TcpStream,
     bytes: &[u8],
-) -> (Vec<u8>, Duration) {
-    let start = Instant::now(rt).expect(rt, "no time");
-    stream.write_all(bytes).expect(rt, "not sent");
-    stream.set_nonblocking(true).expect(rt, "it waits");
+    wanted: &str,
+) -> Duration {
+    let mut stream = TcpStream::connect(rt, served.address).expect(rt, "no connection");
     let mut back = Vec::new(alloc);
-    let mut buffer = [0; 4096];
-    for _ in 0..1_000 {
-        served.server.turn(rt, pages);
-        match stream.read(&mut buffer) {
-            Ok(0) => break,
-            Ok(len) => back
-                .extend_from_slice(&buffer[..len])
-                .expect(rt, "no memory"),
-            Err(error) if error.kind() == ErrorKind::WouldBlock => {
-                thread::sleep(rt, Duration::from_millis(5));
-            }
-            Err(_) => break,
-        }
-    }
-    (back, start.elapsed(rt).expect(rt, "no time"))
+    let start = Instant::now(rt).expect(rt, "no time");
+    sends(rt, &mut stream, bytes);
+    turns(rt, served, pages, &mut stream, &mut back);
+    let took = start.elapsed(rt).expect(rt, "no time");
+    assert!(rt; back.starts_with(wanted.as_bytes()), "{wanted}");
+    took
 }
 
 // Each of these gets an answer that begins so, and ends the connection within two seconds.
@@ -120,6 +150,15 @@ const CASES: [(&[u8], &str); 9] = [
     (b"GET / HTTP/1.1\r\nHost: h\r\n", ""),
 ];
 
+// A request that is too long.
+fn long_request(rt: &impl Abort, alloc: Global) -> Vec<u8> {
+    let mut long = b"GET / HTTP/1.1\r\nHost: h\r\nX: "
+        .to_vec(alloc)
+        .expect(rt, "no memory");
+    long.resize(5_000, b'a').expect(rt, "no memory");
+    long
+}
+
 // A failure stops the test at once, so that no early return has to drop what the test owns.
 fn answers_each<R: Wait + Clock + Abort + Net<Stream = TcpStream>>(
     rt: &R,
@@ -137,37 +176,48 @@ fn answers_each<R: Wait + Clock + Abort + Net<Stream = TcpStream>>(
         about: &about,
     };
     for (request, wanted) in CASES {
-        let (back, took) = asked(rt, alloc, served, &mut pages, request);
-        assert!(rt; back.starts_with(wanted.as_bytes()), "{wanted}");
+        let took = answers(rt, alloc, served, &mut pages, request, wanted);
         assert!(rt; took < Duration::from_secs(2), "{wanted}");
     }
-    let mut long = b"GET / HTTP/1.1\r\nHost: h\r\nX: "
-        .to_vec(alloc)
-        .expect(rt, "no memory");
-    long.resize(5_000, b'a').expect(rt, "no memory");
-    let (back, _) = asked(rt, alloc, served, &mut pages, &long);
-    assert!(rt; back.starts_with(b"HTTP/1.1 431 "));
-}
-
-// The answer to these bytes over a new connection, and the time that it took.
-fn asked<R: Wait + Clock + Abort + Net<Stream = TcpStream>>(
-    rt: &R,
-    alloc: Global,
-    served: &mut Served,
-    pages: &mut Pages<'_, R>,
-    bytes: &[u8],
-) -> (Vec<u8>, Duration) {
-    let stream = TcpStream::connect(rt, served.address).expect(rt, "no connection");
-    ask(rt, alloc, served, pages, stream, bytes)
+    let long = long_request(rt, alloc);
+    let wanted = "HTTP/1.1 431 ";
+    let _took = answers(rt, alloc, served, &mut pages, &long, wanted);
 }
 
 #[test]
-fn each_request_gets_its_answer_in_time(rt: HostRuntime) -> Result<(), Fail> {
-    let mut served = serve(&rt)?;
+fn each_request_gets_its_answer_in_time(rt: HostRuntime) {
+    let mut served = serve(&rt, rt.alloc());
     let system = System::read(rt.alloc(), SYSTEM).expect(&rt, "no system");
     let watch: Watch = watch(rt.alloc(), LogLevel::Off);
     answers_each(&rt, rt.alloc(), &system, &watch, &mut served);
-    Ok(())
+}
+
+// Connections that send nothing, more than the server has places for.
+fn connects<R: Abort + Net<Stream = TcpStream>>(
+    rt: &R,
+    address: SocketAddr,
+    silent: &mut Vec<TcpStream>,
+) {
+    for _ in 0..40 {
+        let stream = TcpStream::connect(rt, address).expect(rt, "no connection");
+        silent.push(stream).expect(rt, "no memory");
+    }
+}
+
+// Turns the server until the time of its connections is over.
+fn passes_time<R: Wait + Clock + Abort>(
+    rt: &R,
+    served: &mut Served,
+    pages: &mut Pages<'_, R>,
+    start: Instant,
+) {
+    for _ in 0..400 {
+        served.server.turn(rt, pages);
+        if start.elapsed(rt).expect(rt, "no time") > Duration::from_millis(1_600) {
+            break;
+        }
+        thread::sleep(rt, Duration::from_millis(5));
+    }
 }
 
 // Connections that send nothing take all places, until their time is over.
@@ -187,35 +237,24 @@ fn leaves_room<R: Wait + Clock + Abort + Net<Stream = TcpStream>>(
         watch,
         about: &about,
     };
-    for _ in 0..40 {
-        let stream = TcpStream::connect(rt, served.address).expect(rt, "no connection");
-        silent.push(stream).expect(rt, "no memory");
-    }
+    connects(rt, served.address, silent);
     let start = Instant::now(rt).expect(rt, "no time");
     served.server.turn(rt, &mut pages);
     served.server.turn(rt, &mut pages);
     // all places are taken
-    let (back, took) = asked(rt, alloc, served, &mut pages, b"");
-    assert!(rt; back.starts_with(b"HTTP/1.1 503 ") && took < Duration::from_secs(1));
-    // their time is over
-    for _ in 0..400 {
-        served.server.turn(rt, &mut pages);
-        if start.elapsed(rt).expect(rt, "no time") > Duration::from_millis(1_600) {
-            break;
-        }
-        thread::sleep(rt, Duration::from_millis(5));
-    }
+    let took = answers(rt, alloc, served, &mut pages, b"", "HTTP/1.1 503 ");
+    assert!(rt; took < Duration::from_secs(1));
+    passes_time(rt, served, &mut pages, start);
     let request = b"GET /metrics HTTP/1.1\r\nHost: h\r\n\r\n";
-    let (back, _) = asked(rt, alloc, served, &mut pages, request);
-    assert!(rt; back.starts_with(b"HTTP/1.1 200 OK\r\n"));
+    let wanted = "HTTP/1.1 200 OK\r\n";
+    let _took = answers(rt, alloc, served, &mut pages, request, wanted);
 }
 
 #[test]
-fn silent_connections_leave_room(rt: HostRuntime) -> Result<(), Fail> {
-    let mut served = serve(&rt)?;
+fn silent_connections_leave_room(rt: HostRuntime) {
+    let mut served = serve(&rt, rt.alloc());
     let system = System::read(rt.alloc(), SYSTEM).expect(&rt, "no system");
     let watch: Watch = watch(rt.alloc(), LogLevel::Off);
     let mut silent = Vec::new(rt.alloc());
     leaves_room(&rt, rt.alloc(), &system, &watch, &mut served, &mut silent);
-    Ok(())
 }

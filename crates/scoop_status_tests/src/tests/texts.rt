@@ -193,30 +193,54 @@ fn the_shape_of_the_json(rt: HostRuntime) {
     are_equal(&rt, json.as_slice(), JSON.as_bytes());
 }
 
+// The text has each of these parts.
+fn has_parts(rt: &impl Abort, text: &str, parts: &[&str]) {
+    for part in parts {
+        assert!(rt; text.contains(*part), "{part}");
+    }
+}
+
+// Parts of the page.
+const PAGE: [&str; 10] = [
+    "<h1>Node 1 <span class=\"mark good\">open</span></h1>",
+    "up since 2026-11-26T10:41:14Z (1 h 2 min 5 s)",
+    "<p>Store: /tmp/a &quot;&lt;b&gt;&amp;.db</p>",
+    "or with none. Refused datagrams: 4</p>",
+    "the file doesn't name them, as client 99. Messages: 1</p>",
+    "<tr><td>3 till<td>account<td class=\"words\">10 18446744073709551615 <td>block 7.1.2<td>1<td>2<td>1</tr>",
+    "<tr><td>3<td>7.1.1<td>ended<td>2<td>3</tr>",
+    "<tr><td>7<td>1<td>1<td>yes</tr>",
+    "<tr><td>3<td>7<td>1<td>2<td>held<td>0<td>no</tr>",
+    "<div><dt>dropped: Stale<dd>2</div>",
+];
+
+// The page has no script, and names no place of another.
+fn loads_nothing(rt: &impl Abort, page: &str) {
+    for part in ["<script", "http://", "https://"] {
+        assert!(rt; !page.contains(part), "{part}");
+    }
+}
+
 #[test]
 fn the_page_answers_an_operator(rt: HostRuntime) {
     let view = view(&rt, rt.alloc());
     let mut page = Vec::new(rt.alloc());
     print_page(&view, &mut page).expect(&rt, "no memory");
     let page = String::from_utf8(page).expect(&rt, "no text");
-    for part in [
-        "<h1>Node 1 <span class=\"mark good\">open</span></h1>",
-        "up since 2026-11-26T10:41:14Z (1 h 2 min 5 s)",
-        "<p>Store: /tmp/a &quot;&lt;b&gt;&amp;.db</p>",
-        "or with none. Refused datagrams: 4</p>",
-        "the file doesn't name them, as client 99. Messages: 1</p>",
-        "<tr><td>3 till<td>account<td class=\"words\">10 18446744073709551615 <td>block 7.1.2<td>1<td>2<td>1</tr>",
-        "<tr><td>3<td>7.1.1<td>ended<td>2<td>3</tr>",
-        "<tr><td>7<td>1<td>1<td>yes</tr>",
-        "<tr><td>3<td>7<td>1<td>2<td>held<td>0<td>no</tr>",
-        "<div><dt>dropped: Stale<dd>2</div>",
-    ] {
-        assert!(rt; page.contains(part), "{part}");
-    }
-    assert!(rt;
-        !page.contains("<script") && !page.contains("http://") && !page.contains("https://")
-    );
+    has_parts(&rt, page.as_str(), &PAGE);
+    loads_nothing(&rt, page.as_str());
 }
+
+// Parts of the metrics.
+const METRICS: [&str; 7] = [
+    "# TYPE scoop_node_info gauge\nscoop_node_info{node=\"1\"} 1\n",
+    "# TYPE scoop_seal_refused_total counter\nscoop_seal_refused_total 4\n",
+    "scoop_messages_dropped_total{reason=\"Stale\"} 2\n",
+    "scoop_handler_locked{handler=\"3\"} 1\n",
+    "scoop_handler_queues{handler=\"3\"} 1\n",
+    "scoop_handler_pending_entries{handler=\"3\"} 2\n",
+    "scoop_handler_clients{handler=\"3\"} 1\n",
+];
 
 #[test]
 fn the_lines_of_metrics(rt: HostRuntime) {
@@ -224,31 +248,23 @@ fn the_lines_of_metrics(rt: HostRuntime) {
     let mut text = Vec::new(rt.alloc());
     print_metrics(&view, &mut text).expect(&rt, "no memory");
     let text = String::from_utf8(text).expect(&rt, "no text");
-    for part in [
-        "# TYPE scoop_node_info gauge\nscoop_node_info{node=\"1\"} 1\n",
-        "# TYPE scoop_seal_refused_total counter\nscoop_seal_refused_total 4\n",
-        "scoop_messages_dropped_total{reason=\"Stale\"} 2\n",
-        "scoop_handler_locked{handler=\"3\"} 1\n",
-        "scoop_handler_queues{handler=\"3\"} 1\n",
-        "scoop_handler_pending_entries{handler=\"3\"} 2\n",
-        "scoop_handler_clients{handler=\"3\"} 1\n",
-    ] {
-        assert!(rt; text.contains(part), "{part}");
-    }
+    has_parts(&rt, text.as_str(), &METRICS);
 }
+
+// Requests, by whether they read and by their paths, with the page of each.
+const PATHS: [(bool, &str, Page); 7] = [
+    (true, "/", Page::People),
+    (true, "/status.json", Page::Json),
+    (true, "/metrics", Page::Metrics),
+    (true, "/healthz", Page::Health),
+    (true, "/status", Page::Missing),
+    (true, "", Page::Missing),
+    (false, "/", Page::Refused),
+];
 
 #[test]
 fn the_pages_of_requests(rt: HostRuntime) {
-    let cases = [
-        (true, "/", Page::People),
-        (true, "/status.json", Page::Json),
-        (true, "/metrics", Page::Metrics),
-        (true, "/healthz", Page::Health),
-        (true, "/status", Page::Missing),
-        (true, "", Page::Missing),
-        (false, "/", Page::Refused),
-    ];
-    for (reads, path, page) in cases {
+    for (reads, path, page) in PATHS {
         are_equal(&rt, page_of(reads, path), page);
     }
 }

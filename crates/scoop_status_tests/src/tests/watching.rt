@@ -1,6 +1,6 @@
 //! Tests of the watchers: what passes through them, and what they count.
 
-use super::{heard, state, watch};
+use super::{hears, state, watch};
 use crate::tests::are_equal;
 use scoop_admission::Strangers;
 use scoop_handler::{HandlerState, Note, Reason};
@@ -30,6 +30,13 @@ fn told(rt: &impl Abort, alloc: Global, events: &EventList) -> String {
         }
     }
     told
+}
+
+// The events of the watch that a log of this level tells are these.
+fn tells<R: Wait + Abort>(rt: &R, alloc: Global, watch: &Watch, level: Level, wanted: &str) {
+    let events = watch.take_events(rt, level);
+    let told = told(rt, alloc, &events);
+    are_equal(rt, told.as_str(), wanted);
 }
 
 // Whether the watch shows this state of the handler.
@@ -98,6 +105,12 @@ fn a_loaded_state_is_shown(rt: HostRuntime) {
     loads(&rt, &watch, &mut keeper, &stored);
 }
 
+fn counts_refusal<R: Wait + Abort>(rt: &R, watch: &Watch) {
+    assert!(rt; shows_nothing(rt, watch, HANDLER));
+    let tally = watch.tally(rt);
+    are_equal(rt, (tally.puts, tally.refused_puts), (0, 1));
+}
+
 #[test]
 fn a_refused_put_is_counted_and_not_shown(rt: HostRuntime) {
     let watch = watch(rt.alloc(), LogLevel::Warn);
@@ -105,110 +118,133 @@ fn a_refused_put_is_counted_and_not_shown(rt: HostRuntime) {
     let mut keeper = WatchedKeeper::new(failing, &rt, &watch);
     let state = state(&rt, rt.alloc(), &[5]);
     are_equal(&rt, keeper.put_handler(&state), Err(KeeperError::Refused));
-    assert!(rt; shows_nothing(&rt, &watch, HANDLER));
-    let tally = watch.tally(&rt);
-    assert!(rt; tally.puts == 0 && tally.refused_puts == 1);
-    let events = watch.take_events(&rt, Level::Warn);
-    let told = told(&rt, rt.alloc(), &events);
-    are_equal(&rt, told.as_str(), "store-refused handler=1 error=Refused;");
+    counts_refusal(&rt, &watch);
+    let wanted = "store-refused handler=1 error=Refused;";
+    tells(&rt, rt.alloc(), &watch, Level::Warn, wanted);
+}
+
+const HELLO: Message = Message::Hello(HANDLER, ClientId(7), 2);
+
+// The same incarnation at another handler, which has no queue of the client.
+const OTHER_HELLO: Message = Message::Hello(HandlerId(2), ClientId(7), 2);
+
+const GREETED: &str = "greeted client=7 incarnation=2 handler=1;cut block=7.1.3 handler=1;";
+
+fn counts_greetings<R: Wait + Abort>(rt: &R, watch: &Watch) {
+    let tally = watch.tally(rt);
+    are_equal(rt, (tally.notes[0], tally.cuts), (2, 1));
+    are_equal(rt, (tally.heard(), tally.strangers), (2, 0));
 }
 
 #[test]
 fn a_greeting_tells_client_and_cut(rt: HostRuntime) {
     let watch = watch(rt.alloc(), LogLevel::Info);
+    let state = state(&rt, rt.alloc(), &[5]);
     let mut keeper = WatchedKeeper::new(MemoryKeeper::new(rt.alloc()), &rt, &watch);
-    keeper
-        .put_handler(&state(&rt, rt.alloc(), &[5]))
-        .expect(&rt, "refused");
-    let hello = Message::Hello(HANDLER, ClientId(7), 2);
-    keeper
-        .note_heard(&hello, &heard(Note::Greeted))
-        .expect(&rt, "refused");
-    // the same incarnation at another handler, which has no queue of the client
-    let other = Message::Hello(HandlerId(2), ClientId(7), 2);
-    keeper
-        .note_heard(&other, &heard(Note::Greeted))
-        .expect(&rt, "refused");
-    let events = watch.take_events(&rt, Level::Info);
-    let told = told(&rt, rt.alloc(), &events);
-    are_equal(
-        &rt,
-        told.as_str(),
-        "greeted client=7 incarnation=2 handler=1;cut block=7.1.3 handler=1;",
+    keeper.put_handler(&state).expect(&rt, "refused");
+    hears(&rt, &mut keeper, &HELLO, Note::Greeted);
+    hears(&rt, &mut keeper, &OTHER_HELLO, Note::Greeted);
+    tells(&rt, rt.alloc(), &watch, Level::Info, GREETED);
+    counts_greetings(&rt, &watch);
+}
+
+// A client that the node doesn't know sends two messages.
+fn meets_stranger<R: Wait>(rt: &R, watch: &Watch) {
+    let mut strangers = WatchedStrangers::new(rt, watch);
+    strangers.meet(ClientId(99), HANDLER);
+    strangers.meet(ClientId(99), HANDLER);
+}
+
+// The handler drops a message and takes one, and an entry has run.
+fn hears_and_runs<R: Wait + Abort>(rt: &R, alloc: Global, watch: &Watch) {
+    let hello = Message::Hello(HANDLER, ClientId(7), 1);
+    let mut keeper = WatchedKeeper::new(MemoryKeeper::new(alloc), rt, watch);
+    hears(
+        rt,
+        &mut keeper,
+        &hello,
+        Note::Dropped(Reason::TooManyClients),
     );
-    let tally = watch.tally(&rt);
-    assert!(rt;
-        tally.notes[0] == 2 && tally.cuts == 1 && tally.heard() == 2 && tally.strangers == 0
-    );
+    hears(rt, &mut keeper, &hello, Note::Took(4));
+    keeper.note_finished(HANDLER).expect(rt, "refused");
 }
 
 #[test]
 fn strangers_drops_and_runs_are_counted(rt: HostRuntime) {
     let watch = watch(rt.alloc(), LogLevel::Warn);
-    let mut keeper = WatchedKeeper::new(MemoryKeeper::new(rt.alloc()), &rt, &watch);
-    let mut strangers = WatchedStrangers::new(&rt, &watch);
-    strangers.meet(ClientId(99), HANDLER);
-    strangers.meet(ClientId(99), HANDLER);
-    let hello = Message::Hello(HANDLER, ClientId(7), 1);
-    let dropped = heard(Note::Dropped(Reason::TooManyClients));
-    keeper.note_heard(&hello, &dropped).expect(&rt, "refused");
-    keeper
-        .note_heard(&hello, &heard(Note::Took(4)))
-        .expect(&rt, "refused");
-    keeper.note_finished(HANDLER).expect(&rt, "refused");
+    meets_stranger(&rt, &watch);
+    hears_and_runs(&rt, rt.alloc(), &watch);
     let tally = watch.tally(&rt);
     are_equal(&rt, tally.last_stranger, Some((ClientId(99), HANDLER)));
-    assert!(rt;
-        tally.strangers == 2 && tally.dropped[2] == 1 && tally.notes[5] == 1 && tally.ran == 1
-    );
+    are_equal(&rt, (tally.strangers, tally.dropped[2]), (2, 1));
+    are_equal(&rt, (tally.notes[5], tally.ran), (1, 1));
     // two messages, a run that finds nothing, and an entry that left and came back
     are_equal(&rt, tally.history, 5);
     // a log of this level doesn't tell what was dropped
     assert!(rt; watch.take_events(&rt, Level::Debug).get(0).is_none());
 }
 
+// A link whose tape brings a datagram that wasn't sealed, and has room for one that is sent.
+fn forged(rt: &impl Abort, alloc: Global) -> SealedLink<TapeLink> {
+    let mut tape = TapeLink::new(alloc, 1).expect(rt, "no tape");
+    tape.feed(b"forged").expect(rt, "no memory");
+    SealedLink::new(tape, Key::new([5; 32]))
+}
+
+// Nothing is received, and one datagram is sent. There is no room for the next one.
+fn passes_on<L: Link>(rt: &impl Abort, link: &mut L) {
+    let mut buffer = [0; BUFFER_LEN];
+    are_equal(rt, link.receive(&mut buffer), Ok(None));
+    let client = Party::Client(ClientId(7));
+    assert!(rt; link.send(client, b"reply").is_ok());
+    assert!(rt; link.send(client, b"reply").is_err());
+    are_equal(rt, link.faults(), 1);
+}
+
 #[test]
 fn datagrams_are_passed_on_and_counted(rt: HostRuntime) {
     let watch = watch(rt.alloc(), LogLevel::Off);
-    let mut tape = TapeLink::new(rt.alloc(), 1).expect(&rt, "no tape");
-    tape.feed(b"forged").expect(&rt, "no memory");
-    let sealed = SealedLink::new(tape, Key::new([5; 32]));
-    let mut link = WatchedLink::new(sealed, &watch);
-    let mut buffer = [0; BUFFER_LEN];
-    are_equal(&rt, link.receive(&mut buffer), Ok(None));
-    let client = Party::Client(ClientId(7));
-    assert!(rt; link.send(client, b"reply").is_ok());
-    // there was room for one
-    assert!(rt; link.send(client, b"reply").is_err());
-    are_equal(&rt, link.faults(), 1);
+    let mut link = WatchedLink::new(forged(&rt, rt.alloc()), &watch);
+    passes_on(&rt, &mut link);
     let tally = watch.link_tally();
-    assert!(rt; tally.refused == 1 && tally.received == 0 && tally.sent == 1 && tally.faults == 1);
+    are_equal(&rt, (tally.refused, tally.received), (1, 0));
+    are_equal(&rt, (tally.sent, tally.faults), (1, 1));
 }
+
+// A node's output tells that it opened, was opened again, and closed.
+fn tells_all<R: Wait + Abort, W: Write>(
+    rt: &R,
+    watch: &Watch,
+    output: &mut WatchedOutput<'_, W, R>,
+) {
+    writeln!(output, "node {} at 127.0.0.1:1: handlers 1", 1).expect(rt, "not written");
+    assert!(rt; !watch.tally(rt).is_open);
+    output.flush().expect(rt, "not written");
+    assert!(rt; watch.tally(rt).is_open);
+    writeln!(output, "node {} reopened", 1).expect(rt, "not written");
+    output.flush().expect(rt, "not written");
+    output.flush().expect(rt, "not written");
+    writeln!(output, "node {} closed", 1).expect(rt, "not written");
+    output.flush().expect(rt, "not written");
+}
+
+fn counts_openings<R: Wait + Abort>(rt: &R, watch: &Watch) {
+    let tally = watch.tally(rt);
+    are_equal(rt, (tally.is_open, tally.reopened), (false, 1));
+}
+
+const WRITTEN: &[u8] = b"node 1 at 127.0.0.1:1: handlers 1\nnode 1 reopened\nnode 1 closed\n";
 
 #[test]
 fn lines_of_the_output_tell_openings(rt: HostRuntime) {
     let watch = watch(rt.alloc(), LogLevel::Info);
     let mut written = Vec::new(rt.alloc());
     let mut output = WatchedOutput::new(&mut written, &rt, &watch);
-    writeln!(output, "node {} at 127.0.0.1:1: handlers 1", 1).expect(&rt, "not written");
-    assert!(rt; !watch.tally(&rt).is_open);
-    output.flush().expect(&rt, "not written");
-    assert!(rt; watch.tally(&rt).is_open);
-    writeln!(output, "node {} reopened", 1).expect(&rt, "not written");
-    output.flush().expect(&rt, "not written");
-    output.flush().expect(&rt, "not written");
-    writeln!(output, "node {} closed", 1).expect(&rt, "not written");
-    output.flush().expect(&rt, "not written");
-    let events = watch.take_events(&rt, Level::Info);
-    let told = told(&rt, rt.alloc(), &events);
-    are_equal(&rt, told.as_str(), "opened;reopened;closed;");
-    let tally = watch.tally(&rt);
-    assert!(rt; !tally.is_open && tally.reopened == 1);
-    are_equal(
-        &rt,
-        written.as_slice(),
-        b"node 1 at 127.0.0.1:1: handlers 1\nnode 1 reopened\nnode 1 closed\n".as_slice(),
-    );
+    tells_all(&rt, &watch, &mut output);
+    let wanted = "opened;reopened;closed;";
+    tells(&rt, rt.alloc(), &watch, Level::Info, wanted);
+    counts_openings(&rt, &watch);
+    are_equal(&rt, written.as_slice(), WRITTEN);
 }
 
 #[test]
