@@ -57,9 +57,9 @@ follows_heard m a next v None note follows is = follows.silent note is
 follows_heard m a next v (Some reply) note follows is = follows.replied (length (frame v reply)) note is
 
 -- bytes that are no frame are refused
-pub printed_refused : {K : Type 0} (d : List ℕ) (old : BookValue K) (e : FrameError) (out : List ℕ) → IsFirstFault e d
-    → Prints d old old None (line_of (answered.RefusedFrame e) out)
-printed_refused d old e out fault = refused (record { error = e; first_fault = fault; rests = rests_same old; nothing = refl; is = refl })
+pub printed_refused : {K : Type 0} (d : List ℕ) (old : BookValue K) (e : FrameError) → IsFirstFault e d
+    → Prints d old old None (line_of (answered.RefusedFrame e) [])
+printed_refused d old e fault = refused (record { error = e; first_fault = fault; rests = rests_same old; nothing = refl; is = refl })
 
 -- the bytes are the frame of no message but this one
 abbrev pub IsOf : List ℕ → Message → Type 0

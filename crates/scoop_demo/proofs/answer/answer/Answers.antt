@@ -3,7 +3,7 @@ use Rattle.scoop_demo.proofs.AnswerLemmas.{elsewhere_same, others_answered, prin
 use Rattle.scoop_demo.proofs.answer.answer.Goals as goal
 
 pub returns-in-Err-clause-ok : goal.returns-in-Err-clause-ok
-returns-in-Err-clause-ok g c = printed_refused _ _ _ _ c.in-Err.ensures.reads
+returns-in-Err-clause-ok g c = printed_refused _ _ _ c.in-Err.ensures.reads
 
 pub returns-in-Err-clause-others : goal.returns-in-Err-clause-others
 returns-in-Err-clause-others g c = elsewhere_same _ _ _ _ _
