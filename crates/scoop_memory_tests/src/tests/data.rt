@@ -36,8 +36,10 @@ pub fn get(rt: &impl Abort) -> Request {
 
 /// Three calls and a query.
 pub fn four(rt: &impl Abort) -> Entries {
-    let (call, query) = (Entry::Call(set(rt, 5)), Entry::Query(get(rt)));
-    Entries::of(&[call, call, call, query]).expect(rt, "no entries")
+    let call = Entry::Call(set(rt, 5));
+    let query = Entry::Query(get(rt));
+    let entries = [call, call, call, query];
+    Entries::of(&entries).expect(rt, "no entries")
 }
 
 fn writes(rt: &impl Abort, writes: &[Write]) -> Writes {
