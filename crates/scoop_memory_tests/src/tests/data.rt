@@ -36,10 +36,16 @@ pub fn get(rt: &impl Abort) -> Request {
 
 /// Three calls and a query.
 pub fn four(rt: &impl Abort) -> Entries {
-    let call = Entry::Call(set(rt, 5));
-    let query = Entry::Query(get(rt));
-    let entries = [call, call, call, query];
-    Entries::of(&entries).expect(rt, "no entries")
+    let (set, get) = (set(rt, 5), get(rt));
+    match Entries::of(&[
+        Entry::Call(set),
+        Entry::Call(set),
+        Entry::Call(set),
+        Entry::Query(get),
+    ]) {
+        Ok(entries) => entries,
+        Err(_) => panic!(rt; "no entries"),
+    }
 }
 
 fn writes(rt: &impl Abort, writes: &[Write]) -> Writes {

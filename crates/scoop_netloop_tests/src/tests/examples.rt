@@ -62,5 +62,5 @@ fn a_book_answers_a_message_as_its_datagram(rt: HostRuntime) {
     let mut book = book(&rt, rt.alloc(), rt.alloc());
     let reply = answers_read(&rt, &mut book);
     let welcome: &[u8] = b"SQ\x01\x02\0\0\0\x01\0\0\0\x07\0\0\0\x01\0\0\0\0\0\0\0\0\0\0";
-    are_equal(&rt, &reply[..26], welcome);
+    are_equal(&rt, reply.get(..26), Some(welcome));
 }

@@ -90,10 +90,12 @@ const BLOCK: Block = Block {
     num: 1,
 };
 
-// A node in a thread of its own: its key if its link is sealed, the limit of its history, and its output.
+// A node in a thread of its own: its key if its link is sealed, its link before it serves, the limit of its history, and
+// its output.
 #[derive(Drop)]
 struct Beside {
     key: Option<Key>,
+    link: Option<UdpLink>,
     history: usize,
     output: Vec<u8>,
 }
@@ -103,20 +105,21 @@ impl Beside {
     fn new(alloc: Global) -> Beside {
         Beside {
             key: None,
+            link: None,
             history: 1_000,
             output: Vec::new(alloc),
         }
     }
 
-    // Serves node 1, with nothing stored, over this link until it is asked to end.
+    // Serves node 1, with nothing stored, over its link until it is asked to end.
     fn serve<R: Threads + Wait + Clock + Sync + Abort>(
         &mut self,
         rt: &R,
         alloc: Global,
         system: &System,
-        link: UdpLink,
         ending: &Ending,
     ) {
+        let link = self.link.take().expect(rt, "no link");
         let (keeper, history) = (MemoryKeeper::new(alloc), self.history);
         let (_, output) = match self.key {
             Some(key) => {
@@ -167,13 +170,12 @@ fn ask_over(
     }
 }
 
-// The node in a thread, and the client beside it, over these links. No thread opens a link.
+// The node in a thread, and the client beside it, over this link. No thread opens a link.
 fn run_both<R: Threads + Wait + Clock + Sync + Abort>(
     rt: &R,
     alloc: Global,
     system: &System,
     beside: &mut Beside,
-    node: UdpLink,
     link: UdpLink,
     lines: &[u8],
     is_typed: bool,
@@ -182,7 +184,7 @@ fn run_both<R: Threads + Wait + Clock + Sync + Abort>(
     let ending = Ending::new();
     let ended = &ending;
     thread::scope(thread::scope_env(), rt, move |scope| {
-        let spawned = scope.spawn(move || beside.serve(rt, alloc, system, node, ended));
+        let spawned = scope.spawn(move || beside.serve(rt, alloc, system, ended));
         assert!(rt; spawned.is_ok(), "no thread");
         let told = ask_over(rt, alloc, system, key, link, lines, is_typed);
         ended.ask();
@@ -201,7 +203,8 @@ fn run_beside<R: Threads + Wait + Clock + Net + Sync + Abort>(
 ) -> Told {
     let link = client_link(rt, alloc, system, 7).expect(rt, "no link");
     let node = node_link(rt, alloc, system, 1).expect(rt, "no link");
-    run_both(rt, alloc, system, beside, node, link, lines, is_typed)
+    beside.link = Some(node);
+    run_both(rt, alloc, system, beside, link, lines, is_typed)
 }
 
 // The system of the text that has these accounts, at free ports.
@@ -252,6 +255,7 @@ fn a_sealed_node_goes_on_after_its_history_is_full(rt: HostRuntime) {
     let system = accounts(&rt, alloc);
     let mut node = Beside {
         key: Some(Key::new([7; 32])),
+        link: None,
         history: 6,
         output: Vec::new(alloc),
     };
