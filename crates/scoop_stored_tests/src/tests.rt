@@ -15,7 +15,6 @@ use scoop_object::{Class, Table};
 use scoop_record::Store;
 use sqlite::{Alter, Connection};
 use std::alloc::Global;
-use std::fmt::Debug;
 use std::process::Abort;
 use std::sync::Wait;
 
@@ -27,13 +26,20 @@ type Cells<K> = Node<Table, K>;
 type Handed = (HandlerId, Class, Table);
 
 fn class(rt: &impl Abort, alloc: Global) -> Class {
-    DemoClass::Cell.class(alloc).expect(rt, "no class")
+    match DemoClass::Cell.class(alloc) {
+        Ok(class) => class,
+        Err(_) => panic!(rt; "no class"),
+    }
 }
 
 fn cell(rt: &impl Abort, alloc: Global, number: u32) -> Handed {
-    let words = Words::of(&[0]).expect(rt, "no words");
-    let object = Table::new(class(rt, alloc), words).expect(rt, "no object");
-    (HandlerId(number), class(rt, alloc), object)
+    let Ok(words) = Words::of(&[0]) else {
+        panic!(rt; "no words");
+    };
+    match Table::new(class(rt, alloc), words) {
+        Ok(object) => (HandlerId(number), class(rt, alloc), object),
+        Err(_) => panic!(rt; "no object"),
+    }
 }
 
 /// The cells 1 and 2, which hold 0.
@@ -53,7 +59,10 @@ fn opened<K: Keeper<Global>>(
     keeper: K,
     passes: u32,
 ) -> Option<(Cells<K>, Vec<Pass>)> {
-    Node::open(alloc, cells(rt, alloc), keeper, passes).ok()
+    match Node::open(alloc, cells(rt, alloc), keeper, passes) {
+        Ok(opened) => Some(opened),
+        Err(_) => None,
+    }
 }
 
 /// A new store in an empty database. Only this module calls a store, and over any medium, since the calls are slow to prove
@@ -63,13 +72,22 @@ fn created<S: Alter + Drop>(
     alloc: Global,
     connection: Option<Connection<S>>,
 ) -> Store<S> {
-    let connection = connection.expect(rt, "no connection");
-    Store::create(alloc, connection).expect(rt, "no new store")
+    let connection = match connection {
+        Some(connection) => connection,
+        None => panic!(rt; "no connection"),
+    };
+    match Store::create(alloc, connection) {
+        Ok(store) => store,
+        Err(_) => panic!(rt; "no new store"),
+    }
 }
 
 /// The store in a database; `None` if there is none or it is refused.
 fn adopted<S: Alter + Drop>(alloc: Global, connection: Option<Connection<S>>) -> Option<Store<S>> {
-    Store::adopt(alloc, connection?).ok()
+    match Store::adopt(alloc, connection?) {
+        Ok(store) => Some(store),
+        Err(_) => None,
+    }
 }
 
 /// The medium of a store.
@@ -97,9 +115,13 @@ enum Act {
 }
 
 fn log(rt: &impl Abort, handler: HandlerId, block: Block, number: u32) -> Message {
-    let args = Args::of(&[u64::from(number)]).expect(rt, "no arguments");
-    let entries = Entries::of(&[Entry::Call(Request { op: SET, args })]).expect(rt, "no entries");
-    Message::Log(handler, block, number, entries)
+    let Ok(args) = Args::of(&[u64::from(number)]) else {
+        panic!(rt; "no arguments");
+    };
+    match Entries::of(&[Entry::Call(Request { op: SET, args })]) {
+        Ok(entries) => Message::Log(handler, block, number, entries),
+        Err(_) => panic!(rt; "no entries"),
+    }
 }
 
 /// The message of an act. A run has none.
@@ -163,20 +185,17 @@ fn does_all<K: Keeper<Global>, R: Wait + Abort>(
     acts: &[Act],
 ) {
     for act in acts {
-        are_equal(rt, does(rt, node, pass, place, *act), None);
+        assert!(rt; does(rt, node, pass, place, *act).is_none());
     }
 }
 
 /// The word of a handler's stored state.
 fn word<K: Keeper<Global>>(rt: &impl Abort, keeper: &mut K, handler: HandlerId) -> u64 {
-    let loaded = keeper.load_handler(handler).expect(rt, "not loaded");
-    let state = loaded.expect(rt, "no state");
-    state.words().get(0).expect(rt, "no word")
-}
-
-/// Both values are equal. It is proved once, where an `assert_eq!` would be proved in each function.
-fn are_equal<T: PartialEq + Debug + Drop>(rt: &impl Abort, left: T, right: T) {
-    if left != right {
-        panic!(rt; "{left:?} is not {right:?}");
+    let Ok(Some(state)) = keeper.load_handler(handler) else {
+        panic!(rt; "no state");
+    };
+    match state.words().get(0) {
+        Some(word) => word,
+        None => panic!(rt; "no word"),
     }
 }

@@ -1,12 +1,11 @@
 //! The JSON of calls, and the answers of an etcd 3.4.23 to the letter.
 
-use super::are_equal;
 use scoop_etcd_calls::{
-    AnswerFault, Compare, Field, Found, Outcome, Pair, Put, Range, Txn, range_text, read_found,
+    AnswerFault, Compare, Field, Found, Outcome, Put, Range, Txn, range_text, read_found,
     read_outcome, read_refusal, txn_text,
 };
-use std::alloc::Global;
-use std::process::Abort;
+use std::alloc::{AllocError, Global};
+use std::test::Fail;
 
 // The keys `a` and `ab`, the second one with no value.
 const FOUND: &[u8] =
@@ -85,124 +84,97 @@ const FAULTS: [(&[u8], AnswerFault); 18] = [
     ),
 ];
 
-fn bytes(rt: &impl Abort, alloc: Global, text: &str) -> Vec<u8> {
-    Vec::from_slice(alloc, text.as_bytes()).expect(rt, "no memory")
+fn bytes(alloc: Global, text: &str) -> Result<Vec<u8>, AllocError> {
+    Vec::from_slice(alloc, text.as_bytes())
 }
 
 // Puts `b` under `a`, if nothing stands there and `c` stands under `own`.
-fn guarded_put(rt: &impl Abort, alloc: Global) -> Txn {
-    let absent = Compare::Revision(bytes(rt, alloc, "a"), 0);
-    let owned = Compare::Value(bytes(rt, alloc, "own"), bytes(rt, alloc, "c"));
-    let put = Put {
-        key: bytes(rt, alloc, "a"),
-        value: bytes(rt, alloc, "b"),
-    };
-    Txn {
-        compares: vec![in alloc; absent, owned].expect(rt, "no memory"),
-        puts: vec![in alloc; put].expect(rt, "no memory"),
-    }
-}
-
-fn writes_range(rt: &impl Abort, alloc: Global, range: &Range, wanted: &str) {
-    let text = range_text(alloc, range).expect(rt, "no memory");
-    are_equal(rt, text.as_str(), wanted);
-}
-
-fn writes_txn(rt: &impl Abort, alloc: Global, txn: &Txn, wanted: &str) {
-    let text = txn_text(alloc, txn).expect(rt, "no memory");
-    are_equal(rt, text.as_str(), wanted);
+fn guarded_put(alloc: Global) -> Result<Txn, Fail> {
+    let mut compares = Vec::new(alloc);
+    compares.push(Compare::Revision(bytes(alloc, "a")?, 0))?;
+    compares.push(Compare::Value(bytes(alloc, "own")?, bytes(alloc, "c")?))?;
+    let mut puts = Vec::new(alloc);
+    puts.push(Put {
+        key: bytes(alloc, "a")?,
+        value: bytes(alloc, "b")?,
+    })?;
+    Ok(Txn { compares, puts })
 }
 
 #[test]
-fn calls_are_written_as_an_etcd_takes_them(rt: HostRuntime) {
+fn calls_are_written_as_an_etcd_takes_them(rt: HostRuntime) -> Result<(), Fail> {
     let alloc = rt.alloc();
     let mut range = Range {
-        from: bytes(&rt, alloc, "a"),
+        from: bytes(alloc, "a")?,
         to: None,
     };
-    writes_range(&rt, alloc, &range, "{\"key\":\"YQ==\"}");
-    range.to = Some(bytes(&rt, alloc, "b\u{0}"));
-    let wanted = "{\"key\":\"YQ==\",\"range_end\":\"YgA=\"}";
-    writes_range(&rt, alloc, &range, wanted);
-    let wanted = "{\"compare\":[{\"key\":\"YQ==\",\"mod_revision\":\"0\",\"target\":\"MOD\"},\
-        {\"key\":\"b3du\",\"target\":\"VALUE\",\"value\":\"Yw==\"}],\
-        \"success\":[{\"request_put\":{\"key\":\"YQ==\",\"value\":\"Yg==\"}}]}";
-    writes_txn(&rt, alloc, &guarded_put(&rt, alloc), wanted);
-}
-
-fn is_pair(rt: &impl Abort, pair: &Pair, key: &str, value: &str) {
-    are_equal(rt, pair.key.as_slice(), key.as_bytes());
-    are_equal(rt, pair.value.as_slice(), value.as_bytes());
-    are_equal(rt, pair.revision, 2);
-}
-
-// The answer has these pairs, at this revision.
-fn has(rt: &impl Abort, found: &Found, revision: u64, wanted: &[(&str, &str)]) {
-    are_equal(
-        rt,
-        (found.revision, found.pairs.len()),
-        (revision, wanted.len()),
+    assert_eq!(rt; range_text(alloc, &range)?.as_str(), "{\"key\":\"YQ==\"}");
+    range.to = Some(bytes(alloc, "b\u{0}")?);
+    assert_eq!(rt;
+        range_text(alloc, &range)?.as_str(),
+        "{\"key\":\"YQ==\",\"range_end\":\"YgA=\"}"
     );
-    for (pair, (key, value)) in found.pairs.iter().zip(wanted.iter()) {
-        is_pair(rt, pair, key, value);
+    assert_eq!(rt;
+        txn_text(alloc, &guarded_put(alloc)?)?.as_str(),
+        "{\"compare\":[{\"key\":\"YQ==\",\"mod_revision\":\"0\",\"target\":\"MOD\"},\
+        {\"key\":\"b3du\",\"target\":\"VALUE\",\"value\":\"Yw==\"}],\
+        \"success\":[{\"request_put\":{\"key\":\"YQ==\",\"value\":\"Yg==\"}}]}"
+    );
+    Ok(())
+}
+
+#[test]
+fn a_real_range_is_read(rt: HostRuntime) -> Result<(), Fail> {
+    let found = read_found(rt.alloc(), FOUND)?;
+    assert_eq!(rt; (found.revision, found.pairs.len()), (2, 2));
+    for (pair, (key, value)) in found.pairs.iter().zip([("a", "b"), ("ab", "")]) {
+        assert!(rt; pair.key.as_slice() == key.as_bytes());
+        assert!(rt; pair.value.as_slice() == value.as_bytes());
+        assert_eq!(rt; pair.revision, 2);
     }
-}
-
-fn is_found(rt: &impl Abort, alloc: Global, body: &[u8], revision: u64, wanted: &[(&str, &str)]) {
-    let found = read_found(alloc, body).expect(rt, "not read");
-    has(rt, &found, revision, wanted);
-}
-
-#[test]
-fn a_real_range_is_read(rt: HostRuntime) {
-    is_found(&rt, rt.alloc(), FOUND, 2, &[("a", "b"), ("ab", "")]);
-    is_found(&rt, rt.alloc(), NOTHING, 1, &[]);
-}
-
-// These stand alone, so that the tests don't carry what a reader says.
-fn outcome(alloc: Global, body: &[u8]) -> Result<Outcome, AnswerFault> {
-    read_outcome(alloc, body)
-}
-
-fn fault(alloc: Global, body: &[u8]) -> Option<AnswerFault> {
-    read_found(alloc, body).err()
-}
-
-fn refusal_fault(alloc: Global, body: &[u8]) -> Option<AnswerFault> {
-    read_refusal(alloc, body).err()
+    let Found { revision, pairs } = read_found(rt.alloc(), NOTHING)?;
+    assert_eq!(rt; (revision, pairs.len()), (1, 0));
+    Ok(())
 }
 
 #[test]
-fn a_real_outcome_is_read(rt: HostRuntime) {
-    let made = Outcome {
-        succeeded: true,
-        revision: 2,
-    };
-    are_equal(&rt, outcome(rt.alloc(), SUCCEEDED), Ok(made));
-    let nothing = outcome(rt.alloc(), NOTHING).expect(&rt, "not read");
-    assert!(rt; !nothing.succeeded);
+fn a_real_outcome_is_read(rt: HostRuntime) -> Result<(), Fail> {
+    let made = read_outcome(rt.alloc(), SUCCEEDED)?;
+    assert_eq!(rt;
+        made,
+        Outcome {
+            succeeded: true,
+            revision: 2
+        }
+    );
+    assert!(rt; !read_outcome(rt.alloc(), NOTHING)?.succeeded);
     let odd = b"{\"header\":{\"revision\":\"2\"},\"succeeded\":\"true\"}";
-    let fault = AnswerFault::OtherKind(Field::Succeeded);
-    are_equal(&rt, outcome(rt.alloc(), odd), Err(fault));
-}
-
-fn is_refusal(rt: &impl Abort, alloc: Global, body: &[u8], code: u64, message: &str) {
-    let refusal = read_refusal(alloc, body).expect(rt, "not read");
-    are_equal(rt, refusal.code, code);
-    are_equal(rt, refusal.message.as_str(), message);
+    assert_eq!(rt;
+        read_outcome(rt.alloc(), odd),
+        Err(AnswerFault::OtherKind(Field::Succeeded))
+    );
+    Ok(())
 }
 
 #[test]
-fn a_real_refusal_is_read(rt: HostRuntime) {
-    let message = "etcdserver: mvcc: database space exceeded";
-    is_refusal(&rt, rt.alloc(), NO_SPACE, 8, message);
-    let fault = refusal_fault(rt.alloc(), b"{\"code\":\"8\"}");
-    are_equal(&rt, fault, Some(AnswerFault::OtherKind(Field::Code)));
+fn a_real_refusal_is_read(rt: HostRuntime) -> Result<(), Fail> {
+    let refusal = read_refusal(rt.alloc(), NO_SPACE)?;
+    assert_eq!(rt; refusal.code, 8);
+    assert_eq!(rt;
+        refusal.message.as_str(),
+        "etcdserver: mvcc: database space exceeded"
+    );
+    let odd = b"{\"code\":\"8\"}";
+    let fault = read_refusal(rt.alloc(), odd).err();
+    assert_eq!(rt; fault, Some(AnswerFault::OtherKind(Field::Code)));
+    Ok(())
 }
 
 #[test]
-fn each_fault_has_its_name(rt: HostRuntime) {
+fn each_fault_has_its_name(rt: HostRuntime) -> Result<(), Fail> {
     for (body, wanted) in FAULTS {
-        are_equal(&rt, fault(rt.alloc(), body), Some(wanted));
+        let fault = read_found(rt.alloc(), body).err();
+        assert_eq!(rt; fault, Some(wanted));
     }
+    Ok(())
 }

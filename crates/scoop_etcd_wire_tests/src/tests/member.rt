@@ -2,8 +2,7 @@
 
 use std::alloc::Global;
 use std::io::{ErrorKind, Read, Write};
-use std::net::{Net, TcpListener, TcpStream};
-use std::process::Abort;
+use std::net::{TcpListener, TcpStream};
 use std::thread;
 use std::time::{Clock, Duration};
 
@@ -53,27 +52,28 @@ fn accepted<R: Clock>(rt: &R, listener: &TcpListener) -> Option<TcpStream> {
     None
 }
 
-// Reads a request, which ends with its JSON, into the text. Returns whether it is whole.
-fn is_read(stream: &mut TcpStream, text: &mut String) -> bool {
+// Reads a request, which ends with its JSON. `None` if it isn't whole.
+fn request(alloc: Global, stream: &mut TcpStream) -> Option<String> {
+    let mut text = String::new(alloc);
     let mut buffer = [0; 4096];
     for _ in 0..100 {
         let Ok(len) = stream.read(&mut buffer) else {
-            return false;
+            return None;
         };
         let Some(bytes) = buffer.get(..len) else {
-            return false;
+            return None;
         };
         let Ok(part) = str::from_utf8(bytes) else {
-            return false;
+            return None;
         };
         if part.is_empty() || text.push_str(part).is_err() {
-            return false;
+            return None;
         }
         if part.ends_with('}') {
-            return true;
+            return Some(text);
         }
     }
-    false
+    None
 }
 
 fn answers(alloc: Global, stream: &mut TcpStream, status: &str, body: &str) -> bool {
@@ -110,34 +110,18 @@ fn perform<R: Clock>(
     }
 }
 
-// Reads the request of a connection, and acts on it.
-fn hears<R: Clock>(rt: &R, alloc: Global, stream: &mut TcpStream, act: Act) -> bool {
-    let mut request = String::new(alloc);
-    is_read(stream, &mut request) && perform(rt, alloc, stream, &request, act)
-}
-
-// Takes the next connection, and acts on its request.
-fn acts<R: Clock>(rt: &R, alloc: Global, listener: &TcpListener, act: Act) -> bool {
-    match accepted(rt, listener) {
-        Some(mut stream) => hears(rt, alloc, &mut stream, act),
-        None => false,
-    }
-}
-
 /// Follows the script, a connection for each act. Returns whether all acts came to their turn.
 pub fn follow<R: Clock>(rt: &R, alloc: Global, listener: &TcpListener, script: &[Act]) -> bool {
     for next in script {
-        if !acts(rt, alloc, listener, *next) {
+        let Some(mut stream) = accepted(rt, listener) else {
+            return false;
+        };
+        let Some(request) = request(alloc, &mut stream) else {
+            return false;
+        };
+        if !perform(rt, alloc, &mut stream, &request, *next) {
             return false;
         }
     }
     true
-}
-
-/// A listener for a member's connections, and its port.
-pub fn listen<R: Net<Listener = TcpListener>>(rt: &impl Abort, net: &R) -> (TcpListener, u16) {
-    let listener = TcpListener::bind(net, "127.0.0.1:0").expect(rt, "no listener");
-    listener.set_nonblocking(true).expect(rt, "blocking");
-    let port = listener.local_addr().expect(rt, "no address").port();
-    (listener, port)
 }

@@ -1,16 +1,16 @@
 //! Stores of parties that are made and taken over, over a member that follows a script.
 
-use super::are_equal;
-use super::member::{Act, BAD, FULL, MADE, NOT_MADE, OK, follow, listen};
-use scoop_etcd::{Etcd, Owner};
+use super::member::{Act, BAD, FULL, MADE, NOT_MADE, OK, follow};
+use scoop_etcd::{Etcd, EtcdStore, Owner};
 use scoop_etcd_calls::Range;
 use scoop_etcd_place::EtcdPlace;
-use scoop_etcd_stores::{EtcdFault, adopt, connect, create, create_after, report_etcd};
+use scoop_etcd_stores::{EtcdFault, SharedEtcd, adopt, connect, create, create_after, report_etcd};
 use scoop_keeper::Keeper;
 use scoop_message::ClientId;
 use scoop_report::Hints;
-use std::alloc::Global;
+use std::net::TcpListener;
 use std::process::Abort;
+use std::test::Fail;
 use std::thread;
 use std::thread::Threads;
 
@@ -32,17 +32,19 @@ enum Call {
 }
 
 // The client's next incarnation.
-fn next<K: Keeper<Global>>(store: &mut K) -> Result<u32, EtcdFault> {
+fn next(store: Result<EtcdStore<SharedEtcd<'_>>, EtcdFault>) -> Result<u32, EtcdFault> {
+    let mut store = store?;
     match store.next_incarnation(CLIENT) {
         Ok(inc) => Ok(inc),
         Err(_) => Err(EtcdFault::Overtaken),
     }
 }
 
-// The revision of the etcd.
-fn revision<E: Etcd>(alloc: Global, etcd: &mut E) -> Result<u32, EtcdFault> {
+// The revision of the etcd at the place.
+fn look(rt: &HostRuntime, place: &EtcdPlace<'_>) -> Result<u32, EtcdFault> {
+    let mut etcd = connect(rt, place)?;
     let range = Range {
-        from: Vec::new(alloc),
+        from: Vec::new(rt.alloc()),
         to: None,
     };
     match etcd.range(&range) {
@@ -51,40 +53,32 @@ fn revision<E: Etcd>(alloc: Global, etcd: &mut E) -> Result<u32, EtcdFault> {
     }
 }
 
-// The revision of the etcd at the place.
-fn look(host: &HostRuntime, place: &EtcdPlace<'_>) -> Result<u32, EtcdFault> {
-    match connect(host, place) {
-        Ok(mut etcd) => revision(host.alloc(), &mut etcd),
-        Err(fault) => Err(fault),
-    }
-}
-
 // Makes the call at the place. Returns 0 for a store.
-fn called(host: &HostRuntime, place: &EtcdPlace<'_>, call: Call) -> Result<u32, EtcdFault> {
+fn called(rt: &HostRuntime, place: &EtcdPlace<'_>, call: Call) -> Result<u32, EtcdFault> {
     match call {
-        Call::Create => match create(host, place, NODE) {
+        Call::Create => match create(rt, place, NODE) {
             Ok(_) => Ok(0),
             Err(fault) => Err(fault),
         },
-        Call::Adopt => match adopt(host, place, NODE) {
+        Call::Adopt => match adopt(rt, place, NODE) {
             Ok(_) => Ok(0),
             Err(fault) => Err(fault),
         },
-        Call::NextAfter(last) => match create_after(host, place, CLIENT, last) {
-            Ok(mut store) => next(&mut store),
-            Err(fault) => Err(fault),
-        },
-        Call::Look => look(host, place),
+        Call::NextAfter(last) => next(create_after(rt, place, CLIENT, last)),
+        Call::Look => look(rt, place),
     }
 }
 
-// Makes the call at the members, under the name `bank`.
-fn called_at(host: &HostRuntime, members: &str, call: Call) -> Result<u32, EtcdFault> {
+// Makes the call at the member of this port, under the name `bank`.
+fn called_at(rt: &HostRuntime, port: u16, call: Call) -> Option<Result<u32, EtcdFault>> {
+    let Ok(members) = format!(in rt.alloc(); "127.0.0.1:{port}") else {
+        return None;
+    };
     let place = EtcdPlace {
-        members,
+        members: &members,
         name: "bank",
     };
-    called(host, &place, call)
+    Some(called(rt, &place, call))
 }
 
 // The call over a member with this script comes to this.
@@ -94,17 +88,18 @@ fn comes_to<R: Threads + Abort>(
     script: &[Act],
     call: Call,
     wanted: Result<u32, EtcdFault>,
-) {
-    let (listener, port) = listen(rt, host);
-    let member = format!(in host.alloc(); "127.0.0.1:{port}").expect(rt, "no memory");
-    let members = member.as_str();
+) -> Result<(), Fail> {
+    let listener = TcpListener::bind(host, "127.0.0.1:0")?;
+    listener.set_nonblocking(true)?;
+    let port = listener.local_addr()?.port();
     let (result, is_followed) = thread::join(
         rt,
-        move || called_at(host, members, call),
+        move || called_at(host, port, call),
         move || follow(host, host.alloc(), &listener, script),
     );
-    are_equal(rt, result, wanted);
+    assert_eq!(rt; result, Some(wanted));
     assert!(rt; is_followed);
+    Ok(())
 }
 
 // The key `bank/owner/node/1`, and a token that stands there, put at revision 6.
@@ -125,36 +120,38 @@ const TAKEN: Act = Act::Tells(NODE_KEY, MADE);
 const NOT_TAKEN: Act = Act::Tells(NODE_KEY, NOT_MADE);
 
 #[test]
-fn a_store_is_made_once(rt: HostRuntime) {
-    comes_to(&rt, &rt, &[UNOWNED, TAKEN], Call::Create, Ok(0));
+fn a_store_is_made_once(rt: HostRuntime) -> Result<(), Fail> {
+    comes_to(&rt, &rt, &[UNOWNED, TAKEN], Call::Create, Ok(0))?;
     comes_to(
         &rt,
         &rt,
         &[OWNED_BEFORE],
         Call::Create,
         Err(EtcdFault::Exists),
-    );
+    )?;
     // another program makes it at the same time
     let script = [UNOWNED, NOT_TAKEN];
-    comes_to(&rt, &rt, &script, Call::Create, Err(EtcdFault::Exists));
+    comes_to(&rt, &rt, &script, Call::Create, Err(EtcdFault::Exists))?;
+    Ok(())
 }
 
 #[test]
-fn a_store_is_taken_over(rt: HostRuntime) {
-    comes_to(&rt, &rt, &[OWNED_BEFORE, TAKEN], Call::Adopt, Ok(0));
-    comes_to(&rt, &rt, &[UNOWNED], Call::Adopt, Err(EtcdFault::NoStore));
+fn a_store_is_taken_over(rt: HostRuntime) -> Result<(), Fail> {
+    comes_to(&rt, &rt, &[OWNED_BEFORE, TAKEN], Call::Adopt, Ok(0))?;
+    comes_to(&rt, &rt, &[UNOWNED], Call::Adopt, Err(EtcdFault::NoStore))?;
     let script = [OWNED_BEFORE, NOT_TAKEN];
-    comes_to(&rt, &rt, &script, Call::Adopt, Err(EtcdFault::Raced));
+    comes_to(&rt, &rt, &script, Call::Adopt, Err(EtcdFault::Raced))?;
+    Ok(())
 }
 
 #[test]
-fn a_store_is_refused_by_the_etcd(rt: HostRuntime) {
+fn a_store_is_refused_by_the_etcd(rt: HostRuntime) -> Result<(), Fail> {
     let full = Act::Answers("429 Too Many Requests", FULL);
     let script = [OWNED_BEFORE, full];
-    comes_to(&rt, &rt, &script, Call::Adopt, Err(EtcdFault::NoSpace));
+    comes_to(&rt, &rt, &script, Call::Adopt, Err(EtcdFault::NoSpace))?;
     let bad = Act::Answers("400 Bad Request", BAD);
-    comes_to(&rt, &rt, &[bad], Call::Adopt, Err(EtcdFault::Refused));
-    comes_to(&rt, &rt, &[bad], Call::Create, Err(EtcdFault::Refused));
+    comes_to(&rt, &rt, &[bad], Call::Adopt, Err(EtcdFault::Refused))?;
+    comes_to(&rt, &rt, &[bad], Call::Create, Err(EtcdFault::Refused))?;
     let odd = Act::Answers(OK, "nothing");
     comes_to(
         &rt,
@@ -162,7 +159,8 @@ fn a_store_is_refused_by_the_etcd(rt: HostRuntime) {
         &[odd],
         Call::NextAfter(5),
         Err(EtcdFault::BadAnswer),
-    );
+    )?;
+    Ok(())
 }
 
 // The key `bank/clients/7`, and the incarnations 5 and 4 that stand there, put at revision 6.
@@ -191,7 +189,7 @@ const RAISED: Act = Act::Tells(
 
 /// The incarnation is put before the store is made. A second run finds it there.
 #[test]
-fn a_client_goes_on_above_its_last_incarnation(rt: HostRuntime) {
+fn a_client_goes_on_above_its_last_incarnation(rt: HostRuntime) -> Result<(), Fail> {
     let script = [
         Act::Tells(INC_KEY, NOT_MADE),
         Act::Tells(BEGINS, MADE),
@@ -200,7 +198,7 @@ fn a_client_goes_on_above_its_last_incarnation(rt: HostRuntime) {
         Act::Tells(INC_KEY, FIVE),
         RAISED,
     ];
-    comes_to(&rt, &rt, &script, Call::NextAfter(5), Ok(6));
+    comes_to(&rt, &rt, &script, Call::NextAfter(5), Ok(6))?;
     let script = [
         Act::Tells(INC_KEY, FIVE),
         Act::Tells(CLIENT_KEY, NOT_MADE),
@@ -208,31 +206,34 @@ fn a_client_goes_on_above_its_last_incarnation(rt: HostRuntime) {
         Act::Tells(INC_KEY, FIVE),
         RAISED,
     ];
-    comes_to(&rt, &rt, &script, Call::NextAfter(5), Ok(6));
+    comes_to(&rt, &rt, &script, Call::NextAfter(5), Ok(6))?;
+    Ok(())
 }
 
 #[test]
-fn a_client_that_ran_before_is_not_begun(rt: HostRuntime) {
+fn a_client_that_ran_before_is_not_begun(rt: HostRuntime) -> Result<(), Fail> {
     let exists = Err(EtcdFault::Exists);
     // another incarnation stands there, or the client's store does
     let script = [Act::Tells(INC_KEY, FOUR), Act::Tells(BEGINS, NOT_MADE)];
-    comes_to(&rt, &rt, &script, Call::NextAfter(5), exists);
+    comes_to(&rt, &rt, &script, Call::NextAfter(5), exists)?;
     let script = [Act::Tells(INC_KEY, FIVE), Act::Tells(CLIENT_KEY, OWNED)];
-    comes_to(&rt, &rt, &script, Call::NextAfter(5), exists);
+    comes_to(&rt, &rt, &script, Call::NextAfter(5), exists)?;
+    Ok(())
 }
 
 #[test]
-fn an_etcd_has_one_to_eight_members(rt: HostRuntime) {
-    comes_to(&rt, &rt, &[Act::Answers(OK, OWNED)], Call::Look, Ok(8));
+fn an_etcd_has_one_to_eight_members(rt: HostRuntime) -> Result<(), Fail> {
+    comes_to(&rt, &rt, &[Act::Answers(OK, OWNED)], Call::Look, Ok(8))?;
     let nine = EtcdPlace {
         members: "a:1,b:2,c:3,d:4,e:5,f:6,g:7,h:8,i:9",
         name: "bank",
     };
-    are_equal(&rt, look(&rt, &nine), Err(EtcdFault::Refused));
+    assert_eq!(rt; look(&rt, &nine), Err(EtcdFault::Refused));
+    Ok(())
 }
 
 #[test]
 fn a_reported_fault_ends_the_program_with_3(rt: HostRuntime) {
     let status = report_etcd(&rt, Hints::Always, "etcd://a:1/bank", EtcdFault::NoStore);
-    are_equal(&rt, status.0, 3);
+    assert_eq!(rt; status.0, 3);
 }

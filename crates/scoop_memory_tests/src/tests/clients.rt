@@ -1,14 +1,15 @@
 //! A client.
 
-use super::are_equal;
 use super::data::{get, set};
-use super::growths::{Calling, Heap, Trial, Trying, add, answered, each_grows, none_grows, tried};
+use super::growths::{
+    Calling, Heap, Trial, Trying, add, answered, each_grows, growths, shown, tried,
+};
 use scoop_client::{BeginError, Client, ClientError};
 use scoop_message::{ClientId, HandlerId, Message};
 use scoop_refusing::Refusing;
 use std::alloc::{Allocator, Global};
 use std::net::Net;
-use std::process::Abort;
+use std::test::Fail;
 
 const SEVEN: ClientId = ClientId(7);
 
@@ -37,47 +38,41 @@ enum Call {
     End,
 }
 
-fn add_client<A: Allocator>(rt: &impl Abort, text: &mut String, client: &Client<A>) {
-    add(rt, text, &client.phase());
-    add(rt, text, &client.block());
-    add(rt, text, &client.batch());
-    add(rt, text, &client.handlers());
+fn add_client<A: Allocator>(text: &mut String, client: &Client<A>) -> Result<(), Fail> {
+    add(text, &client.phase())?;
+    add(text, &client.block())?;
+    add(text, &client.batch())?;
+    add(text, &client.handlers())?;
     for handler in KNOWN {
-        add(rt, text, &client.due(handler));
+        add(text, &client.due(handler))?;
     }
+    Ok(())
 }
 
 // Adds the text of a client that has begun. False if memory ran out.
 fn begun<A: Allocator>(
-    rt: &impl Abort,
     text: &mut String,
     client: Result<Client<A>, BeginError>,
-) -> bool {
+) -> Result<bool, Fail> {
     match client {
-        Ok(client) => {
-            add_client(rt, text, &client);
-            true
-        }
-        Err(error) => {
-            are_equal(rt, error, BeginError::OutOfMemory);
-            false
-        }
+        Ok(client) => shown(add_client(text, &client)),
+        Err(BeginError::OutOfMemory) => Ok(false),
+        Err(error) => Err(error.into()),
     }
 }
 
 // The client's result of a command.
 fn commanded<A: Allocator + Clone>(
-    rt: &impl Abort,
     client: &mut Client<A>,
     call: Call,
-) -> Result<(), ClientError> {
-    match call {
-        Call::Reserve(count) => client.reserve(KNOWN.get(..count).expect(rt, "too many handlers")),
-        Call::Log => client.call(HandlerId(1), set(rt, 5)),
-        Call::Query => client.query(HandlerId(1), get(rt)),
+) -> Result<Result<(), ClientError>, Fail> {
+    Ok(match call {
+        Call::Reserve(count) => client.reserve(KNOWN.get(..count).ok_or("so many")?),
+        Call::Log => client.call(HandlerId(1), set(5)?),
+        Call::Query => client.query(HandlerId(1), get()?),
         Call::End => client.end(),
         Call::Begin | Call::BeginAt | Call::BeginBatched => Ok(()),
-    }
+    })
 }
 
 /// A client, and a call on it.
@@ -89,21 +84,21 @@ struct Commanding<'c, 'a> {
 }
 
 impl Calling for Commanding<'_, '_> {
-    fn call<R: Net + Abort>(&mut self, rt: &R, text: &mut String) -> bool {
+    fn call(&mut self, text: &mut String) -> Result<bool, Fail> {
         let heap = self.heap;
         match self.call {
-            Call::Begin => begun(rt, text, Client::begin(heap, SEVEN, 2, &KNOWN)),
-            Call::BeginAt => begun(rt, text, Client::begin_at(heap, SEVEN, 2, &KNOWN, 9)),
-            Call::BeginBatched => begun(rt, text, Client::begin_batched(heap, SEVEN, 2, &KNOWN, 4)),
+            Call::Begin => begun(text, Client::begin(heap, SEVEN, 2, &KNOWN)),
+            Call::BeginAt => begun(text, Client::begin_at(heap, SEVEN, 2, &KNOWN, 9)),
+            Call::BeginBatched => begun(text, Client::begin_batched(heap, SEVEN, 2, &KNOWN, 4)),
             Call::Reserve(_) | Call::Log | Call::Query | Call::End => {
-                let taken = commanded(rt, self.client, self.call);
-                answered(rt, text, taken, ClientError::OutOfMemory)
+                let taken = commanded(self.client, self.call)?;
+                answered(text, taken, &ClientError::OutOfMemory)
             }
         }
     }
 
-    fn read<R: Abort>(&mut self, rt: &R, text: &mut String) {
-        add_client(rt, text, self.client);
+    fn read(&mut self, text: &mut String) -> Result<(), Fail> {
+        add_client(text, self.client)
     }
 }
 
@@ -130,51 +125,48 @@ fn settle<A: Allocator>(client: &mut Client<A>) {
 }
 
 // A trial of the call on a client, which settles first, and reserves a block for a call that needs one.
-fn tries_on<'a, R: Net + Abort>(
-    rt: &R,
+fn tries_on<'a>(
     alloc: Global,
     heap: Heap<'a>,
     client: &mut Client<Heap<'a>>,
     call: Call,
     number: u64,
-) -> Trial {
+) -> Result<Trial, Fail> {
     settle(client);
     if matches!(call, Call::Log | Call::Query | Call::End) {
-        commanded(rt, client, Call::Reserve(8)).expect(rt, "not reserved");
+        commanded(client, Call::Reserve(8))??;
         settle(client);
     }
-    tried(
-        rt,
-        alloc,
-        heap,
-        number,
-        &mut Commanding { heap, call, client },
-    )
+    tried(alloc, heap, number, &mut Commanding { heap, call, client })
 }
 
 impl Trying for Call {
-    fn tries<R: Net + Abort>(self, rt: &R, alloc: Global, _count: u32, number: u64) -> Trial {
+    fn tries<R: Net>(
+        self,
+        _rt: &R,
+        alloc: Global,
+        _count: u32,
+        number: u64,
+    ) -> Result<Trial, Fail> {
         let heap = &Refusing::new(alloc, 0);
-        let mut client = Client::begin(heap, SEVEN, 1, &KNOWN).expect(rt, "not begun");
-        tries_on(rt, alloc, heap, &mut client, self, number)
+        let mut client = Client::begin(heap, SEVEN, 1, &KNOWN)?;
+        tries_on(alloc, heap, &mut client, self, number)
     }
 }
 
-/// Calls that take memory.
-const TAKING: [Call; 5] = [
-    Call::Begin,
-    Call::BeginAt,
-    Call::BeginBatched,
-    Call::Reserve(1),
-    Call::Reserve(8),
-];
-
-/// Calls that take none.
-const OTHERS: [Call; 3] = [Call::Log, Call::Query, Call::End];
-
 /// A client takes memory as it begins and as it reserves, and none after that.
 #[test]
-fn clients_begin_and_reserve(rt: HostRuntime) {
-    each_grows(&rt, rt.alloc(), &TAKING, 0..1, 0);
-    none_grows(&rt, rt.alloc(), &OTHERS);
+fn clients_begin_and_reserve(rt: HostRuntime) -> Result<(), Fail> {
+    let taking = [
+        Call::Begin,
+        Call::BeginAt,
+        Call::BeginBatched,
+        Call::Reserve(1),
+        Call::Reserve(8),
+    ];
+    each_grows(&rt, rt.alloc(), &taking, 0..1, 0)?;
+    for call in [Call::Log, Call::Query, Call::End] {
+        assert_eq!(rt; growths(&rt, rt.alloc(), call, 0)?, 0, "{call:?}");
+    }
+    Ok(())
 }

@@ -1,14 +1,13 @@
 //! Classes.
 
-use super::are_equal;
 use super::data::cell_rows;
-use super::growths::{Calling, Heap, Trial, Trying, add, each_grows, tried};
+use super::growths::{Calling, Heap, Trial, Trying, add, each_grows, shown, tried};
 use scoop_message::OutOfMemory;
 use scoop_object::{Class, ClassError};
 use scoop_refusing::Refusing;
 use std::alloc::{Allocator, Global};
 use std::net::Net;
-use std::process::Abort;
+use std::test::Fail;
 
 /// A call that makes a class of another.
 #[derive(Clone, Copy, Debug)]
@@ -26,9 +25,9 @@ struct Kept<'a> {
     class: Class<Heap<'a>>,
 }
 
-fn add_class<A: Allocator>(rt: &impl Abort, text: &mut String, class: &Class<A>) {
-    add(rt, text, &class.words());
-    add(rt, text, &class.rows());
+fn add_class<A: Allocator>(text: &mut String, class: &Class<A>) -> Result<(), Fail> {
+    add(text, &class.words())?;
+    add(text, &class.rows())
 }
 
 // The class that a call makes of this one.
@@ -49,36 +48,36 @@ fn made<A: Allocator + Copy>(
 }
 
 impl Calling for Kept<'_> {
-    fn call<R: Net + Abort>(&mut self, rt: &R, text: &mut String) -> bool {
+    fn call(&mut self, text: &mut String) -> Result<bool, Fail> {
         match made(self.heap, &self.class, self.call) {
-            Ok(class) => {
-                add_class(rt, text, &class);
-                true
-            }
-            Err(error) => {
-                are_equal(rt, error, ClassError::OutOfMemory);
-                false
-            }
+            Ok(class) => shown(add_class(text, &class)),
+            Err(ClassError::OutOfMemory) => Ok(false),
+            Err(error) => Err(error.into()),
         }
     }
 
-    fn read<R: Abort>(&mut self, rt: &R, text: &mut String) {
-        add_class(rt, text, &self.class);
+    fn read(&mut self, text: &mut String) -> Result<(), Fail> {
+        add_class(text, &self.class)
     }
 }
 
 impl Trying for Call {
-    fn tries<R: Net + Abort>(self, rt: &R, alloc: Global, _count: u32, number: u64) -> Trial {
+    fn tries<R: Net>(
+        self,
+        _rt: &R,
+        alloc: Global,
+        _count: u32,
+        number: u64,
+    ) -> Result<Trial, Fail> {
         let heap = &Refusing::new(alloc, 0);
-        let class = Class::build(heap, 1, &cell_rows(rt)).expect(rt, "no class");
+        let class = Class::build(heap, 1, &cell_rows()?)?;
         let call = self;
-        tried(rt, alloc, heap, number, &mut Kept { heap, call, class })
+        tried(alloc, heap, number, &mut Kept { heap, call, class })
     }
 }
 
-const CALLS: [Call; 3] = [Call::Build, Call::Copy, Call::CopyIn];
-
 #[test]
-fn classes_are_built_and_copied(rt: HostRuntime) {
-    each_grows(&rt, rt.alloc(), &CALLS, 0..1, 0);
+fn classes_are_built_and_copied(rt: HostRuntime) -> Result<(), Fail> {
+    let calls = [Call::Build, Call::Copy, Call::CopyIn];
+    each_grows(&rt, rt.alloc(), &calls, 0..1, 0)
 }

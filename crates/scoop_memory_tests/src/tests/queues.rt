@@ -1,14 +1,14 @@
 //! The queue of queues.
 
 use super::data::{block, four, set};
-use super::growths::{Calling, Heap, Trial, Trying, add, answered, each_grows, tried};
+use super::growths::{Calling, Heap, Trial, Trying, add, answered, each_grows, shown, tried};
 use scoop_message::limits::MAX_PENDING;
 use scoop_message::{Block, Entries, Entry, OutOfMemory};
 use scoop_queue::{AppendError, Head, OpenQueueError, PutError, QueueOfQueues, QueueState};
 use scoop_refusing::Refusing;
 use std::alloc::{Allocator, Global};
 use std::net::Net;
-use std::process::Abort;
+use std::test::Fail;
 
 /// A call on a queue of queues.
 #[derive(Clone, Copy, Debug)]
@@ -22,24 +22,25 @@ enum Call {
 
 // The entries of the private queue at this place.
 fn add_entries<A: Allocator>(
-    rt: &impl Abort,
     text: &mut String,
     queues: &QueueOfQueues<A>,
     i: usize,
-) {
+) -> Result<(), Fail> {
     for j in 0..MAX_PENDING {
         if let Some(entry) = queues.entry(i, j) {
-            add(rt, text, &entry);
+            add(text, &entry)?;
         }
     }
+    Ok(())
 }
 
 /// Adds the private queues with their entries.
-pub fn add_queues<A: Allocator>(rt: &impl Abort, text: &mut String, queues: &QueueOfQueues<A>) {
+pub fn add_queues<A: Allocator>(text: &mut String, queues: &QueueOfQueues<A>) -> Result<(), Fail> {
     for i in 0..queues.list_len() {
-        add(rt, text, &queues.head(i));
-        add_entries(rt, text, queues, i);
+        add(text, &queues.head(i))?;
+        add_entries(text, queues, i)?;
     }
+    Ok(())
 }
 
 fn append<A: Allocator + Copy>(
@@ -84,17 +85,10 @@ fn put<A: Allocator>(queues: &mut QueueOfQueues<A>, entry: Entry) -> Result<(), 
 }
 
 // Adds the text of a copy. False if memory ran out.
-fn copied<A: Allocator + Copy>(
-    rt: &impl Abort,
-    text: &mut String,
-    queues: &QueueOfQueues<A>,
-) -> bool {
+fn copied<A: Allocator + Copy>(text: &mut String, queues: &QueueOfQueues<A>) -> Result<bool, Fail> {
     match queues.copy() {
-        Ok(copy) => {
-            add_queues(rt, text, &copy);
-            true
-        }
-        Err(OutOfMemory) => false,
+        Ok(copy) => shown(add_queues(text, &copy)),
+        Err(OutOfMemory) => Ok(false),
     }
 }
 
@@ -106,83 +100,81 @@ struct Kept<'q, 'a> {
 }
 
 impl Calling for Kept<'_, '_> {
-    fn call<R: Net + Abort>(&mut self, rt: &R, text: &mut String) -> bool {
-        let (queues, entries) = (&mut *self.queues, four(rt));
+    fn call(&mut self, text: &mut String) -> Result<bool, Fail> {
+        let (queues, entries) = (&mut *self.queues, four()?);
         match self.call {
             Call::Open => {
                 let opened = open(queues, block(8, 1));
-                answered(rt, text, opened, OpenQueueError::OutOfMemory)
+                answered(text, opened, &OpenQueueError::OutOfMemory)
             }
             Call::Append => {
                 let appended = append(queues, block(8, 1), &entries);
-                answered(rt, text, appended, AppendError::OutOfMemory)
+                answered(text, appended, &AppendError::OutOfMemory)
             }
             Call::Put => {
-                let entry = Entry::Call(set(rt, 9));
-                answered(rt, text, put(queues, entry), PutError::OutOfMemory)
+                let entry = Entry::Call(set(9)?);
+                answered(text, put(queues, entry), &PutError::OutOfMemory)
             }
-            Call::PutAll => answered(rt, text, put_all(queues, &entries), PutError::OutOfMemory),
-            Call::Copy => copied(rt, text, queues),
+            Call::PutAll => answered(text, put_all(queues, &entries), &PutError::OutOfMemory),
+            Call::Copy => copied(text, queues),
         }
     }
 
-    fn read<R: Abort>(&mut self, rt: &R, text: &mut String) {
-        add_queues(rt, text, self.queues);
+    fn read(&mut self, text: &mut String) -> Result<(), Fail> {
+        add_queues(text, self.queues)
     }
 }
 
 // Fills the private queue of client 7's first block N times, or, for the calls that ask for no single queue, adds N private
 // queues of that client.
 fn fill<A: Allocator + Copy>(
-    rt: &impl Abort,
     queues: &mut QueueOfQueues<A>,
     call: Call,
     count: u32,
-) {
-    let entries = four(rt);
+) -> Result<(), Fail> {
+    let entries = four()?;
     if matches!(call, Call::Put | Call::PutAll) {
-        open(queues, block(7, 1)).expect(rt, "not opened");
+        open(queues, block(7, 1))?;
         for _ in 0..count {
-            put_all(queues, &entries).expect(rt, "not put");
+            put_all(queues, &entries)?;
         }
     } else {
         for num in 0..count {
-            append(queues, block(7, num + 1), &entries).expect(rt, "not appended");
+            append(queues, block(7, num + 1), &entries)?;
         }
     }
+    Ok(())
 }
 
-fn tries_on<'a, R: Net + Abort>(
-    rt: &R,
+fn tries_on<'a>(
     alloc: Global,
     heap: Heap<'a>,
     queues: &mut QueueOfQueues<Heap<'a>>,
     call: Call,
     count: u32,
     number: u64,
-) -> Trial {
-    fill(rt, queues, call, count);
-    tried(rt, alloc, heap, number, &mut Kept { call, queues })
+) -> Result<Trial, Fail> {
+    fill(queues, call, count)?;
+    tried(alloc, heap, number, &mut Kept { call, queues })
 }
 
 impl Trying for Call {
-    fn tries<R: Net + Abort>(self, rt: &R, alloc: Global, count: u32, number: u64) -> Trial {
+    fn tries<R: Net>(self, _rt: &R, alloc: Global, count: u32, number: u64) -> Result<Trial, Fail> {
         let heap = &Refusing::new(alloc, 0);
         let mut queues = QueueOfQueues::new(heap);
-        tries_on(rt, alloc, heap, &mut queues, self, count, number)
+        tries_on(alloc, heap, &mut queues, self, count, number)
     }
 }
 
-const CALLS: [Call; 5] = [
-    Call::Open,
-    Call::Append,
-    Call::Put,
-    Call::PutAll,
-    Call::Copy,
-];
-
 /// Each call on nothing and on more and more, each of its growths refused.
 #[test]
-fn queues_grow(rt: HostRuntime) {
-    each_grows(&rt, rt.alloc(), &CALLS, 0..10, 1);
+fn queues_grow(rt: HostRuntime) -> Result<(), Fail> {
+    let calls = [
+        Call::Open,
+        Call::Append,
+        Call::Put,
+        Call::PutAll,
+        Call::Copy,
+    ];
+    each_grows(&rt, rt.alloc(), &calls, 0..10, 1)
 }

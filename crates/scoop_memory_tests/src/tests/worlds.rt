@@ -1,9 +1,8 @@
 //! A world.
 
-use super::are_equal;
 use super::data::{block, cell, class, get, set};
 use super::growths::{
-    Calling, Heap, Trial, Trying, add, answered, growths, growths_with_room, tried,
+    Calling, Heap, Trial, Trying, add, answered, growths, growths_with_room, shown, tried,
 };
 use scoop_client::ClientNote;
 use scoop_handler::{Note, Ran};
@@ -16,7 +15,7 @@ use scoop_world::{
 };
 use std::alloc::{Allocator, Global};
 use std::net::Net;
-use std::process::Abort;
+use std::test::Fail;
 
 const SEVEN: ClientId = ClientId(7);
 
@@ -110,29 +109,24 @@ fn command(client: u32, command: Command) -> Event {
     Event::Do(ClientId(client), command)
 }
 
-fn both(rt: &impl Abort) -> HandlerList {
-    HandlerList::of(&[ONE, HandlerId(2)]).expect(rt, "no list")
-}
-
 // The event of an act, after that many messages were sent.
-fn event(rt: &impl Abort, act: Act, sent: usize) -> Event {
-    match act {
-        Act::Reserve(client) => command(client, Command::Reserve(both(rt))),
-        Act::Set(client, handler) => {
-            command(client, Command::Call(HandlerId(handler), set(rt, 5)))
+fn event(act: Act, sent: usize) -> Result<Event, Fail> {
+    Ok(match act {
+        Act::Reserve(client) => {
+            let both = HandlerList::of(&[ONE, HandlerId(2)])?;
+            command(client, Command::Reserve(both))
         }
-        Act::Get(client, handler) => {
-            command(client, Command::Query(HandlerId(handler), get(rt)))
-        }
+        Act::Set(client, handler) => { command(client, Command::Call(HandlerId(handler), set(5)?)) }
+        Act::Get(client, handler) => { command(client, Command::Query(HandlerId(handler), get()?)) }
         Act::End(client) => command(client, Command::End),
         Act::GiveUp(client) => command(client, Command::GiveUp),
         Act::Tick(client, handler) => Event::Tick(ClientId(client), HandlerId(handler)),
-        Act::Take(back) => Event::Take(sent.checked_sub(back).expect(rt, "no such place")),
+        Act::Take(back) => Event::Take(sent.checked_sub(back).ok_or("no such place")?),
         Act::Begin(handler) => Event::Begin(HandlerId(handler)),
         Act::Finish(handler) => Event::Finish(HandlerId(handler)),
         Act::RestartClient(client) => Event::ClientRestart(ClientId(client)),
         Act::RestartNode(node) => Event::NodeRestart(node),
-    }
+    })
 }
 
 // How many messages were sent.
@@ -146,47 +140,45 @@ fn sent_count<A: Allocator + Copy>(world: &World<Table, A>) -> usize {
 }
 
 fn add_handler<A: Allocator + Copy>(
-    rt: &impl Abort,
     text: &mut String,
     world: &World<Table, A>,
     handler: HandlerId,
-) {
-    add(rt, text, &world.opened(handler));
-    add(rt, text, &world.ran(handler));
+) -> Result<(), Fail> {
+    add(text, &world.opened(handler))?;
+    add(text, &world.ran(handler))?;
     for client in 7..9 {
-        add(rt, text, &world.logged(block(client, 1), handler));
+        add(text, &world.logged(block(client, 1), handler))?;
     }
+    Ok(())
 }
 
 // Adds all that can be read of a world.
-fn add_world<A: Allocator + Copy>(rt: &impl Abort, text: &mut String, world: &World<Table, A>) {
-    add(rt, text, &world.joint());
+fn add_world<A: Allocator + Copy>(text: &mut String, world: &World<Table, A>) -> Result<(), Fail> {
+    add(text, &world.joint())?;
     for number in 1..3 {
-        add_handler(rt, text, world, HandlerId(number));
-        add(rt, text, &world.accepted(ClientId(6 + number)));
+        add_handler(text, world, HandlerId(number))?;
+        add(text, &world.accepted(ClientId(6 + number)))?;
     }
     for i in 0..100 {
-        add(rt, text, &world.sent(i));
+        add(text, &world.sent(i))?;
     }
+    Ok(())
 }
 
-fn placement(rt: &impl Abort, alloc: Global, number: u32) -> Placement<Table> {
-    Placement {
+fn placement(alloc: Global, number: u32) -> Result<Placement<Table>, Fail> {
+    Ok(Placement {
         node: number,
         handler: HandlerId(number),
-        class: class(rt, alloc),
-        object: cell(rt, alloc),
-    }
+        class: class(alloc)?,
+        object: cell(alloc)?,
+    })
 }
 
-fn placements(rt: &impl Abort, alloc: Global) -> Vec<Placement<Table>> {
+fn placements(alloc: Global) -> Result<Vec<Placement<Table>>, Fail> {
     let mut placements = Vec::new(alloc);
-    for number in 1..3 {
-        placements
-            .push(placement(rt, alloc, number))
-            .expect(rt, "out of memory");
-    }
-    placements
+    placements.push(placement(alloc, 1)?)?;
+    placements.push(placement(alloc, 2)?)?;
+    Ok(placements)
 }
 
 fn opens<'a>(
@@ -204,38 +196,36 @@ fn stepped<A: Allocator + Copy>(
     world.step(event)
 }
 
-fn new_world<'a>(rt: &impl Abort, alloc: Global, heap: Heap<'a>) -> World<Table, Heap<'a>> {
-    opens(heap, placements(rt, alloc)).expect(rt, "not opened")
+fn new_world<'a>(alloc: Global, heap: Heap<'a>) -> Result<World<Table, Heap<'a>>, Fail> {
+    Ok(opens(heap, placements(alloc)?)?)
 }
 
 // Names the types that an event and its note hold. The prover needs the names if both are lent on.
 type Parts = Option<(Command, HandlerList, Entry, Request, Ran, Note, ClientNote)>;
 
-// The story happens in a new world. Its events are added to these.
+// The story happens in a new world: its events. The world is borrowed, here as everywhere, so that no early return has to
+// drop it: the proof of each would follow all that a world holds.
 fn told_in<A: Allocator + Copy>(
-    rt: &impl Abort,
+    alloc: Global,
     world: &mut World<Table, A>,
-    events: &mut Vec<Event>,
-) {
+) -> Result<Vec<Event>, Fail> {
     // Names types that are held here, which the prover has to know.
     let _parts: Parts = None;
+    let mut events = Vec::new(alloc);
     for act in STORY {
         let sent = sent_count(world);
-        stepped(world, event(rt, act, sent)).expect(rt, "refused");
+        stepped(world, event(act, sent)?)?;
         // A new event, since the prover doesn't follow one that was passed on before.
-        events
-            .push(event(rt, act, sent))
-            .expect(rt, "out of memory");
+        events.push(event(act, sent)?)?;
     }
+    Ok(events)
 }
 
 // The events of the story.
-fn events(rt: &impl Abort, alloc: Global) -> Vec<Event> {
+fn events(alloc: Global) -> Result<Vec<Event>, Fail> {
     let heap = &Refusing::new(alloc, 0);
-    let mut world = new_world(rt, alloc, heap);
-    let mut events = Vec::new(alloc);
-    told_in(rt, &mut world, &mut events);
-    events
+    let mut world = new_world(alloc, heap)?;
+    told_in(alloc, &mut world)
 }
 
 fn ran<A: Allocator + Copy>(
@@ -253,94 +243,93 @@ struct Happening<'w, 'a> {
 }
 
 impl Calling for Happening<'_, '_> {
-    fn call<R: Net + Abort>(&mut self, rt: &R, text: &mut String) -> bool {
+    fn call(&mut self, text: &mut String) -> Result<bool, Fail> {
         // Names types that are held here, which the prover has to know.
         let _parts: Parts = None;
         let stepped = stepped(self.world, self.event);
-        answered(rt, text, stepped, WorldError::OutOfMemory)
+        answered(text, stepped, &WorldError::OutOfMemory)
     }
 
-    fn read<R: Abort>(&mut self, rt: &R, text: &mut String) {
-        add_world(rt, text, self.world);
+    fn read(&mut self, text: &mut String) -> Result<(), Fail> {
+        add_world(text, self.world)
     }
 }
 
 // The event at a place of the story, after those before it.
-fn happens<'a, R: Net + Abort>(
-    rt: &R,
+fn happens<'a>(
     alloc: Global,
     heap: Heap<'a>,
     world: &mut World<Table, Heap<'a>>,
     events: &[Event],
     at: u32,
     number: u64,
-) -> Trial {
-    let event = *events.get(at as usize).expect(rt, "no event");
-    runs_all(rt, world, events.get(..at as usize).expect(rt, "no events"));
-    tried(rt, alloc, heap, number, &mut Happening { event, world })
+) -> Result<Trial, Fail> {
+    let event = *events.get(at as usize).ok_or("no event")?;
+    ran(world, events.get(..at as usize).ok_or("no events")?)?;
+    tried(alloc, heap, number, &mut Happening { event, world })
 }
 
-fn runs_all<A: Allocator + Copy>(rt: &impl Abort, world: &mut World<Table, A>, events: &[Event]) {
-    ran(world, events).expect(rt, "refused");
+fn add_run<A: Allocator + Copy>(
+    text: &mut String,
+    world: &mut World<Table, A>,
+    events: &[Event],
+) -> Result<(), Fail> {
+    ran(world, events)?;
+    add_world(text, world)
 }
 
 // Adds all that can be read of a world in which these events have happened.
-fn add_ran(rt: &impl Abort, text: &mut String, alloc: Global, events: &[Event]) {
+fn add_ran(text: &mut String, alloc: Global, events: &[Event]) -> Result<(), Fail> {
     let heap = &Refusing::new(alloc, 0);
-    let mut world = new_world(rt, alloc, heap);
-    runs_all(rt, &mut world, events);
-    add_world(rt, text, &world);
+    let mut world = new_world(alloc, heap)?;
+    add_run(text, &mut world, events)
 }
 
 // Whether the world reads differently from one in which these events have happened.
 fn differs<A: Allocator + Copy>(
-    rt: &impl Abort,
     alloc: Global,
     world: &World<Table, A>,
     events: &[Event],
-) -> bool {
+) -> Result<bool, Fail> {
     let mut wanted = String::new(alloc);
-    add_ran(rt, &mut wanted, alloc, events);
+    add_ran(&mut wanted, alloc, events)?;
     let mut found = String::new(alloc);
-    add_world(rt, &mut found, world);
-    found.as_str() != wanted.as_str()
+    add_world(&mut found, world)?;
+    Ok(found.as_str() != wanted.as_str())
 }
 
 // All events as one run of a new world, with the growth of this number refused. If one was refused, the events before have
 // happened, and a run of the others goes on from there.
 fn runs<'a>(
-    rt: &impl Abort,
     alloc: Global,
     heap: Heap<'a>,
     world: &mut World<Table, Heap<'a>>,
     events: &[Event],
     number: u64,
     trial: &mut Trial,
-) {
+) -> Result<(), Fail> {
     heap.refuse(number);
     let run = ran(world, events);
     trial.refused = number != 0 && heap.has_refused();
     heap.refuse(0);
     if let Err((taken, error)) = run {
         trial.ran_out = error == WorldError::OutOfMemory;
-        let (before, others) = events.split_at_checked(taken).expect(rt, "too many");
-        trial.changed = differs(rt, alloc, world, before);
-        runs_all(rt, world, others);
+        trial.changed = differs(alloc, world, events.get(..taken).ok_or("so many")?)?;
+        ran(world, events.get(taken..).ok_or("so many")?)?;
     }
-    add_world(rt, &mut trial.shown, world);
+    add_world(&mut trial.shown, world)
 }
 
 fn tries_run<'a>(
-    rt: &impl Abort,
     alloc: Global,
     heap: Heap<'a>,
     world: &mut World<Table, Heap<'a>>,
     events: &[Event],
     number: u64,
-) -> Trial {
+) -> Result<Trial, Fail> {
     let mut trial = Trial::new(alloc);
-    runs(rt, alloc, heap, world, events, number, &mut trial);
-    trial
+    runs(alloc, heap, world, events, number, &mut trial)?;
+    Ok(trial)
 }
 
 /// A trial of these events.
@@ -353,41 +342,34 @@ enum Case<'e> {
 }
 
 impl Trying for Case<'_> {
-    fn tries<R: Net + Abort>(self, rt: &R, alloc: Global, count: u32, number: u64) -> Trial {
+    fn tries<R: Net>(self, _rt: &R, alloc: Global, count: u32, number: u64) -> Result<Trial, Fail> {
         let heap = &Refusing::new(alloc, 0);
-        let mut world = new_world(rt, alloc, heap);
+        let mut world = new_world(alloc, heap)?;
         match self {
-            Case::Step(events) => happens(rt, alloc, heap, &mut world, events, count, number),
-            Case::Run(events) => tries_run(rt, alloc, heap, &mut world, events, number),
+            Case::Step(events) => happens(alloc, heap, &mut world, events, count, number),
+            Case::Run(events) => tries_run(alloc, heap, &mut world, events, number),
         }
-    }
-}
-
-// Tries each event of the story. Each act that takes memory has a growth.
-fn steps_grow<R: Net + Abort>(rt: &R, alloc: Global, events: &[Event]) {
-    for (at, act) in (0u32..).zip(STORY.iter()) {
-        let count = growths_with_room(rt, alloc, Case::Step(events), at);
-        let takes = matches!(act, Act::Reserve(_) | Act::RestartClient(_));
-        assert!(rt; count > 0 || !takes, "{at}");
     }
 }
 
 /// Each event of the story, each of its growths refused.
 #[test]
-fn events_grow(rt: HostRuntime) {
-    let events = events(&rt, rt.alloc());
-    steps_grow(&rt, rt.alloc(), &events);
-}
-
-fn run_grows<R: Net + Abort>(rt: &R, alloc: Global, events: &[Event]) {
-    let count = growths_with_room(rt, alloc, Case::Run(events), 0);
-    assert!(rt; count > 50, "{count}");
+fn events_grow(rt: HostRuntime) -> Result<(), Fail> {
+    let events = events(rt.alloc())?;
+    for (at, act) in (0u32..).zip(STORY.iter()) {
+        let count = growths_with_room(&rt, rt.alloc(), Case::Step(&events), at)?;
+        let takes = matches!(act, Act::Reserve(_) | Act::RestartClient(_));
+        assert!(rt; count > 0 || !takes, "{at}");
+    }
+    Ok(())
 }
 
 #[test]
-fn runs_grow(rt: HostRuntime) {
-    let events = events(&rt, rt.alloc());
-    run_grows(&rt, rt.alloc(), &events);
+fn runs_grow(rt: HostRuntime) -> Result<(), Fail> {
+    let events = events(rt.alloc())?;
+    let count = growths_with_room(&rt, rt.alloc(), Case::Run(&events), 0)?;
+    assert!(rt; count > 50, "{count}");
+    Ok(())
 }
 
 /// A world that is to open.
@@ -402,30 +384,34 @@ struct Opened<'a> {
 }
 
 impl Calling for Opened<'_> {
-    fn call<R: Net + Abort>(&mut self, rt: &R, text: &mut String) -> bool {
-        match opens(self.heap, placements(rt, self.alloc)) {
-            Ok(world) => {
-                add_world(rt, text, &world);
-                true
-            }
-            Err(error) => {
-                are_equal(rt, error, WorldOpenError::OutOfMemory);
-                false
-            }
+    fn call(&mut self, text: &mut String) -> Result<bool, Fail> {
+        match opens(self.heap, placements(self.alloc)?) {
+            Ok(world) => shown(add_world(text, &world)),
+            Err(WorldOpenError::OutOfMemory) => Ok(false),
+            Err(error) => Err(error.into()),
         }
     }
 
-    fn read<R: Abort>(&mut self, _rt: &R, _text: &mut String) {}
+    fn read(&mut self, _text: &mut String) -> Result<(), Fail> {
+        Ok(())
+    }
 }
 
 impl Trying for Opening {
-    fn tries<R: Net + Abort>(self, rt: &R, alloc: Global, _count: u32, number: u64) -> Trial {
+    fn tries<R: Net>(
+        self,
+        _rt: &R,
+        alloc: Global,
+        _count: u32,
+        number: u64,
+    ) -> Result<Trial, Fail> {
         let heap = &Refusing::new(alloc, 0);
-        tried(rt, alloc, heap, number, &mut Opened { alloc, heap })
+        tried(alloc, heap, number, &mut Opened { alloc, heap })
     }
 }
 
 #[test]
-fn worlds_open(rt: HostRuntime) {
-    assert!(rt; growths(&rt, rt.alloc(), Opening, 0) > 5);
+fn worlds_open(rt: HostRuntime) -> Result<(), Fail> {
+    assert!(rt; growths(&rt, rt.alloc(), Opening, 0)? > 5);
+    Ok(())
 }

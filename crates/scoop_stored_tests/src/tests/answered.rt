@@ -1,7 +1,6 @@
 //! Runs of a cell that answer the lines of an input over a store.
 
-use super::{adopted, are_equal, class, created};
-use scoop_book::Book;
+use super::{adopted, class, created};
 use scoop_classes::CellObject;
 use scoop_demo::{RunError, answer_run, open_book};
 use scoop_keeper::{Keeper, KeeperError};
@@ -17,37 +16,31 @@ const ONE: HandlerId = HandlerId(1);
 /// An input, and the output of a run over all of it.
 type Case<'a> = (&'a str, &'a str);
 
-/// The book answers the input of a case, and writes its output.
-fn answers<B: Behaviour, K: Keeper<Global>>(
-    rt: &impl Abort,
-    alloc: Global,
-    book: &mut Book<B, K>,
-    (input, output): Case<'_>,
-) {
-    let mut written = Vec::new(alloc);
-    let ended = answer_run(book, Some(ONE), input.as_bytes(), &mut written);
-    are_equal(rt, ended, Ok(()));
-    are_equal(rt, written.as_slice(), output.as_bytes());
-}
-
 /// Runs the cell over a keeper, and returns the keeper.
 fn runs<B: Behaviour, K: Keeper<Global>>(
     rt: &impl Abort,
     alloc: Global,
     keeper: K,
     cell: B,
-    case: Case<'_>,
+    (input, output): Case<'_>,
 ) -> K {
-    let class = class(rt, alloc);
-    let mut book = open_book(alloc, keeper, ONE, class, cell).expect(rt, "no book");
-    answers(rt, alloc, &mut book, case);
+    let mut book = match open_book(alloc, keeper, ONE, class(rt, alloc), cell) {
+        Ok(book) => book,
+        Err(_) => panic!(rt; "no book"),
+    };
+    let mut written = Vec::new(alloc);
+    let ended = answer_run(&mut book, Some(ONE), input.as_bytes(), &mut written);
+    assert_eq!(rt; ended, Ok(()));
+    assert_eq!(rt; written.as_slice(), output.as_bytes());
     book.into_keeper()
 }
 
 /// The same with a cell in a box, which holds 0.
 fn runs_cell<K: Keeper<Global>>(rt: &impl Abort, alloc: Global, keeper: K, case: Case<'_>) -> K {
-    let cell = Box::new(alloc, CellObject::new(0)).expect(rt, "no cell");
-    runs(rt, alloc, keeper, Boxed::new(cell), case)
+    match Box::new(alloc, CellObject::new(0)) {
+        Ok(cell) => runs(rt, alloc, keeper, Boxed::new(cell), case),
+        Err(_) => panic!(rt; "no cell"),
+    }
 }
 
 /// Why no run of the cell begins over this keeper.
@@ -57,13 +50,18 @@ fn refusal<B: Behaviour, K: Keeper<Global>>(
     keeper: K,
     cell: B,
 ) -> Option<RunError> {
-    open_book(alloc, keeper, ONE, class(rt, alloc), cell).err()
+    match open_book(alloc, keeper, ONE, class(rt, alloc), cell) {
+        Ok(_) => None,
+        Err(error) => Some(error),
+    }
 }
 
 /// The same of a cell in a box, which holds 0.
 fn cell_refusal<K: Keeper<Global>>(rt: &impl Abort, alloc: Global, keeper: K) -> Option<RunError> {
-    let cell = Box::new(alloc, CellObject::new(0)).expect(rt, "no cell");
-    refusal(rt, alloc, keeper, Boxed::new(cell))
+    match Box::new(alloc, CellObject::new(0)) {
+        Ok(cell) => refusal(rt, alloc, keeper, Boxed::new(cell)),
+        Err(_) => panic!(rt; "no cell"),
+    }
 }
 
 /// A run over the store, and one over the same database opened again.
@@ -75,19 +73,17 @@ fn runs_twice<S: Alter + Drop>(
 ) {
     let [first, second] = cases;
     let store = runs_cell(rt, alloc, store, first);
-    let store = adopted(alloc, Some(store.into_connection())).expect(rt, "no store");
-    runs_cell(rt, alloc, store, second);
+    match adopted(alloc, Some(store.into_connection())) {
+        Some(store) => {
+            runs_cell(rt, alloc, store, second);
+        }
+        None => panic!(rt; "no store"),
+    }
 }
 
 /// A database with nothing.
 fn blank(alloc: Global) -> Option<Connection<MemStore>> {
     Connection::open_in_memory(alloc).ok()
-}
-
-fn makes<S: Alter + Drop>(rt: &impl Abort, connection: &mut Connection<S>, changes: &[&str]) {
-    for change in changes {
-        connection.execute(*change, &[]).expect(rt, *change);
-    }
 }
 
 /// A database that has been a new store, and then these changes.
@@ -98,7 +94,9 @@ fn database<S: Alter + Drop>(
     changes: &[&str],
 ) -> Connection<S> {
     let mut connection = created(rt, alloc, connection).into_connection();
-    makes(rt, &mut connection, changes);
+    for change in changes {
+        assert!(rt; connection.execute(*change, &[]).is_ok(), "{change}");
+    }
     connection
 }
 
@@ -109,8 +107,10 @@ fn changed<S: Alter + Drop>(
     connection: Option<Connection<S>>,
     changes: &[&str],
 ) -> Store<S> {
-    let connection = database(rt, alloc, connection, changes);
-    adopted(alloc, Some(connection)).expect(rt, "no store")
+    match adopted(alloc, Some(database(rt, alloc, connection, changes))) {
+        Some(store) => store,
+        None => panic!(rt; "no store"),
+    }
 }
 
 // A Lock before and after the greeting, and then once more.
@@ -133,14 +133,10 @@ const LOCKED: Case = (
     words 0\n",
 );
 
-/// Two runs over a new store.
-fn goes_on<S: Alter + Drop>(rt: &impl Abort, alloc: Global, connection: Option<Connection<S>>) {
-    runs_twice(rt, alloc, created(rt, alloc, connection), GONE_ON);
-}
-
 #[test]
 fn a_new_store_is_gone_on_with(rt: HostRuntime) {
-    goes_on(&rt, rt.alloc(), blank(rt.alloc()));
+    let store = created(&rt, rt.alloc(), blank(rt.alloc()));
+    runs_twice(&rt, rt.alloc(), store, GONE_ON);
 }
 
 // Client 7 has greeted and holds the lock.
@@ -156,40 +152,17 @@ const CUT: &str =
 
 const LATER: &str = "UPDATE meta SET version = 9";
 
-/// A run over a store of a whole image.
-fn goes_on_held<S: Alter + Drop>(
-    rt: &impl Abort,
-    alloc: Global,
-    connection: Option<Connection<S>>,
-) {
-    let held = changed(rt, alloc, connection, &[IMAGE, PENDING]);
-    runs_cell(rt, alloc, held, LOCKED);
-}
-
-/// A store of a cut image is refused.
-fn refuses_cut<S: Alter + Drop>(rt: &impl Abort, alloc: Global, connection: Option<Connection<S>>) {
-    let cut = changed(rt, alloc, connection, &[IMAGE, PENDING, CUT]);
-    let wanted = RunError::Store(KeeperError::BadImage(ONE));
-    are_equal(rt, cell_refusal(rt, alloc, cut), Some(wanted));
-}
-
-/// A store of a later version is refused.
-fn refuses_later<S: Alter + Drop>(
-    rt: &impl Abort,
-    alloc: Global,
-    connection: Option<Connection<S>>,
-) {
-    let later = database(rt, alloc, connection, &[LATER]);
-    let refused = Store::adopt(alloc, later).err();
-    are_equal(rt, refused, Some(KeeperError::WrongSchema));
-}
-
 #[test]
 fn a_damaged_store_is_refused(rt: HostRuntime) {
     let alloc = rt.alloc();
-    goes_on_held(&rt, alloc, blank(alloc));
-    refuses_cut(&rt, alloc, blank(alloc));
-    refuses_later(&rt, alloc, blank(alloc));
+    let held = changed(&rt, alloc, blank(alloc), &[IMAGE, PENDING]);
+    runs_cell(&rt, alloc, held, LOCKED);
+    let cut = changed(&rt, alloc, blank(alloc), &[IMAGE, PENDING, CUT]);
+    let refused = cell_refusal(&rt, alloc, cut);
+    assert_eq!(rt; refused, Some(RunError::Store(KeeperError::BadImage(ONE))));
+    let later = database(&rt, alloc, blank(alloc), &[LATER]);
+    let refused = Store::adopt(alloc, later).err();
+    assert_eq!(rt; refused, Some(KeeperError::WrongSchema));
 }
 
 // A store of version 1, in which two entries are pending.
@@ -207,12 +180,8 @@ const RUNS_PENDING: [Case; 2] = [
     ("", "words 6\n"),
 ];
 
-fn runs_old<S: Alter + Drop>(rt: &impl Abort, alloc: Global, connection: Option<Connection<S>>) {
-    let old = changed(rt, alloc, connection, &OLD);
-    runs_twice(rt, alloc, old, RUNS_PENDING);
-}
-
 #[test]
 fn an_old_store_runs_its_pending_entries(rt: HostRuntime) {
-    runs_old(&rt, rt.alloc(), blank(rt.alloc()));
+    let old = changed(&rt, rt.alloc(), blank(rt.alloc()), &OLD);
+    runs_twice(&rt, rt.alloc(), old, RUNS_PENDING);
 }

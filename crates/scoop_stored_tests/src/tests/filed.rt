@@ -1,6 +1,6 @@
 //! A node over a store in a file.
 
-use super::{Act, Cells, Place, adopted, are_equal, created, does_all, opened, word};
+use super::{Act, Cells, Place, adopted, created, does_all, opened, word};
 use scoop_book::{Closed, Pass};
 use scoop_keeper::Keeper;
 use scoop_message::{ClientId, HandlerId};
@@ -10,6 +10,7 @@ use std::alloc::Global;
 use std::path::PathBuf;
 use std::process::Abort;
 use std::sync::Wait;
+use std::test::Fail;
 use std::thread::Threads;
 use std::{env, fs, process, thread};
 
@@ -25,10 +26,6 @@ const SECOND: Place = Place {
     handler: HandlerId(2),
 };
 
-const FIRST_ACTS: [Act; 3] = [Act::Hello, Act::Lock, Act::Open];
-
-const LAST_ACTS: [Act; 2] = [Act::Hello, Act::Hello];
-
 /// The work of a thread at a node: its client opens a private queue at its handler and logs calls there. Each call runs
 /// before the next; these are 500 events in all.
 fn works<K: Keeper<Global>, R: Wait + Abort>(
@@ -37,12 +34,12 @@ fn works<K: Keeper<Global>, R: Wait + Abort>(
     pass: &mut Pass,
     place: Place,
 ) {
-    does_all(rt, node, pass, place, &FIRST_ACTS);
+    does_all(rt, node, pass, place, &[Act::Hello, Act::Lock, Act::Open]);
     for number in 1..166u32 {
         does_all(rt, node, pass, place, &[Act::Log(number), Act::Run]);
     }
-    does_all(rt, node, pass, place, &LAST_ACTS);
-    are_equal(rt, pass.events().len(), 500);
+    does_all(rt, node, pass, place, &[Act::Hello, Act::Hello]);
+    assert!(rt; pass.events().len() == 500);
 }
 
 /// The same with a pass of its own.
@@ -77,10 +74,14 @@ fn all_work<K: Keeper<Global> + Send, R: Threads + Wait + Abort + Sync>(
     node: &Cells<K>,
     mut passes: Vec<Pass>,
 ) -> Vec<Pass> {
-    let second = passes.pop().expect(rt, "no second pass");
-    let first = passes.pop().expect(rt, "no first pass");
+    let (Some(second), Some(first)) = (passes.pop(), passes.pop()) else {
+        panic!(rt; "not two passes");
+    };
     let (first, second) = both_work(rt, node, first, second);
-    vec![in alloc; first, second].expect(rt, "no passes")
+    match vec![in alloc; first, second] {
+        Ok(passes) => passes,
+        Err(_) => panic!(rt; "no passes"),
+    }
 }
 
 /// The keeper's words of both handlers.
@@ -95,7 +96,10 @@ fn closed<K: Keeper<Global>, R: Wait + Abort>(
     node: Cells<K>,
     passes: Vec<Pass>,
 ) -> (usize, (u64, u64)) {
-    let Closed { history, keeper } = node.close(rt, passes).ok().expect(rt, "not closed");
+    let Closed { history, keeper } = match node.close(rt, passes) {
+        Ok(closed) => closed,
+        Err(_) => panic!(rt; "not closed"),
+    };
     (history.len(), words(rt, keeper))
 }
 
@@ -105,7 +109,10 @@ fn node_over<S: Alter + Drop>(
     alloc: Global,
     connection: Option<Connection<S>>,
 ) -> (Cells<Store<S>>, Vec<Pass>) {
-    opened(rt, alloc, created(rt, alloc, connection), 2).expect(rt, "no node")
+    match opened(rt, alloc, created(rt, alloc, connection), 2) {
+        Some(opened) => opened,
+        None => panic!(rt; "no node"),
+    }
 }
 
 /// The words of the store in a database.
@@ -114,7 +121,10 @@ fn words_of<S: Alter + Drop>(
     alloc: Global,
     connection: Option<Connection<S>>,
 ) -> (u64, u64) {
-    words(rt, adopted(alloc, connection).expect(rt, "no store"))
+    match adopted(alloc, connection) {
+        Some(store) => words(rt, store),
+        None => panic!(rt; "no store"),
+    }
 }
 
 /// 1,000 events at a node over a new store, from two threads. Returns the number of entries of its history, and the words of
@@ -131,7 +141,10 @@ fn worked<S: Alter + Drop + Send, R: Threads + Wait + Abort + Sync>(
 
 // A function that names the files' type does one thing alone, and takes nothing apart.
 fn connected(host: &HostRuntime, path: &str) -> Option<Connection<Filed>> {
-    Connection::open(host, path).ok()
+    match Connection::open(host, path) {
+        Ok(connection) => Some(connection),
+        Err(_) => None,
+    }
 }
 
 /// The same over a new store in the file.
@@ -149,31 +162,29 @@ fn words_in(rt: &impl Abort, host: &HostRuntime, path: &str) -> (u64, u64) {
 }
 
 /// A folder of this process's own.
-fn folder(rt: &impl Abort, host: &HostRuntime) -> PathBuf {
-    let name = format!(in host.alloc(); "scoop-stored-{}", process::id(host.process())).expect(
-        rt, "no name",
-    );
-    let temporary = env::temp_dir(host).expect(rt, "no folder for temporary files");
-    let folder = temporary
-        .join(host.alloc(), name.as_str())
-        .expect(rt, "no path");
-    fs::create_dir(host, &folder).expect(rt, "no new folder");
-    folder
+fn folder(host: &HostRuntime) -> Result<PathBuf, Fail> {
+    let name = format!(in host.alloc(); "scoop-stored-{}", process::id(host.process()))?;
+    let folder = env::temp_dir(host)?.join(host.alloc(), name.as_str())?;
+    fs::create_dir(host, &folder)?;
+    Ok(folder)
 }
 
-fn keeps<R: Threads + Wait + Abort + Sync>(rt: &R, host: &HostRuntime, path: &str) {
-    are_equal(rt, worked_in(rt, host, path), (1_000, (165, 165)));
-    are_equal(rt, words_in(rt, host, path), (165, 165));
-}
-
-fn keeps_in<R: Threads + Wait + Abort + Sync>(rt: &R, host: &HostRuntime, folder: &PathBuf) {
-    let record = folder.join(host.alloc(), "record").expect(rt, "no path");
-    keeps(rt, host, record.to_str().expect(rt, "no text of a path"));
+fn keeps<R: Threads + Wait + Abort + Sync>(
+    rt: &R,
+    host: &HostRuntime,
+    folder: &PathBuf,
+) -> Result<(), Fail> {
+    let record = folder.join(host.alloc(), "record")?;
+    let path = record.to_str().ok_or("a path")?;
+    assert!(rt; worked_in(rt, host, path) == (1_000, (165, 165)));
+    assert!(rt; words_in(rt, host, path) == (165, 165));
+    Ok(())
 }
 
 #[test]
-fn a_node_keeps_its_record_in_a_file(rt: HostRuntime) {
-    let folder = folder(&rt, &rt);
-    keeps_in(&rt, &rt, &folder);
-    fs::remove_dir_all(&rt, &folder).expect(&rt, "not removed");
+fn a_node_keeps_its_record_in_a_file(rt: HostRuntime) -> Result<(), Fail> {
+    let folder = folder(&rt)?;
+    keeps(&rt, &rt, &folder)?;
+    fs::remove_dir_all(&rt, &folder)?;
+    Ok(())
 }
