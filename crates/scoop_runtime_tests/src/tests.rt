@@ -167,7 +167,7 @@ fn serve_node<R: Threads + Wait + Clock + Sync + Abort>(
     );
 }
 
-/// The plan of a client whose lines take at most so many turns each.
+/// The plan of a client whose lines take at most `turns` turns each.
 fn client_plan<'s>(
     rt: &impl Abort,
     system: &'s System,
@@ -182,7 +182,7 @@ fn client_plan<'s>(
     }
 }
 
-/// The same for a client that ends after the first refusal, and whose lines nobody types.
+/// The same for a client that ends after the first refusal, and whose lines aren't typed.
 fn strict_plan<'s>(rt: &impl Abort, system: &'s System, number: u32, turns: u64) -> ClientPlan<'s> {
     let place = *system.client(ClientId(number)).expect(rt, "no client");
     match ClientPlan::new_strict(system, place, turns, false) {

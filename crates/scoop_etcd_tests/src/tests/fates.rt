@@ -187,7 +187,7 @@ fn a_commit_asks_who_owns_the_record_if_nothing_was_put(rt: HostRuntime) {
     plays(&rt, rt.alloc(), &[], &COMMITS, None);
 }
 
-// What happens between a commit and one that is refused.
+// The calls between a commit and one that is refused.
 const TAKEOVERS: [[Step; 3]; 8] = [
     [Step::TakenOver, KNOWN, DROPPED],
     [KNOWN, Step::TakenOver, KNOWN],
@@ -218,7 +218,7 @@ fn no_commit_succeeds_after_a_takeover(rt: HostRuntime) {
     }
 }
 
-// What is heard before a commit.
+// The messages heard before a commit.
 const ORDERS: [[Step; 2]; 3] = [
     [KNOWN, Step::Changes(6)],
     [Step::Changes(6), KNOWN],

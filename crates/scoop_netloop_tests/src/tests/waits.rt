@@ -38,7 +38,7 @@ fn does(rt: &impl Abort, driver: &mut Looped, step: Step) -> Result<u32, DriverE
     driver.when(&[ONE], condition, &body, step.tries)
 }
 
-// Steps, each with its fields, what is told, and the balance after it.
+// Steps, each with its fields, the client's report, and the balance after it.
 const STEPS: [(u16, u64, HandlerId, u64, u32, Result<u32, DriverError>, u64); 5] = [
     (WITHDRAW, 100, ONE, 100, 2, FAILED, 0),
     (DEPOSIT, 150, ONE, 0, 1, Ok(1), 150),

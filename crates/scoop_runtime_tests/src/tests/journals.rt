@@ -274,7 +274,7 @@ fn lines_that_wait_are_written_at_the_end(rt: HostRuntime) {
     are_equal(&rt, written.lines(), [1, 1]);
 }
 
-// Greets with a client to cut its blocks. No handler is told as one that may hold a block. Returns its end and its output.
+// Greets with a client to cut its blocks. The caller names no handler that may hold one. Returns its end and its output.
 fn cut(
     rt: &impl Abort,
     alloc: Global,

@@ -121,7 +121,7 @@ node = [{number = 4, address = [\"10.0.0.1:9\", \"10.0.0.2:9\"], status = \"127.
     prints(&rt, rt.alloc(), text, wanted);
 }
 
-// The system is lent to functions that can stop a test. The tests below do the same.
+// Functions that can stop a test borrow the system. The tests below do the same.
 fn has_parts(rt: &impl Abort, system: &System) {
     are_equal(rt, system.classes().len(), 1);
     are_equal(rt, system.nodes().len(), 2);

@@ -26,7 +26,7 @@ const DROPPED: Note = Note::Dropped(Reason::Gap);
 // The length of a time stamp, as `2026-11-26T10:41:15.250Z `.
 const STAMP_LEN: usize = 25;
 
-// What the log writes at these milliseconds.
+// The text that the log writes at these milliseconds.
 fn written<R: Wait + Clock + Abort>(
     rt: &R,
     alloc: Global,
@@ -156,7 +156,7 @@ fn flood<R: Wait + Clock + Abort, W: Write + Drop>(
     log.write_all(rt, watch, 10_000);
 }
 
-// What the log writes in a flood.
+// The text that the log writes in a flood.
 fn flooded<R: Wait + Clock + Abort>(rt: &R, alloc: Global, watch: &Watch) -> String {
     let mut keeper = WatchedKeeper::new(MemoryKeeper::new(alloc), rt, watch);
     let mut written = Vec::new(alloc);

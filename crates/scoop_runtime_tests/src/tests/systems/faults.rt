@@ -233,7 +233,7 @@ const NO_TOML: [(&str, &str); 4] = [
     ),
 ];
 
-// The text is no system, and this is told of it.
+// The text is no system, and its error has this text.
 fn tells(rt: &impl Abort, alloc: Global, text: &str, wanted: &str) {
     let Err(error) = System::read(alloc, text) else {
         panic!(rt; "a system: {text}");
