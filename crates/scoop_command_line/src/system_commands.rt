@@ -129,8 +129,8 @@ pub(crate) const NODE_ARGUMENTS: [ArgumentRow; 13] = [
         value: Value::U64,
         value_name: "T",
         default: None,
-        help: "Ends the node after that many polls, 1 or more; each takes a datagram or ten milliseconds. Without it the node \
-            serves until it is killed",
+        help: "Ends the node after that many polls, 1 or more; each takes a datagram or up to eight milliseconds. Without it \
+            the node serves until it is killed",
     },
 ];
 
@@ -224,10 +224,10 @@ pub(crate) const CLIENT: CommandRow = CommandRow {
         are skipped; a line may end in a carriage return and a newline.\n\n\
         However a client ends, it leaves no block behind as long as its handlers answer. It gives up a block that isn't reserved \
         yet (`given up 7.1.1`), and cuts any other that isn't ended (`cut 7.1.1`): the handlers run what they had received of \
-        it, and are free. If one doesn't answer within five seconds, standard error says which, and --cut frees it later.\n\n\
+        it, and are free. If one doesn't answer within four seconds, standard error says which, and --cut frees it later.\n\n\
         At a terminal, standard error announces that the client is ready and which lines there are. It explains refusals, and \
-        counts the tries of a waiting block. When nothing new arrives for a second, standard error names the handlers that the \
-        client waits for, and likely reasons.\n\n\
+        counts the tries of a waiting block. When 100 polls bring nothing new, standard error names the handlers that the client \
+        waits for, and likely reasons.\n\n\
         Statuses: 0; 1 for the file or the key, printed as `scoop: FILE: TEXT`, for a line that can't be read, printed as \
         `scoop: line N: TEXT` (at a terminal the client goes on), for an input that ends inside a block, and for lines that got \
         `refused`, `answer refused` or `condition failed`, printed as `scoop: line N: refused` with --strict and as `scoop: line N: \
@@ -314,7 +314,7 @@ pub(crate) const CLIENT_ARGUMENTS: [ArgumentRow; 12] = [
         value_name: "T",
         default: Some("100000"),
         help: "The most polls of each command, 1 or more; a reserve takes as many again to give its locks back. Each \
-            poll takes a datagram or ten milliseconds",
+            poll takes a datagram or up to eight milliseconds",
     },
 ];
 

@@ -16,15 +16,15 @@ use std::io;
 use std::io::Write;
 use std::marker::Model;
 
-// The link reports after this many empty polls without news between them. Over UDP they take one second.
+// The link reports after this many empty polls without news between them. Over UDP they take 0.4 to 0.8 seconds.
 const PATIENCE: u32 = 100;
 
 /// A client's link that reports the handlers that the client waits for: those to which it sent since its last receive.
-/// It reports them after a hundred empty polls without news between them; over UDP that takes a second. A datagram that
-/// repeats the last one is no news. So the link also reports a handler that repeats the same reply, for example because
-/// another client's block stands in front. It distinguishes such a handler from one that sends nothing. It reports once
-/// until news comes. A report that can't be written is lost. Contracts see the link below it. It doesn't record its
-/// datagrams.
+/// It reports them after a hundred empty polls without news between them; over UDP that takes less than a second. A
+/// datagram that repeats the last one is no news. So the link also reports a handler that repeats the same reply, for
+/// example because another client's block stands in front. It distinguishes such a handler from one that sends nothing.
+/// It reports once until news comes. A report that can't be written is lost. Contracts see the link below it. It
+/// doesn't record its datagrams.
 #[derive(Drop)]
 pub struct WaitingLink<L: Link, E: Write + Drop> {
     inner: L,

@@ -85,7 +85,8 @@ pub record HasRecordTables (schema : Schema) : Type 0 where
 abbrev pub record_names : List (List ℕ)
 record_names = codes "meta" ∷ codes "handlers" ∷ codes "clients" ∷ codes "pending" ∷ []
 
--- room for tables of these names: each is free, no foreign key names one, and there are trees for all
+-- room for tables of these names: each is free, no foreign key names one, and there are trees for all. Each index has its table,
+-- and each counted table its sequence
 pub record HasRoom (schema : Schema) (names : List (List ℕ)) : Type 0 where
   pub free : AllByRecursion (IsFree schema) names
   pub unnamed : AllByRecursion (λ name. is_unnamed schema name ≡ true) names

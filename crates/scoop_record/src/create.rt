@@ -154,8 +154,8 @@ fn make_tables<S: Alter>(conn: &mut Connection<S>, version: u32) -> Result<(), K
 /// a connection that stays the caller's, even if it is refused.
 ///
 /// Refused, with the database as it was:
-/// - `Refused` if there is no room: a table, an index or a view has one of the four names, a foreign key names one, or no
-///   trees are left;
+/// - `Refused` if there is no room: a table, an index or a view has one of the four names, a foreign key names one, no
+///   trees are left, an index lacks its table, or a counted table its sequence;
 /// - `Refused` if the connection is in a transaction, or a text is refused;
 /// - `OutOfMemory`.
 pub fn create_tables<S: Alter>(conn: &mut Connection<S>) -> Result<(), KeeperError>

@@ -48,7 +48,7 @@ impl<S: Alter + Drop> Store<S> {
     ///
     /// Refused:
     /// - `Refused` if there is no room: a table, an index or a view has one of the four names, a foreign key names one,
-    ///   or no trees are left;
+    ///   no trees are left, an index lacks its table, or a counted table its sequence;
     /// - `Refused` if the connection is in a transaction, or a text is refused;
     /// - `OutOfMemory`.
     ///

@@ -16,7 +16,7 @@ use scoop_message::{Block, HandlerId, OutOfMemory};
 use std::alloc::Global;
 use std::io::Write;
 
-/// The most turns of each task that a client does as it ends: five seconds over UDP if nothing comes.
+/// The most turns of each task that a client does as it ends: two to four seconds over UDP if nothing comes.
 pub const PARTING_TURNS: u64 = 500;
 
 /// The block that a session leaves.
