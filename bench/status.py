@@ -258,7 +258,7 @@ def store_in_trouble(program):
             client.kill()
         told = [n.communicate(timeout=5)[1].decode() for n in system.nodes if n.poll() is not None]
         lines = [line for text in told for line in text.splitlines()]
-        assert any("store-refused" in line for line in lines), lines
+        assert any("commit-refused" in line for line in lines), lines
         return " / ".join(lines[:3])
     finally:
         system.end()
