@@ -55,11 +55,11 @@ IsState-row s m h r has is = is
 pub IsState-hear : (s : HandlerState) (m : Message) → HasEntries m → IsState s → IsState (hear s m).0
 IsState-hear s m has is = IsState-row s m (hear s m) (row s m) has is
 
--- the state after a call that has heard the message, or has changed nothing
-pub IsState-heard : (old : HandlerState) (m : Message) (new : HandlerState) (result : Result Heard OutOfMemory) → HasEntries m → IsState old
-    → IfOk result (λ heard. hear old m ≡ (new, heard)) → OnErr result (new ≡ old) → IsState new
-IsState-heard old m new (Ok heard) has is done same = subst (λ (h : Hearing). IsState h.0) done (IsState-hear old m has is)
-IsState-heard old m new (Err e) has is done same = subst IsState (sym same) is
+-- the state after a call that has heard the message, or has changed nothing. What the call returns stands for what was heard.
+pub IsState-heard : {R : Type 0} (f : R → Heard) (old : HandlerState) (m : Message) (new : HandlerState) (result : Result R OutOfMemory)
+    → HasEntries m → IsState old → IfOk result (λ x. hear old m ≡ (new, f x)) → OnErr result (new ≡ old) → IsState new
+IsState-heard f old m new (Ok x) has is done same = subst (λ (h : Hearing). IsState h.0) done (IsState-hear old m has is)
+IsState-heard f old m new (Err e) has is done same = subst IsState (sym same) is
 
 -- ---- what stays
 
@@ -253,10 +253,10 @@ drops-heard old m new (Ok heard) done = subst (λ (h : Hearing). DroppedChangesN
     (drops-row old.state m (hear old.state m) (row old.state m))
 drops-heard old m new (Err e) done = tt
 
-pub replies-heard : (old : HandlerState) (m : Message) (new : HandlerState) (result : Result Heard OutOfMemory) → HasEntries m
-    → IfOk result (λ heard. hear old m ≡ (new, heard)) → IfOk result (RepliesTo m)
-replies-heard old m new (Ok heard) has done = subst (λ (h : Hearing). RepliesTo m h.1) done (replies-row old m (hear old m) (row old m) has)
-replies-heard old m new (Err e) has done = tt
+pub replies-heard : {R : Type 0} (f : R → Heard) (old : HandlerState) (m : Message) (new : HandlerState) (result : Result R OutOfMemory)
+    → HasEntries m → IfOk result (λ x. hear old m ≡ (new, f x)) → IfOk result (λ x. RepliesTo m (f x))
+replies-heard f old m new (Ok x) has done = subst (λ (h : Hearing). RepliesTo m h.1) done (replies-row old m (hear old m) (row old m) has)
+replies-heard f old m new (Err e) has done = tt
 
 pub grows-heard : (old : Core) (m : Message) (new : Core) (result : Result Heard OutOfMemory) → HasHeard old m new result
     → MarksGrow old.state.marks new.state.marks

@@ -2,6 +2,7 @@ pub mod Marks
 pub mod State
 pub mod Core
 pub mod Hearing
+pub mod Outcomes
 pub mod Running
 pub mod Local
 pub mod Growing

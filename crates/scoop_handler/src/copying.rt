@@ -12,6 +12,10 @@ fn fill_marks<A: Allocator>(marks: &mut Vec<Mark, A>, from: &[Mark])
     requires { length from.now ≤ vec_capacity marks.old }
     ensures { marks.new.items ≡ from.now }
 {
+    if marks.len() == from.len() {
+        marks.copy_from_slice(from);
+        return;
+    }
     marks.clear();
     let Ok(()) = marks.extend_from_slice(from) else {
         unreachable!()

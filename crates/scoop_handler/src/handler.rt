@@ -46,6 +46,13 @@ impl<B: Behaviour, A: Allocator> Handler<B, A> {
         self.state.number
     }
 
+    /// The handler's state.
+    pub fn state(&self) -> &HandlerState<A>
+        ensures { result.now ≡ self.now.state }
+    {
+        &self.state
+    }
+
     /// The block that holds the lock.
     pub fn holder(&self) -> Option<Block>
         ensures { result ≡ self.now.state.holder }

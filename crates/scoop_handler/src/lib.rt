@@ -31,6 +31,7 @@ mod job;
 mod mark;
 mod marks;
 mod note;
+mod outcome;
 mod ran;
 mod setting;
 mod state;

@@ -1,6 +1,6 @@
 //! A handler's reply to a message, with a note.
 
-ghost use Rattle.std.specs.Prelude.{◌≡◌, Some, None};
+ghost use Rattle.std.specs.Prelude.{Some};
 
 use scoop_message::{Block, Message};
 use std::fmt;
@@ -98,24 +98,4 @@ pub struct Heard {
     /// The message to send back to the client, if any.
     pub reply: Option<Message>,
     pub note: Note,
-}
-
-impl Heard {
-    pub(crate) fn replied(reply: Message, note: Note) -> Heard
-        ensures { result ≡ record { reply = Some reply; note = note } }
-    {
-        Heard {
-            reply: Some(reply),
-            note,
-        }
-    }
-
-    pub(crate) fn dropped(why: Reason) -> Heard
-        ensures { result ≡ record { reply = None; note = Note.Dropped why } }
-    {
-        Heard {
-            reply: None,
-            note: Note::Dropped(why),
-        }
-    }
 }

@@ -45,12 +45,12 @@ job_stays c m sound = by c.out refl
         (front-row c.state m (hear c.state m) r) (sound.job e) in
         rw e first
 
--- the state after a message may take the place of the handler's
-pub may_follow : (c : Core) (m : Message) → IsCore c → MayReset (hear c.state m).0 c
-may_follow c m sound = record {
-  number = number-row c.state m (hear c.state m) (row c.state m);
-  words = ap length (words-row c.state m (hear c.state m) (row c.state m)) ∙ sound.words;
-  job = job_stays c m sound;
+-- the state before a message may come back
+pub may_return : (c : Core) (m : Message) → IsCore c → MayReset c.state (with_state (hear c.state m).0 c)
+may_return c m sound = record {
+  number = sym (number-row c.state m (hear c.state m) (row c.state m));
+  words = sound.words;
+  job = sym (job_stays c m sound);
 }
 
 -- a message that changes nothing leaves the state

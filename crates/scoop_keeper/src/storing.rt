@@ -60,28 +60,51 @@ fn fill_beside<B: Behaviour, A: Allocator + Copy>(
     Ok(())
 }
 
-// Lets the copy hear a message that its handler has heard. If memory runs out, the copy is dropped.
+// Lets the copy follow its handler, which has heard this message. If memory runs out, the copy is dropped.
 fn follow<A: Allocator + Copy>(beside: &mut Option<HandlerState<A>>, message: &Message)
     ensures { (now : State) → IfSome beside.old (λ s. (hear s message.now).0 ≡ now) → IfSome beside.new (λ s. s ≡ now) }
 {
     if let Some(state) = beside {
-        if state.hear(message).is_ok() {
+        if state.follow(message).is_ok() {
             return;
         }
     }
     *beside = None;
 }
 
-// A copy of the handler's state hears a message and is stored, and then handler and copy exchange their states. So a
-// refusal leaves the handler, but the copy may have heard the message. A message that leaves a stored state makes no put.
-fn hear_ahead<B: Behaviour, A: Allocator + Copy, K: Keeper<A>>(
+// Tells the keeper what a handler has heard, and stores the state after it. A message that leaves a stored state makes no
+// put.
+fn store_heard<A: Allocator, K: Keeper<A>>(
+    keeper: &mut K,
+    state: &HandlerState<A>,
+    is_stored: bool,
+    message: &Message,
+    heard: &Heard,
+) -> Result<(), KeeperError>
+    requires { IsTrue is_stored → IsTrue (leaves heard.now.note) → K.is_honest keeper.old → K.handlers keeper.old state.now.number.0 (Holds state.now) }
+    ensures stored { K.is_honest keeper.new → OnOk result (Keeps (K.handlers keeper.old) (K.handlers keeper.new) state.now) }
+    ensures refused { K.is_honest keeper.new → OnErr result (Stays (K.handlers keeper.old) (K.handlers keeper.new)) }
+    ensures incarnations { K.is_honest keeper.new → IsSame (K.incarnations keeper.old) (K.incarnations keeper.new) }
+    ensures named { IfErr result IsPutError }
+    ensures honest { K.is_honest keeper.new → K.is_honest keeper.old }
+{
+    match keeper.note_heard(message, heard) {
+        Ok(()) if is_stored && leaves_state(heard.note) => Ok(()),
+        Ok(()) => keeper.put_handler(state),
+        Err(error) => Err(error),
+    }
+}
+
+// Hears a message, and stores the new state. If the keeper refuses it, the handler takes back its state, of which a copy
+// is beside it.
+fn hear_first<B: Behaviour, A: Allocator + Copy, K: Keeper<A>>(
     handler: &mut Handler<B, A>,
-    ahead: &mut HandlerState<A>,
+    before: &mut HandlerState<A>,
     keeper: &mut K,
     is_stored: bool,
     message: &Message,
 ) -> Result<Heard, KeeperError>
-    requires ahead { ahead.old ≡ handler.old.state }
+    requires before { before.old ≡ handler.old.state }
     requires stored { IsTrue is_stored → K.is_honest keeper.old → K.handlers keeper.old handler.old.state.number.0 (Holds handler.old.state) }
     ensures heard { IfOk result (λ heard. heard ≡ (hear handler.old.state message.now).1) }
     ensures state { OnOk result (handler.new ≡ with_state (hear handler.old.state message.now).0 handler.old) }
@@ -92,24 +115,18 @@ fn hear_ahead<B: Behaviour, A: Allocator + Copy, K: Keeper<A>>(
     ensures named { IfErr result IsPutError }
     ensures honest { K.is_honest keeper.new → K.is_honest keeper.old }
     ensures job { job_out handler.new ≡ job_out handler.old }
-    ensures earlier { OnOk result (ahead.new ≡ handler.old.state) }
+    ensures before { OnOk result (before.new ≡ handler.old.state) }
 {
     // Shows the prover that the handler is sound.
     let _number = handler.number();
-    let heard = ahead.hear(message)?;
-    match keeper.note_heard(message, &heard) {
-        Ok(()) => {}
-        Err(error) => return Err(error),
+    let heard = handler.hear(message)?;
+    match store_heard(keeper, handler.state(), is_stored, message, &heard) {
+        Ok(()) => Ok(heard),
+        Err(error) => {
+            handler.exchange(before);
+            Err(error)
+        }
     }
-    if is_stored && leaves_state(heard.note) {
-        return Ok(heard);
-    }
-    match keeper.put_handler(ahead) {
-        Ok(()) => {}
-        Err(error) => return Err(error),
-    }
-    handler.exchange(ahead);
-    Ok(heard)
 }
 
 /// Hears a message, and stores the new state. If `is_stored` says that the keeper has the handler's state, a message
@@ -138,17 +155,14 @@ pub fn hear_beside<B: Behaviour, A: Allocator + Copy, K: Keeper<A>>(
     ensures beside { IfSome beside.new (λ s. s ≡ handler.new.state) }
 {
     fill_beside(handler, beside)?;
-    let Some(ahead) = beside else { unreachable!() };
-    match hear_ahead(handler, ahead, keeper, is_stored, message) {
-        Ok(heard) => {
-            follow(beside, message);
-            Ok(heard)
-        }
-        Err(error) => {
-            *beside = None;
-            Err(error)
-        }
+    let Some(before) = beside else { unreachable!() };
+    let heard = hear_first(handler, before, keeper, is_stored, message);
+    if heard.is_ok() {
+        follow(beside, message);
+    } else {
+        *beside = None;
     }
+    heard
 }
 
 /// `hear_beside` with no state beside the handler.
@@ -171,8 +185,8 @@ pub fn hear_and_store<B: Behaviour, A: Allocator + Copy, K: Keeper<A>>(
     ensures honest { K.is_honest keeper.new → K.is_honest keeper.old }
     ensures job { job_out handler.new ≡ job_out handler.old }
 {
-    let mut ahead = handler.copy()?;
-    hear_ahead(handler, &mut ahead, keeper, is_stored, message)
+    let mut before = handler.copy()?;
+    hear_first(handler, &mut before, keeper, is_stored, message)
 }
 
 // Tells the keeper that an entry of this handler has run, and stores the state after it.
@@ -254,10 +268,7 @@ pub fn finish_beside<B: Behaviour, A: Allocator + Copy, K: Keeper<A>>(
     if let Err(cause) = store_after(handler, beside, keeper, &done) {
         return Err(Unfinished { cause, done });
     }
-    let Ok(ran) = handler.finish(done) else {
-        unreachable!()
-    };
-    Ok(ran)
+    Ok(handler.take_back(done))
 }
 
 /// `finish_beside` with no state beside the handler.

@@ -66,10 +66,21 @@ impl<B: Behaviour, A: Allocator> Handler<B, A> {
         if !self.is_out(&done) {
             return Err(StrangerJob(done));
         }
+        Ok(self.take_back(done))
+    }
+
+    /// Takes the object of the job that is out back, as [`Handler::finish`] does.
+    pub fn take_back(&mut self, done: Done<B>) -> Ran
+        requires { job_out self.old ≡ Some done }
+        ensures ran { result ≡ ran_of done }
+        ensures state { self.new ≡ finished done self.old }
+        ensures sound { IsCore self.new }
+        ensures grows { MarksGrow self.old.state.marks self.new.state.marks }
+    {
         let ran = done.ran();
         self.state.run_first(&ran, done.words());
         self.object = Some(done.into_object());
-        Ok(ran)
+        ran
     }
 
     /// Changes a copy of the handler's state as `finish` would change the state. Takes no memory.
@@ -83,7 +94,8 @@ impl<B: Behaviour, A: Allocator> Handler<B, A> {
 
     /// Whether a job is the one that is out.
     pub fn is_out(&self, done: &Done<B>) -> bool
-        ensures { IsTrue result ↔ (job_out self.now ≡ Some done.now) }
+        ensures out { IsTrue result ↔ (job_out self.now ≡ Some done.now) }
+        ensures sound { IsCore self.now }
     {
         match (&self.object, self.state.queues.front()) {
             (None, Some(first)) => {

@@ -13,4 +13,4 @@ change-requires-clause-state g c =
     let is : IsState c.args.self.now = subst IsState c.self.view_is c.self.invariant in
     let free = ap (λ (s : HandlerState). s.holder) (sym c.self.view_is) ∙ none_from_is_some c.self.inside.holder (c.if-is_none.ensures {u = tt}) in
     rw c.fresh.ensures (IsState-granted c.args.self.now c.args.block c.args.mark is c.requires.heard c.if-mark-block.true free
-    (sym c.is_unfinished.ensures ∙ c.if-not-is_unfinished.true))
+    (sym c.is_unfinished.ensures.value ∙ c.if-not-is_unfinished.true))
