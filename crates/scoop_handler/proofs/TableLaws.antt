@@ -55,7 +55,7 @@ IsState-row s m h r has is = is
 pub IsState-hear : (s : HandlerState) (m : Message) → HasEntries m → IsState s → IsState (hear s m).0
 IsState-hear s m has is = IsState-row s m (hear s m) (row s m) has is
 
--- the state after a call that has heard the message, or has changed nothing. What the call returns stands for what was heard.
+-- the state after a call that has heard the message, or has changed nothing. The value that it returns stands for the note and reply.
 pub IsState-heard : {R : Type 0} (f : R → Heard) (old : HandlerState) (m : Message) (new : HandlerState) (result : Result R OutOfMemory)
     → HasEntries m → IsState old → IfOk result (λ x. hear old m ≡ (new, f x)) → OnErr result (new ≡ old) → IsState new
 IsState-heard f old m new (Ok x) has is done same = subst (λ (h : Hearing). IsState h.0) done (IsState-hear old m has is)

@@ -50,9 +50,13 @@ abbrev pub holder_without : ClientId → Option Block → Option Block
 holder_without c None = None
 holder_without c (Some b) = if same_client b.client c then None else Some b
 
+-- a greeting is about a block that has no number yet
+abbrev pub greeting_block : ClientId → ℕ → Block
+greeting_block c inc = record { client = c; inc = inc; num = 0 }
+
 -- the mark of an incarnation that has no block yet
 abbrev pub greeting_mark : ClientId → ℕ → Mark
-greeting_mark c inc = fresh_mark (record { client = c; inc = inc; num = 0 }) AtShut
+greeting_mark c inc = fresh_mark (greeting_block c inc) AtShut
 
 abbrev pub greeted_first : HandlerState → ClientId → ℕ → Hearing
 greeted_first s c inc = replied (with_mark s (greeting_mark c inc)) (Welcome s.number c inc) Greeted

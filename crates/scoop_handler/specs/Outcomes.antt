@@ -1,4 +1,4 @@
--- What a handler does about a message, without the names that the message has.
+-- The effect of a message on a handler, without the names that the message has.
 use Rattle.std.specs.Prelude.{ℕ}
 use Rattle.std.specs.Option.{option_map}
 use Rattle.scoop_message.specs.declared.name.Block.{Block}
@@ -10,10 +10,7 @@ use Rattle.scoop_handler.specs.declared.note.Heard.{Heard}
 use Rattle.scoop_handler.specs.declared.outcome.Outcome.{Outcome}
 use Rattle.scoop_handler.specs.declared.outcome.ReplyKind.{ReplyKind}
 use Rattle.scoop_handler.specs.declared.outcome.ReplyKind.TheVariants.{Welcome, Locked, Busy, Opened, Unlocked, Logged, Answer}
-
--- a greeting is about a block that has no number yet
-abbrev pub greeting_block : ClientId → ℕ → Block
-greeting_block c inc = record { client = c; inc = inc; num = 0 }
+use Rattle.scoop_handler.specs.Hearing.{greeting_block}
 
 -- the block that a message is about
 abbrev pub asked_block : Message → Block

@@ -1,4 +1,4 @@
-//! What a handler does about a message, without the names that the message has. Several functions pass it on, so it is
+//! The effect of a message on a handler, without the names that the message has. Several functions pass it on, so it is
 //! small: a message has room for the entries of a Log.
 
 ghost use Rattle.std.specs.Prelude.{◌≡◌, Some, None};

@@ -39,6 +39,7 @@ impl<A: Allocator + Copy> HandlerState<A> {
     pub fn follow(&mut self, message: &Message) -> Result<(), OutOfMemory>
         ensures ok { OnOk result (self.new ≡ (hear self.old message.now).0) }
         ensures err { OnErr result (self.new ≡ self.old) }
+        ensures memory { IsErr result → TakesMemory self.old message.now }
     {
         self.take(message)?;
         Ok(())
