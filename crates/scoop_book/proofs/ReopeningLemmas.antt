@@ -120,7 +120,7 @@ ended_with has is_honest count ps es k l hs ks keeper stand is =
 
 -- ---- handlers that open again
 
--- what opened otherwise, if every keeper is honest
+-- handlers that opened otherwise, if every keeper is honest
 pub otherwise : {B : Type 0} (words : B → List ℕ) (has : ℕ → Stored → Type 0) (honest later : Type 0) → (later → honest) → (ps : List (Handed B))
     (stood opening : List LocalHandler) → AllOpen words has honest ps opening → (AllOpenAgain stood opening → ⊥) → OpensOtherwise words has later ps stood
 otherwise words has honest later back ps stood opening opens other =

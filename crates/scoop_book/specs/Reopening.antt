@@ -45,7 +45,7 @@ pub record HasReopened {B K : Type 0} (words : B → List ℕ) (has : K → ℕ 
   pub opened : HasOpened words has is_honest keeper ps count passes
   pub again : AllOpenAgain stood opened.opening
 
--- what opened isn't what stood
+-- the handlers that opened aren't those that stood
 pub record OpensOtherwise {B : Type 0} (words : B → List ℕ) (has : ℕ → Stored → Type 0) (honest : Type 0) (ps : List (Handed B)) (stood : List LocalHandler) : Type 0 where
   pub opening : List LocalHandler
   pub opens : AllOpen words has honest ps opening

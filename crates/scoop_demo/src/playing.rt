@@ -84,7 +84,7 @@ pub fn world_run_with<R: Read + Drop, W: Write>(
     )
 }
 
-/// Plays a script with options, and notes each event in a picture that is wanted. The picture can be drawn after any end.
+/// Plays a script with options, and notes each event in the picture if one is given. The picture can be drawn after any end.
 pub fn world_run_charted<R: Read + Drop, W: Write>(
     alloc: Global,
     keeper: MemoryKeeper,

@@ -66,7 +66,7 @@ part_as n k steps s t is h = subst (λ m. IsPart m steps s t) is h
 
 -- ---- one after another
 
--- The first of some parts or entries were done, and these are left. What is left gives this, and all give that with it.
+-- The first of some parts or entries were done, and these are left. The rest gives this, and all give that with it.
 pub record IsOn {X T : Type 0} (command : X → Command) (Gives : List X → T → ClientState → List Step → Type 0) (with : T → T) (turns : ℕ) (all left : List X)
     (steps : List Step) (s t : Seen) : Type 0 where
   pub part : IsPart turns steps s t

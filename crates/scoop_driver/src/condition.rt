@@ -1,4 +1,4 @@
-//! What a waiting block waits for, and its body.
+//! The condition of a waiting block, and its body.
 
 ghost use Rattle.std.specs.Prelude.{◌≡◌};
 ghost use Rattle.scoop_driver.specs.Wishes.{call_of, handler_of, holds, query_of};

@@ -2,7 +2,7 @@
 
 ghost use Rattle.std.specs.Prelude.{ℕ, ⊤};
 
-/// What a driver does between two tries of a waiting block. Its client is idle then: it holds no lock and no block.
+/// A driver's pauses between two tries of a waiting block. Its client is idle then: it holds no lock and no block.
 pub trait Pause {
     /// One pause, after this many failed tries.
     ghost paused: { Self → ℕ → Self → Type 0 };

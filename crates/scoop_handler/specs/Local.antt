@@ -1,4 +1,4 @@
--- A handler by itself, beside the state that is stored of it, and what happens at it.
+-- One handler alone, its stored state, and what happens at it.
 use Rattle.std.specs.Prelude.{◌≡◌, ℕ, false, Bool, if◌then◌else◌, List, find, map, Option, Some, None}
 use Rattle.std.specs.Option.{option_map}
 use Rattle.scoop_message.specs.declared.name.Block.{Block}
@@ -41,7 +41,7 @@ with_handler s hs = map (newer_handler s) hs
 
 -- ---- how it opens
 
--- the stored state, or one that nobody has greeted yet, with these words
+-- the stored state, or one that no client has greeted yet, with these words
 abbrev pub opening_state : HandlerId → List ℕ → Option HandlerState → HandlerState
 opening_state h words None = new_state h words
 opening_state h words (Some s) = s

@@ -56,7 +56,7 @@ abbrev pub entries_of : List Ran → List Entry
 entries_of rs = map (λ r. r.entry) rs
 
 -- the block has run to its End, or the handler has been greeted by a newer incarnation of its client, and all
--- that was told to be received has run
+-- entries that the handler acknowledged have run
 abbrev pub IsWhole : World → Site → Block → Type 0
 IsWhole w s b =
     IsTrue (ends (entries_of (part b s)))

@@ -157,6 +157,6 @@ abbrev pub greatest_count : HandlerId → Block → List Message → ℕ
 greatest_count h b [] = 0
 greatest_count h b (m ∷ ms) = max (count_in h b m) (greatest_count h b ms)
 
--- the greatest number of entries of the block that the handler told to have received
+-- the greatest count of the block's entries that the handler acknowledged
 abbrev pub received : Block → HandlerId → World → ℕ
 received b h w = greatest_count h b w.sent

@@ -193,7 +193,7 @@ where
 ///
 /// `LinkFault` comes exactly if the link's count of faults rose; it then rose by one. `TurnsOver` comes only from the
 /// receiver, and then no reply is missing. In any case at most `turns` datagrams are taken. The reasons for the other
-/// ends are out of a clause's sight: behind the node's lock, in the shared stop, and in what other threads did.
+/// ends are out of a clause's sight: under the node's lock, in the shared stop, and in what other threads did.
 pub fn serve<B, K, A, L, G, R>(
     rt: &R,
     alloc: A,

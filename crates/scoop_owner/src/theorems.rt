@@ -1,4 +1,4 @@
-//! What holds of the lines that a text beside a store has.
+//! Laws of the lines that a text beside a store has.
 
 ghost use Rattle.std.specs.Prelude.{◌≡◌, Some};
 ghost use Rattle.scoop_owner.specs.Incarnation.{incarnation_line, incarnation_of};

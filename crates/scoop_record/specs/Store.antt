@@ -112,7 +112,7 @@ abbrev pub SavesAll : Database → Database → List HandlerState → Type 0
 SavesAll old new [] = new ≡ old
 SavesAll old new (s ∷ more) = IsState s × InRange s × (mid : Database) × Saves old mid s × SavesAll mid new more
 
--- what a record over a database holds between calls
+-- a record over a database, between calls
 abbrev pub IsIdle : {S : Type 0} → Ghosts S → Held S → Type 0
 IsIdle g h = (h.in_transaction ≡ false) × IsReady (state g h)
 

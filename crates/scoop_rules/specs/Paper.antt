@@ -170,8 +170,8 @@ MovesLead o g (m ∷ ms) end = May m g × MovesLead o (moved o m g) ms end
 
 -- ---- what a world stands for
 
--- a block as a world shows it at one handler: what was logged, how many entries have run, whether its End has, and
--- whether a newer incarnation of its client has greeted, with the number of entries that were told to be received
+-- a block as a world shows it at one handler: its logged entries, how many have run, whether its End has, whether a newer
+-- incarnation of its client has greeted, and how many entries the handler acknowledged
 pub record Seen : Type 0 where
   pub logged : List Entry
   pub count : ℕ
@@ -305,7 +305,7 @@ abbrev pub moves_in : World → List Event → List Move
 moves_in v [] = []
 moves_in v (e ∷ es) = elim (step v e) [ Ok r ↦ moves_of v r.0 e r.1 ++ moves_in r.0 es | Err x ↦ [] ]
 
--- what the moves make of a configuration
+-- the configuration after the moves
 abbrev pub replayed : Objects → List Move → Configuration → Configuration
 replayed o [] g = g
 replayed o (m ∷ ms) g = replayed o ms (moved o m g)

@@ -73,7 +73,7 @@ pub record IsTrulyAnswered (ms : List LocalMove) (c : ClientId) (a : Accepted) :
   pub own : a.1.client ≡ c
   pub ran : HasRun (ran_by a.0 ms) a.1 a.2 a.3
 
--- what a client accepted for a query is what ran of it, and it accepted it once
+-- a client accepted the answer that a query's run gave, once
 pub record ClientPromise (ms : List LocalMove) (c : ClientId) : Type 0 where
   pub accepted : AllByRecursion (IsTrulyAnswered ms c) (accepted_by c ms)
   pub once : NoRepeats (map query_of (accepted_by c ms))

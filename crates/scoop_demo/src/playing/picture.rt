@@ -1,4 +1,4 @@
-//! The chart of a run, if one is wanted.
+//! The chart of a run, where a caller asks for it.
 
 use crate::printing::print_note;
 use scoop_chart::{Chart, ChartError};
@@ -9,7 +9,7 @@ use std::alloc::Global;
 use std::io;
 use std::io::Write;
 
-/// The sequence chart of a run, if one is wanted: the parties of the script, from its first event on.
+/// The sequence chart of a run, where a caller asks for it: the parties of the script, from its first event on.
 #[derive(Drop)]
 pub struct Picture {
     alloc: Global,

@@ -480,7 +480,7 @@ fn a_greeting_is_framed(rt: HostRuntime) -> Result<(), Fail> {
     let len = encode(Version::Two, &hello, &mut buffer);
     assert_eq!(rt; len, 26);
     are_equal(&rt, decode(&buffer[..len]), Ok((Version::Two, hello)));
-    // what is no frame is refused, and says why
+    // bytes that are no frame are refused, with the reason
     are_equal(&rt, decode(&buffer[..len - 1]), Err(FrameError::Short));
     are_equal(&rt, decode(b"no frame"), Err(FrameError::Short));
     Ok(())

@@ -200,7 +200,7 @@ fn new_world<'a>(alloc: Global, heap: Heap<'a>) -> Result<World<Table, Heap<'a>>
     Ok(opens(heap, placements(alloc)?)?)
 }
 
-// Names the types that an event and its note hold. The prover needs the names if both are lent on.
+// Names the types that an event and its note hold. The prover needs the names if a function lends both on.
 type Parts = Option<(Command, HandlerList, Entry, Request, Ran, Note, ClientNote)>;
 
 // The story happens in a new world: its events. The world is borrowed, here as everywhere, so that no early return has to

@@ -1,5 +1,5 @@
 -- A client owes a message only to a handler that it knows. It greets handlers that it knows, and a block's handlers are among them.
--- What is left to do of a reservation is among the block's handlers, and so are the windows. Each move of the client keeps it.
+-- The rest of a reservation's work is among the block's handlers, and so are the windows. Each move of the client keeps it.
 use Rattle.scoop_model.proofs.Names.{◌≡◌, List, [], ◌∷◌, Some, None, refl, sym, ap, ◌∙◌, subst, arith, Ok, Option, true, false, true≢false, same_Some, AllByRecursion}
 use Rattle.scoop_model.proofs.Names.{client_of, Message, HandlerId, all_found, all_made, StepRow, one_is_locked, all_are_locked, one_is_opened}
 use Rattle.scoop_model.proofs.Names.{all_are_opened, is_unlocked, is_given_back, asked, has, first_unknown, started, unless_unknown}

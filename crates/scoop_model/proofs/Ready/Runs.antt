@@ -19,7 +19,7 @@ use Rattle.scoop_model.proofs.Ready.Readiness as readiness
 abbrev Played : World → Type 0
 Played w = Answering w × Taped w
 
--- of where blocks stand, and what is told of them
+-- the places of blocks, and what replies say of them
 abbrev Placed : World → Type 0
 Placed w = Standing w × Counts w
 

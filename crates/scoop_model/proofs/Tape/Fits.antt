@@ -96,7 +96,7 @@ same_beginning [] [] qs rs e l = e
 same_beginning (x ∷ xs) (y ∷ ys) qs rs e l = let tail : xs ++ qs ≡ ys ++ rs = cc in same_beginning xs ys qs rs tail (omega arith)
 same_beginning xs ys qs rs e l = absurd (omega arith)
 
--- so many entries were received, and of those that stand in the log from number n on the others are put behind them
+-- so many entries were received, and of those that stand in the log from number n on the others are put after them
 pub beginning_next :
     (xs log : List Entry) (n : ℕ) (es : List Entry) → IsBeginningOf xs log → Stands log n es → n ≤ length xs + 1 → length xs + 1 ≤ n + length es
     → IsBeginningOf (xs ++ drop (length xs + 1 - n) es) log

@@ -18,7 +18,7 @@ pub record Slot : Type 0 where
 abbrev pub slot_of : Block → List Entry → List Entry → Option QueueState → Slot
 slot_of b ran rest state = record { block = b; ran = ran; rest = rest; state = state }
 
--- what is so of each slot whose private queue is gone, and of each that has one, is so of every slot
+-- a fact of each slot whose private queue is gone, and of each that has one, is a fact of every slot
 pub slot_cases : (P : Slot → Type 0) → ((c : Block) (ran rest : List Entry) → P (slot_of c ran rest None))
     → ((c : Block) (ran rest : List Entry) (t : QueueState) → P (slot_of c ran rest (Some t))) → (s : Slot) → P s
 slot_cases P gone there s = at s.block s.ran s.rest s.state

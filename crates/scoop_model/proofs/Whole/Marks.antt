@@ -200,7 +200,7 @@ module _ (ms ns : List Message) (h : HandlerId) (marks news : List Mark) (alike 
   found_told : (b : Block) (k : Mark) → mark_of b.client marks ≡ Some k → MarkTold ns h k
   found_told b k found = All-mark_of (MarkTold ns h) b.client marks k now.each found
 
--- what a row makes of the marks, where its reply tells nothing new unless entries are taken
+-- the marks after a row whose reply says nothing new unless entries are taken
 told_by :
     (ms : List Message) (s : HandlerState) (m : Message) (h : Hearing) → Row s m h
     → (((n : ℕ) → h.1.note ≡ Took n → ⊥) → TellsAlike s.number ms (ms ++ option_to_list h.1.reply)) → MarksGrow s.marks h.0.marks

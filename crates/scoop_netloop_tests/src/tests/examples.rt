@@ -24,7 +24,7 @@ fn answers(rt: &impl Abort, book: &mut Book<Table, MemoryKeeper>) {
     let mut reply = [0; BUFFER_LEN];
     let answered = answer_datagram(book, 0, HELLO, &mut reply).expect(rt, "no answer");
     are_equal(rt, answered, Answered::Reply(26, Note::Greeted));
-    // what is no frame is told as such, and nothing has happened
+    // bytes that are no frame are refused as such, and nothing has happened
     let cut = answer_datagram(book, 0, &HELLO[..25], &mut reply).expect(rt, "no answer");
     are_equal(rt, cut, Answered::RefusedFrame(FrameError::Short));
 }

@@ -62,7 +62,7 @@ fn answers<'a>(
     refused
 }
 
-/// The same of a run. What has happened before the refusal stands.
+/// The same of a run. All that happened before the refusal stands.
 fn runs<'a>(rt: &impl Abort, heap: Heap<'a>, book: &mut HeapBook<'a>, number: u64) -> bool {
     let before = book.history().len();
     heap.refuse(number);

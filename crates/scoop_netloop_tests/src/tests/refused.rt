@@ -54,7 +54,7 @@ fn begins(
     Some(told)
 }
 
-/// What is out is finished: one executor has one job at a time.
+/// A job that is out is finished: one executor has one job at a time.
 fn finishes(book: &mut MemoryBook, out: &mut Option<Done<Table>>, pass: u32) -> Option<Reply> {
     let done = out.take()?;
     let ran = book.finish(pass, done).ok()?;
@@ -166,7 +166,7 @@ where
     }
 }
 
-/// An executor's end doesn't show behind the receiver's, whose turns may be over first.
+/// An executor's end doesn't show if the receiver's turns are over first.
 #[test]
 fn a_loop_ends_where_memory_is_refused(rt: HostRuntime) {
     let mut unsent = false;

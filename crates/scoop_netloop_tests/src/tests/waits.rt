@@ -15,7 +15,7 @@ const FAILED: Result<u32, DriverError> = Err(DriverError::ConditionFailed(2));
 
 const OUTSIDE: Result<u32, DriverError> = Err(DriverError::Client(ClientError::NotReserved(NINE)));
 
-/// What is asked of handler 1 in a block, where a handler's balance is at least so much.
+/// A query of handler 1 in a block, where a handler's balance is at least so much.
 #[derive(Clone, Copy)]
 struct Step {
     op: u16,

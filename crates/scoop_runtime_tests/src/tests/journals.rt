@@ -215,7 +215,7 @@ fn lines_of(text: &[u8], start: &[u8]) -> usize {
 }
 
 // The life takes one write for its first line and one for the greeting. The block takes one before its new messages go in each
-// of five rounds (Lock, Lock, Open, Unlock, Log), and one before it is told as ended. Its lines are four commands and eight
+// of five rounds (Lock, Lock, Open, Unlock, Log), and one before it reports the end. Its lines are four commands and eight
 // turns.
 #[test]
 fn a_joint_block_takes_six_writes(rt: HostRuntime) {

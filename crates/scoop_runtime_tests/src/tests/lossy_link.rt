@@ -13,7 +13,7 @@ pub struct LossyLink<'l, L: Link> {
 }
 
 impl<'l, L: Link> LossyLink<'l, L> {
-    /// The link, behind which datagrams get lost.
+    /// The link that loses datagrams over this one.
     pub fn new(inner: &'l mut L) -> LossyLink<'l, L> {
         LossyLink { inner, sends: 0 }
     }

@@ -73,8 +73,8 @@ fn place_of_next(deals: &[Deal], purses: &[Purse]) -> Option<usize> {
     None
 }
 
-/// Does the deals in one order that fits the tickets of all purses. Answers whether there is one, in which each client was
-/// told what is right. The deals are gone then.
+/// Does the deals in one order that fits the tickets of all purses. Answers whether there is one in which each client
+/// got the right answers. The deals are gone then.
 pub fn replay(deals: &mut Vec<Deal>, purses: &mut [Purse]) -> bool {
     for _ in 0..deals.len() {
         let Some(place) = place_of_next(deals, purses) else {

@@ -1,4 +1,4 @@
-//! What is shown of a node, in each of its forms.
+//! A node as its page, its metrics and its JSON show it.
 
 use crate::tests::are_equal;
 use jiff::Timestamp;

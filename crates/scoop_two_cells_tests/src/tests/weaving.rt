@@ -166,7 +166,7 @@ fn theorems_of_a_weave_are_called() {
     scoop_weave::nodes_are_woven();
     // where each party's own moves lead it, all moves in one order lead the whole system
     scoop_weave::woven_is_a_weave();
-    // so the moves of all parties, each by itself, happen in a world
+    // so the own moves of each party happen in a world
     scoop_weave::weave_is_a_world();
     // nothing that can happen in a world is left out
     scoop_weave::world_is_of_a_weave();

@@ -65,7 +65,7 @@ fn theorems_of_calm_worlds_are_called() {
     scoop_calm::calm_has_no_next();
     // every fair way leads to a calm world too, in as many rounds as there is left to do
     scoop_calm::rounds_calm();
-    // what is left is counted along a block, and two clients keep a third one from a lock
+    // the steps that are left are counted along a block, and two clients keep a third one from a lock
     scoop_calm::examples::counted();
     scoop_calm::examples::taken_in_turns();
     // the calm world was reached, so it is safe as every such world is

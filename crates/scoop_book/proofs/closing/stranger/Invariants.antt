@@ -1,4 +1,4 @@
--- What is true of the entries that are left is true of all.
+-- A fact of the entries that are left is a fact of all.
 use Rattle.std.proofs.Common.{◌≡◌, ◌<◌, ◌≤◌, ℕ, length}
 use Rattle.std.specs.List.{All, Any}
 use Rattle.scoop_book.proofs.closing.stranger.Given as goal

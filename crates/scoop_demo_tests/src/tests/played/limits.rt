@@ -73,7 +73,7 @@ fn push_ran(text: &mut String) -> Result<(), AllocError> {
     Ok(())
 }
 
-// A full private queue stands behind an empty one that has not ended.
+// A full private queue comes after an empty one that has not ended.
 fn full_behind_empty(text: &mut String) -> Result<(), AllocError> {
     text.push_str(TWO_QUEUES)?;
     push_logged(text)?;

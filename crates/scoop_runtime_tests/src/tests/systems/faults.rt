@@ -5,7 +5,7 @@ use scoop_system::{System, SystemError};
 use std::alloc::Global;
 use std::process::Abort;
 
-// Texts that are no systems, each with what is told of it.
+// Texts that are no systems, each with its report.
 const FAULTS: [(&str, &str); 54] = [
     ("nodes = 1", "unknown key \"nodes\""),
     (
@@ -213,7 +213,7 @@ const FAULTS: [(&str, &str); 54] = [
     ),
 ];
 
-// Texts that are no TOML, each with what is told of it.
+// Texts that are no TOML, each with its report.
 const NO_TOML: [(&str, &str); 4] = [
     (
         "[node]\nnumber = 1\n[node]\nnumber = 2\n",
