@@ -2,9 +2,9 @@
 
 ghost use Rattle.std.specs.Prelude.{◌≡◌, IfOk, OnErr, IsErr, IsTrue};
 ghost use Rattle.scoop_handler.specs.Marks.{mark_of};
-ghost use Rattle.scoop_handler.specs.Hearing.{hear_hello};
+ghost use Rattle.scoop_handler.specs.Hearing.{greeting_block, hear_hello};
 ghost use Rattle.scoop_handler.specs.Memory.{adds};
-ghost use Rattle.scoop_handler.specs.Outcomes.{greeting_block, heard_about};
+ghost use Rattle.scoop_handler.specs.Outcomes.{heard_about};
 
 use crate::marks::find_placed;
 use crate::note::{Note, Reason};
