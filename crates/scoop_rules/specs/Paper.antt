@@ -170,8 +170,8 @@ MovesLead o g (m ∷ ms) end = May m g × MovesLead o (moved o m g) ms end
 
 -- ---- what a world stands for
 
--- a block as a world shows it at one handler: its logged entries, how many have run, whether its End has, whether a newer
--- incarnation of its client has greeted, and how many entries the handler acknowledged
+-- a block as a world shows it at one handler: its logged entries, how many have run, and whether its End has. The last
+-- two fields: whether a newer incarnation of its client has greeted, and how many entries the handler acknowledged
 pub record Seen : Type 0 where
   pub logged : List Entry
   pub count : ℕ
