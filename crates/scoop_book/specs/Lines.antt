@@ -30,8 +30,12 @@ reply_words (Began None) = 13 ∷ []
 reply_words (Began (Some k)) = 14 ∷ (block_words k.0 ++ (k.1 ∷ []))
 reply_words (Finished r) = 15 ∷ ran_words r
 
+-- the words of an entry after the number of its pass
+abbrev pub moved_words : Entry → List ℕ
+moved_words e = event_words e.1 ++ reply_words e.2
+
 abbrev pub line_words : Entry → List ℕ
-line_words e = e.0 ∷ (event_words e.1 ++ reply_words e.2)
+line_words e = e.0 ∷ moved_words e
 
 -- ---- sizes that a program's entries have
 
@@ -78,11 +82,21 @@ reply_at ws =
 unfoldable pub line_at : List ℕ → Read Entry
 line_at ws = let p = word_at ws in let e = event_at p.1 in let r = reply_at e.1 in ((p.0, e.0, r.0), r.1)
 
+-- the entry of this pass whose event and reply these are
+abbrev pub entry_of : ℕ → List ℕ → Entry
+entry_of pass ws = let e = event_at ws in let r = reply_at e.1 in (pass, e.0, r.0)
+
 -- that many entries
 abbrev pub lines : ℕ → List ℕ → List Entry
 lines count ws = (reads line_at count ws).0
 
 -- ---- histories
+
+-- the words are those of an entry's event and reply
+pub record IsMoved (ws : List ℕ) : Type 0 where
+  pub entry : Entry
+  pub sized : IsSizedLine entry
+  pub words_are : ws ≡ moved_words entry
 
 -- the words are those of that many entries
 pub record IsPacked (count : ℕ) (words : List ℕ) : Type 0 where

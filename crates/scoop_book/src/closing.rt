@@ -3,12 +3,11 @@
 ghost use Rattle.std.specs.Prelude.{◌≡◌, ◌≢◌, ◌<◌, ◌≤◌, ◌↔◌, ℕ, IsTrue, IfNone, IfSome};
 ghost use Rattle.std.specs.List.{All, Any};
 ghost use Rattle.scoop_book.specs.Closing.{Agrees, Differs, IsComplete};
+ghost use Rattle.scoop_book.specs.Lines.{IsMoved, entry_of};
 ghost use Rattle.scoop_book.specs.Moves.{made_by, moved};
 
 use crate::error::CloseRefusal;
-use crate::event::{Event, Reply};
 use crate::history::History;
-use crate::law::{same_event, same_reply};
 use crate::opening::Opening;
 use crate::pass::Pass;
 use scoop_keeper::Keeper;
@@ -56,11 +55,13 @@ fn is_complete<A: Allocator + Copy>(count: u32, passes: &[Pass<A>]) -> bool
     }
 }
 
-// Whether two entries have the same event with the same reply.
-fn is_of(made: &(u32, Event, Reply), entry: &(u32, Event, Reply)) -> bool
-    ensures { IsTrue result ↔ (moved made.now ≡ moved entry.now) }
+// Whether the words of two entries have the same event with the same reply.
+fn is_of(made: &[u32], words: &[u32]) -> bool
+    requires made { IsMoved made.now }
+    requires words { IsMoved words.now }
+    ensures { IsTrue result ↔ (moved (entry_of 0 made.now) ≡ moved (entry_of 0 words.now)) }
 {
-    same_event(&made.1, &entry.1) && same_reply(&made.2, &entry.2)
+    made == words
 }
 
 // Whether the pass has exactly the events that the history has of its number.
@@ -70,17 +71,17 @@ fn has_events<A: Allocator + Copy>(pass: &Pass<A>, history: &History<A>) -> bool
     let number = pass.number();
     let mut left = pass.events().reader();
     let mut entries = history.reader();
-    while let Some(entry) = entries.next_entry() {
-        if entry.0 == number {
-            let Some(made) = left.next_entry() else {
+    while let Some((of, words)) = entries.next_words() {
+        if of == number {
+            let Some((_, made)) = left.next_words() else {
                 return false;
             };
-            if !is_of(&made, &entry) {
+            if !is_of(made, words) {
                 return false;
             }
         }
     }
-    match left.next_entry() {
+    match left.next_words() {
         None => true,
         Some(_) => false,
     }
@@ -116,9 +117,9 @@ fn stranger<A: Allocator + Copy>(count: u32, history: &History<A>) -> Option<u32
     ensures some { IfSome result (λ n. Any (λ e. (e.0 ≡ n) × (count ≤ n)) history.now.entries) }
 {
     let mut entries = history.reader();
-    while let Some(entry) = entries.next_entry() {
-        if entry.0 >= count {
-            return Some(entry.0);
+    while let Some((number, _)) = entries.next_words() {
+        if number >= count {
+            return Some(number);
         }
     }
     None

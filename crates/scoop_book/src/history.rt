@@ -1,13 +1,14 @@
 //! A history of events, packed.
 
 ghost use Rattle.std.specs.Prelude.{◌≡◌, ◌≤◌, ◌↔◌, ◌++◌, ◌∷◌, [], IsTrue, OnOk, IfOk, IfNone, IfSome, length};
+ghost use Rattle.scoop_book.specs.Lines.{IsMoved, entry_of};
 ghost use Rattle.scoop_book.specs.declared.history.writing.TheConstants.{MAX_LINE};
 
 mod reading;
 mod writing;
 
 use crate::event::{Event, Reply};
-use reading::line_from;
+use reading::{line_from, skip_moved};
 use scoop_handler::Heard;
 use scoop_message::{Entry, Message, OutOfMemory, Request};
 use scoop_packed::Reader;
@@ -44,11 +45,13 @@ pub struct HistoryReader<'a> {
 impl<'a> Model for HistoryReader<'a> {
     ghost use Rattle.std.specs.Prelude.{List};
     ghost use Rattle.scoop_book.specs.Moves.{Entry as HistoryEntry};
-    ghost use Rattle.scoop_book.specs.Lines.{lines};
+    ghost use Rattle.scoop_book.specs.Lines.{IsPacked, lines};
 
     ghost Value = { List HistoryEntry };
 
     ghost view = { λ r. lines r.left r.words };
+
+    ghost invariant = { λ r. IsPacked r.left r.words };
 }
 
 impl<'a> HistoryReader<'a> {
@@ -63,6 +66,24 @@ impl<'a> HistoryReader<'a> {
         }
         self.left -= 1;
         Some(line_from(&mut self.words))
+    }
+
+    /// The number of the next entry's pass, and the words of its event and its reply, if an entry is left.
+    pub(crate) fn next_words(&mut self) -> Option<(u32, &'a [u32])>
+        ensures some { IfSome result (λ l. self.old ≡ entry_of l.0 l.1.now ∷ self.new) }
+        ensures moved { IfSome result (λ l. IsMoved l.1.now) }
+        ensures none { IfNone result (self.old ≡ []) }
+        ensures end { IfNone result (self.new ≡ []) }
+    {
+        if self.left == 0 {
+            return None;
+        }
+        self.left -= 1;
+        let pass = self.words.word();
+        let words = self.words.rest();
+        skip_moved(&mut self.words);
+        let len = words.len() - self.words.rest().len();
+        Some((pass, &words[..len]))
     }
 }
 

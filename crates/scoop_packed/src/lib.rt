@@ -21,6 +21,7 @@
 #![tactic(auto)]
 
 mod reading;
+mod skipping;
 mod writing;
 
 pub use reading::Reader;

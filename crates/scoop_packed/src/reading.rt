@@ -26,7 +26,7 @@ impl<'a> Model for Reader<'a> {
 }
 
 // The number, or 0 if it is past the limit.
-fn bounded(limit: u32, number: u32) -> u32
+pub(crate) fn bounded(limit: u32, number: u32) -> u32
     ensures value { result ≡ bounded limit number }
     ensures limit { result ≤ limit }
 {
@@ -87,6 +87,13 @@ impl<'a> Reader<'a> {
         ensures { result ≡ words.now }
     {
         Reader { left: words }
+    }
+
+    /// The words that are left.
+    pub fn rest(&self) -> &'a [u32]
+        ensures { result.now ≡ self.now }
+    {
+        self.left
     }
 
     /// The next word, or 0 after the last.

@@ -69,3 +69,43 @@ pub(crate) fn line_from(words: &mut Reader<'_>) -> (u32, Event, Reply)
     let reply = reply_from(words);
     (pass, event, reply)
 }
+
+#[tactic(auto, unfolding(crate::specs::Lines::event_at))]
+fn skip_event(words: &mut Reader<'_>)
+    ensures { words.new ≡ (event_at words.old).1 }
+{
+    let kind = words.word();
+    if kind < 12 {
+        words.skip_message(kind);
+        return;
+    }
+    words.word();
+}
+
+#[tactic(auto, unfolding(crate::specs::Lines::reply_at))]
+fn skip_reply(words: &mut Reader<'_>)
+    ensures { words.new ≡ (reply_at words.old).1 }
+{
+    let kind = words.word();
+    if kind < 12 {
+        words.skip_message(kind);
+        words.skip_note();
+        return;
+    }
+    match kind {
+        12 => words.skip_note(),
+        13 => {}
+        14 => {
+            left_from(words);
+        }
+        _ => words.skip_ran(),
+    }
+}
+
+/// Leaves out the event and the reply of an entry.
+pub(crate) fn skip_moved(words: &mut Reader<'_>)
+    ensures { words.new ≡ (reply_at (event_at words.old).1).1 }
+{
+    skip_event(words);
+    skip_reply(words);
+}

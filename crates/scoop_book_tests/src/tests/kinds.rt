@@ -2,9 +2,10 @@
 
 use super::{MemoryBook, ONE, SET, block, book};
 use scoop_book::{Event, Reply};
-use scoop_handler::{Heard, Job, Ran};
+use scoop_handler::{Heard, Job, Note, Ran};
 use scoop_message::{Answer, Args, ClientId, Entries, Entry, Message, Request};
 use scoop_object::Table;
+use scoop_packed::{Reader, put_message, put_note, put_ran};
 use std::alloc::Global;
 use std::process::Abort;
 
@@ -111,4 +112,43 @@ fn each_kind_of_entry_is_read_back(rt: HostRuntime) {
     makes(&rt, &mut book, &mut made);
     assert!(rt; made.len() == 27);
     is_read_back(&rt, rt.alloc(), &book, &made);
+}
+
+/// The message that these words are is left out.
+fn is_left_out(rt: &impl Abort, words: &[u32]) {
+    let mut reader = Reader::new(words);
+    let kind = reader.word();
+    reader.skip_message(kind);
+    assert!(rt; reader.rest().is_empty());
+}
+
+#[test]
+fn each_kind_of_message_is_left_out(rt: HostRuntime) {
+    for message in &messages().expect(&rt, "no messages") {
+        let mut words = Vec::new(rt.alloc());
+        words.reserve(51).expect(&rt, "out of memory");
+        put_message(&mut words, message);
+        is_left_out(&rt, &words);
+    }
+}
+
+#[test]
+fn notes_and_an_entry_that_has_run_are_left_out(rt: HostRuntime) {
+    let ran = Ran {
+        block: block(7),
+        number: 1,
+        entry: query().expect(&rt, "no query"),
+        answer: Some(Answer::Value(5)),
+    };
+    let mut words = Vec::new(rt.alloc());
+    words.reserve(27).expect(&rt, "out of memory");
+    put_note(&mut words, &Note::Opened(block(7)));
+    put_note(&mut words, &Note::Took(3));
+    put_ran(&mut words, 15, &ran);
+    let mut reader = Reader::new(&words);
+    reader.skip_note();
+    reader.skip_note();
+    assert!(rt; reader.word() == 15);
+    reader.skip_ran();
+    assert!(rt; reader.rest().is_empty());
 }

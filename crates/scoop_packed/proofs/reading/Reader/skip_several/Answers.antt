@@ -1,0 +1,6 @@
+use Rattle.scoop_packed.specs.Unpacked.{logged_at}
+use Rattle.scoop_packed.proofs.OneMore.{left_more}
+use Rattle.scoop_packed.proofs.reading.Reader.skip_several.Goals as goal
+
+pub loop-preserved : goal.loop-preserved
+loop-preserved c = rw c.skip_logged.ensures (left_more logged_at c.loop.counter c.args.self.now c.loop.self c.loop.invariant)
