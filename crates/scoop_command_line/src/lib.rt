@@ -43,8 +43,9 @@ use std::alloc::{AllocError, Global};
 use system_commands::{CHECK, CLIENT, NODE, STORE};
 use up_command::UP;
 
-/// The version of the programs, as `--version` prints it.
-pub(crate) const VERSION: &str = "1.0.0";
+/// The version of the programs, as `--version` prints it. `tools/compile`, which proves nothing, puts `compiled without
+/// proof` in place of `proved`.
+pub(crate) const VERSION: &str = "1.1.0, proved";
 
 const COMMANDS: [CommandRow; 11] = [
     ANSWER, WORLD, FRAME, DEMO, CHECK, KEY_MAKER, NODE, CLIENT, UP, AUDIT, STORE,
