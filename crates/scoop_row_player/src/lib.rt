@@ -18,12 +18,13 @@
 //! given again.
 //!
 //! A library of areas has a type that is [`Areas`] and gives each case a new [`Subject`], by [`play_rows`]. A program calls
-//! [`play`] with the text of a file. [`words`] reads the words of blocks and entries.
+//! [`play_files`] with the areas of all its libraries. [`words`] reads the words of blocks and entries.
 #![tactic(auto)]
 
 mod area;
 mod bad;
 mod case;
+mod files;
 mod playing;
 mod sheet;
 pub mod words;
@@ -31,5 +32,6 @@ pub mod words;
 pub use area::{Areas, Heap, Subject};
 pub use bad::Bad;
 pub use case::Case;
+pub use files::play_files;
 pub use playing::{play, play_rows};
 pub use sheet::Sheet;
