@@ -8,7 +8,7 @@ socket that nobody reads. On a machine that others use too, take the best of sev
 """
 import argparse, ctypes, json, multiprocessing, os, shutil, socket, struct, subprocess, sys, tempfile, time, urllib.request
 
-from ports import free_ports
+from shared import free_ports
 
 CLIENT, FLOODING = 7, 8
 

@@ -6,13 +6,12 @@ blocks a second one client gets and eight get together, with the record in memor
 query, and how many queries, a second one client gets; what one client gets while a flood of repeated datagrams comes to one
 node; and beside them bare round trips of a datagram between two processes, and the same joint blocks in Erlang
 (`erlang_joint.escript`), where `escript` is there. `--etcd` puts the nodes' records into an etcd of three members, which it starts
-(`etcd.py`), beside records in files. On a machine that others use too, take the best of
+(`tests/etcd.py`), beside records in files. On a machine that others use too, take the best of
 several runs.
 """
 import argparse, itertools, multiprocessing, os, re, shutil, socket, struct, subprocess, sys, tempfile, threading, time
 
-from etcd import Cluster
-from ports import free_ports
+from shared import Cluster, free_ports
 
 TOP = os.path.dirname(os.path.dirname(os.path.abspath(__file__)))
 NODES, CLIENTS = [1, 2], range(11, 20)

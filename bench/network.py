@@ -8,7 +8,7 @@ that works on the same handlers at the same time.
 """
 import argparse, os, shutil, statistics, subprocess, sys, tempfile, time
 
-from ports import free_ports
+from shared import free_ports
 from proxy import Proxy
 
 TOP = os.path.dirname(os.path.dirname(os.path.abspath(__file__)))

@@ -7,7 +7,7 @@ for a block, how many tries a second a waiter makes, and how long the waiters ta
 """
 import argparse, os, random, shutil, statistics, subprocess, tempfile, time
 
-from ports import free_ports
+from shared import free_ports
 
 WANTED = 1000000
 

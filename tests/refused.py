@@ -1,7 +1,7 @@
 #!/usr/bin/env python3
-"""Refuses each allocation of a store's calls in turn: python3 bench/refused.py [--work FOLDER] [--coarse N] [CALL ..]
+"""Refuses each allocation of a store's calls in turn: python3 tests/refused.py [--work FOLDER] [--coarse N] [CALL ..]
 
-`rt try` builds the program bench/refused.rt.txt, and runs it once for each refused allocation. To find a call's
+`rt try` builds the program tests/refused.rt.txt, and runs it once for each refused allocation. To find a call's
 allocations in a run, each N-th one is refused first. Then each one is refused, from before the first that the call
 answered to past the last. A row for each call tells how its runs came out. A run that came out badly is printed, and
 then the status is 1.
@@ -32,7 +32,7 @@ UNREAD, ABSORBED, WANTED, BAD = 'not begun', 'answered all the same', 'answered 
 
 def program():
     """The text of the program."""
-    with open(os.path.join(TOP, 'bench', 'refused.rt.txt')) as text:
+    with open(os.path.join(TOP, "tests", "refused.rt.txt")) as text:
         return text.read()
 
 

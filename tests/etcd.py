@@ -1,21 +1,22 @@
 #!/usr/bin/env python3
-"""A cluster of three etcd members on free ports of this machine, for benches and trials.
+"""A cluster of three etcd members on free ports of this machine, for tests, benches and trials.
 
-usage: etcd.py FOLDER [--members N] [--quota BYTES]
+usage: tests/etcd.py FOLDER [--members N] [--quota BYTES]
 
 It starts the members, prints the cluster's address as `etcd://HOST:PORT,HOST:PORT,HOST:PORT`, and then takes a command a
 line: `kill K`, `start K`, `status`, `quit`. K counts the members from 0. At the end of the input, and at an interrupt, it
-kills all members that it started. FOLDER keeps their data and their logs; a second run goes on with the data in it.
-
-As a module: `with Cluster(folder) as cluster: ..`, with `address`, `kill(k)`, `start(k)`, `wait()` and `leader()`.
-Statuses: 0, or 2 if no etcd is installed or the members don't answer.
+kills all members that it started. FOLDER keeps their data and their logs.
 """
-import argparse, json, os, shutil, socket, subprocess, sys, time, urllib.request
+import argparse
+import json
+import os
+import shutil
+import subprocess
+import sys
+import urllib.request
 
-from ports import free_ports
+from systems import Skipped, free_ports, until
 
-# The members answer after so many seconds at the latest.
-PATIENCE = 30
 # Milliseconds between heartbeats, and until a follower stands for election.
 HEARTBEAT, ELECTION = 50, 500
 
@@ -26,23 +27,11 @@ class Cluster:
     def __init__(self, folder, members=3, quota=None):
         self.program = shutil.which("etcd")
         if self.program is None:
-            raise RuntimeError("etcd isn't installed: apt-get install etcd-server")
+            raise Skipped("etcd isn't installed (Debian's etcd-server)")
         os.makedirs(folder, exist_ok=True)
         self.folder, self.quota = folder, quota
-        self.clients, self.peers = self._ports(members)
+        self.clients, self.peers = free_ports(members), free_ports(members)
         self.members = [None] * members
-
-    def _ports(self, count):
-        """The ports of an earlier run in this folder, or free ones."""
-        path = os.path.join(self.folder, "ports.json")
-        if os.path.exists(path):
-            with open(path) as file:
-                return json.load(file)
-        ports = free_ports(2 * count, socket.SOCK_STREAM)
-        ports = [ports[:count], ports[count:]]
-        with open(path, "w") as file:
-            json.dump(ports, file)
-        return ports
 
     def __enter__(self):
         for k in range(len(self.members)):
@@ -101,15 +90,10 @@ class Cluster:
                 return k
         return None
 
-    def wait(self):
-        """Waits until some member reads what all have agreed on."""
-        end = time.monotonic() + PATIENCE
-        while time.monotonic() < end:
-            for k, member in enumerate(self.members):
-                if member and self.ask(k, "/v3/kv/range", {"key": "YQ=="}):
-                    return
-            time.sleep(0.1)
-        raise RuntimeError("the members don't answer: see " + self.folder)
+    def wait(self, members=None):
+        """Waits until one of these members, or of all, reads what all have agreed on."""
+        asked = range(len(self.members)) if members is None else members
+        until(f"an etcd in {self.folder} answers", lambda: any(self.ask(k, "/v3/kv/range", {"key": "YQ=="}) for k in asked))
 
 
 def obey(cluster, line):
@@ -140,13 +124,11 @@ def main():
             for line in sys.stdin:
                 if not obey(cluster, line):
                     break
-    except RuntimeError as error:
-        print(error, file=sys.stderr)
-        return 2
+    except Skipped as error:
+        sys.exit(f"{error}")
     except KeyboardInterrupt:
         pass
-    return 0
 
 
 if __name__ == "__main__":
-    sys.exit(main())
+    main()

@@ -1,0 +1,196 @@
+"""Clients that end, in every way: none that isn't killed leaves a block or a lock behind."""
+import os
+import pty
+import re
+import subprocess
+import time
+from contextlib import contextmanager
+
+from systems import LOCK, LOG, OPEN, Relay, System, frame_of, holds, same, test, until
+
+# Its lines name both handlers.
+BOTH = "reserve 1 2\nquery 1 balance\nquery 2 balance\nend\n"
+
+
+class Losing:
+    """The fate of client 7's datagrams: those of a kind (or of all) to a handler are lost while it is set."""
+
+    def __init__(self):
+        self.kind = self.handler = None
+
+    def loses(self, handler, kind=None):
+        self.handler, self.kind = handler, kind
+
+    def __call__(self, data):
+        frame = frame_of(data)
+        is_lost = frame.client == 7 and frame.handler == self.handler and self.kind in (None, frame.kind)
+        return [] if is_lost else [0]
+
+
+@contextmanager
+def accounts():
+    """Two nodes with an account each and three clients, of which 9 uses handler 1 alone. In the end client 8 gets both handlers."""
+    fate = Losing()
+    clients = {7: {"batch": 4}, 8: {"batch": 4}, 9: {"batch": 4, "handlers": [1]}}
+    with System({h: (h, "account", [100]) for h in (1, 2)}, clients, relay=Relay(fate)) as system:
+        system.fate = fate
+        system.serving = {n: system.node(n) for n in (1, 2)}
+        yield system
+        fate.loses(None)
+        ran = system.asks(8, BOTH, "--turns", "10000")
+        same("the status of client 8 after client 7", ran.status, 0)
+        same("the answers that client 8 gets", len(re.findall(r"^answer \d+$", ran.output, re.M)), 2)
+
+
+def is_free_after(lines, status, *options, loses=()):
+    """Client 7 ends by these lines and with this status inside its block, and says that it left none."""
+    with accounts() as system:
+        system.fate.loses(*loses or (None,))
+        ran = system.asks(7, lines, *options)
+        same("the status of client 7", ran.status, status)
+        holds("client 7 cuts its block or gives it up", re.search(r"^(cut|given up) 7\.1\.1$", ran.output, re.M), ran)
+
+
+@test
+def a_fault_in_a_line_cuts_the_block():
+    is_free_after("reserve 1 2\ncall 1 withdraw 10\nquery 2 balanc\n", 1)
+
+
+@test
+def the_end_of_the_input_cuts_the_block():
+    is_free_after("reserve 1 2\nquery 1 balance\n", 1)
+
+
+@test
+def a_refused_line_of_a_strict_client_cuts_the_block():
+    is_free_after("reserve 1 2\nquery 1 withdraw 1000\ncall 2 deposit 1000\nend\n", 1, "--strict")
+
+
+@test
+def turns_that_are_over_while_locking_give_the_block_up():
+    is_free_after("reserve 1 2\nend\n", 3, "--turns", "50", loses=(2, LOCK))
+
+
+@test
+def turns_that_are_over_while_opening_cut_the_block():
+    is_free_after("reserve 1 2\nend\n", 3, "--turns", "50", loses=(2, OPEN))
+
+
+@test
+def turns_that_are_over_while_logging_cut_the_block():
+    is_free_after("reserve 1 2\ncall 2 deposit 0\nend\n", 3, "--turns", "50", loses=(2, LOG))
+
+
+@test
+def a_client_outlives_a_node_that_is_down():
+    with accounts() as system:
+        client = system.client(7)
+        client.ask("reserve 1 2", "reserved")
+        client.ask("query 2 balance", "answer 100")
+        system.serving[2].kill()
+        client.tell("call 2 deposit 0\nend\n")
+        client.expect("logged 2")
+        time.sleep(1)
+        system.node(2)
+        client.expect("ended")
+        same("its end", client.end().result, (0, ""))
+
+
+def inside_a_block(system):
+    """Client 7 inside a block of both handlers."""
+    client = system.client(7)
+    client.ask("reserve 1 2", "reserved")
+    client.ask("query 2 balance", "answer")
+    return client
+
+
+def is_cut(system):
+    same("client 7 with --cut", system.asks(7, "", "--cut").result, (0, "cut client 7 at handlers 1 2\n"))
+
+
+@test
+def a_silent_handler_is_named_and_freed_by_cut():
+    with accounts() as system:
+        client = inside_a_block(system)
+        system.fate.loses(2)
+        ran = client.end()
+        same("the status of client 7", ran.status, 1)
+        holds("it names the handler", "handlers 2 have not welcomed client 7 again" in ran.notes, ran)
+        system.fate.loses(None)
+        is_cut(system)
+
+
+@test
+def a_killed_client_is_freed_by_cut():
+    with accounts() as system:
+        inside_a_block(system).kill()
+        is_cut(system)
+
+
+@test
+def a_file_of_lines_with_faults_sends_nothing():
+    with accounts() as system:
+        path = system.write("faults.lines", "reserve 1 2\ncall 1 withdraw\ncall 9 deposit 1\n")
+        before = len(system.relay.kept)
+        ran = system.asks(7, "", "--lines", path)
+        same("its status and output", ran.result, (1, ""))
+        same("datagrams that it sent", len(system.relay.kept) - before, 0)
+        faults = re.findall(r"^scoop: line (\d+): ", ran.notes, re.M)
+        same("the lines whose faults it prints", faults, ["2", "3"])
+
+
+@test
+def a_waiting_block_is_given_up():
+    with accounts() as system:
+        lines = "reserve 1 when 1 balance least 0 tries 9\ncall 1 withdraw 5\ngiveup\nreserve 1\nquery 1 balance\nend\n"
+        wanted = "noted\nnoted\ngiven up\nreserved 7.1.1\nanswer 100\nended\n"
+        same("its status and output", system.asks(7, lines).result, (0, wanted))
+
+
+def gives_up(system, client, tell):
+    """Client 7 waits for handler 2, gives up, and goes on. A wait that isn't given up takes the next lines as they come."""
+    system.fate.loses(2, LOCK)
+    tell("reserve 1 2\n")
+    until("client 7 waits for handler 2", lambda: system.shown(1)["handlers"][0]["holder"])
+    tell("giveup\n")
+    client.expect("given up")
+    tell("reserve 1\nquery 1 balance\nend\nreserve 1 2\n")
+    client.expect("reserved", "answer 100", "ended")
+    tell("query 2 balance\nend\n")
+    time.sleep(0.3)
+    system.fate.loses(None)
+    client.expect("reserved", "answer 100", "ended")
+    tell("quit\n")
+    same("its status", client.process.wait(60), 0)
+
+
+@test
+def a_reservation_is_given_up_through_a_pipe():
+    with accounts() as system:
+        client = system.client(7)
+        gives_up(system, client, client.tell)
+
+
+@test
+def a_reservation_is_given_up_at_a_terminal():
+    ours, theirs = pty.openpty()
+    try:
+        with accounts() as system:
+            client = system.client(7, stdin=theirs)
+            gives_up(system, client, lambda text: os.write(ours, text.encode()))
+    finally:
+        os.close(ours)
+        os.close(theirs)
+
+
+@test
+def a_client_of_one_handler_needs_no_other_node():
+    with accounts() as system:
+        system.serving[2].kill()
+        ran = system.asks(9, "reserve 1\nquery 1 balance\nend\n", "--turns", "10000")
+        same("its status and output", ran.result, (0, "reserved 9.1.1\nanswer 100\nended\n"))
+        path = system.write("other.lines", "reserve 1 2\nend\n")
+        ran = system.asks(9, "", "--lines", path)
+        same("its status and output for a handler that it doesn't use", ran.result, (1, ""))
+        holds("the fault names the line", "scoop: line 1: this client doesn't use handler 2\n" in ran.notes, ran)
+        system.node(2)

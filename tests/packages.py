@@ -1,0 +1,140 @@
+"""The packages: each is installed into an empty root, runs the demo there, and leaves nothing when it is removed."""
+import os
+import shutil
+import subprocess
+import tempfile
+from contextlib import contextmanager
+
+from demo import CLOSED, demo
+from systems import PATIENCE, SCOOP, TOP, Ran, Skipped, holds, run, same, test
+
+ARCHIVE, DEBIAN = "scoop-1.1.0-x86_64-linux.tar.gz", "scoop_1.1.0_amd64.deb"
+FILES = ["bin/scoop", "lib/systemd/system/scoop-node@.service", "share/doc/scoop/README.md", "share/man/man1/scoop.1.gz"]
+
+
+def package(*words):
+    return run(*words, program=os.path.join(TOP, "tools", "package"))
+
+
+def does(*words, folder=None):
+    """Runs a command, which has to succeed, in this folder. Returns its output."""
+    path = os.environ["PATH"] + ":/usr/sbin:/sbin"
+    done = subprocess.run(words, cwd=folder, capture_output=True, text=True, timeout=PATIENCE, env=dict(os.environ, PATH=path))
+    same(f"the status of {' '.join(words)}", (done.returncode, done.stderr), (0, ""))
+    return done.stdout
+
+
+@contextmanager
+def packed():
+    """A folder with the packages of the tested program, proved or not, and an empty folder `root`."""
+    for tool in ("dpkg", "dpkg-deb"):
+        if shutil.which(tool) is None:
+            raise Skipped(f"{tool} isn't installed (Debian's dpkg)")
+    with tempfile.TemporaryDirectory(prefix="packages-") as folder:
+        wanted = "".join(os.path.join(folder, name) + "\n" for name in (ARCHIVE, DEBIAN))
+        same("tools/package", package(SCOOP, folder, "--unproved"), Ran(0, wanted, ""))
+        os.mkdir(os.path.join(folder, "root"))
+        yield folder
+
+
+def runs(root, where):
+    """The files are there, the program runs, and its unit names it."""
+    for name in FILES + [f"share/doc/scoop/examples/{name}" for name in ("bank.toml", "bank-7.lines", "shop.toml")]:
+        holds(f"{name} is installed", os.path.isfile(os.path.join(root, name)))
+    program = os.path.join(root, "bin", "scoop")
+    same("its version", run("--version", program=program), run("--version"))
+    same("its demo", demo(program=program), Ran(0, CLOSED, ""))
+    with open(os.path.join(root, "lib", "systemd", "system", "scoop-node@.service")) as unit:
+        starts = [line for line in unit if line.startswith("ExecStart=")]
+    same("the starts of its unit", [line.split()[0] for line in starts], [f"ExecStart={where}/bin/scoop"])
+
+
+def left(root):
+    """The files under a root, but for what dpkg knows of packages."""
+    found = []
+    for at, folders, names in os.walk(root):
+        folders[:] = [name for name in folders if os.path.join(at, name) != os.path.join(root, "var", "lib", "dpkg")]
+        found += [os.path.relpath(os.path.join(at, name), root) for name in names]
+    return found
+
+
+@test
+def the_archive_runs_where_it_is_unpacked():
+    with packed() as folder:
+        root = os.path.join(folder, "root")
+        does("tar", "-xzf", os.path.join(folder, ARCHIVE), "--strip-components=1", "-C", root)
+        runs(root, "/usr/local")
+        for name in does("tar", "-tzf", os.path.join(folder, ARCHIVE)).splitlines():
+            if not name.endswith("/"):
+                os.remove(os.path.join(root, name.partition("/")[2]))
+        same("what is left when its files are removed", left(root), [])
+
+
+@test
+def the_debian_package_is_installed_runs_and_is_removed():
+    with packed() as folder:
+        root = os.path.join(folder, "root")
+        known = os.path.join(root, "var", "lib", "dpkg")
+        os.makedirs(os.path.join(known, "updates"))
+        os.mkdir(os.path.join(known, "info"))
+        open(os.path.join(known, "status"), "w").close()
+        dpkg = ["dpkg", f"--root={root}", "--force-not-root", f"--log={folder}/log"]
+        does(*dpkg, "--install", os.path.join(folder, DEBIAN))
+        runs(os.path.join(root, "usr"), "/usr")
+        with open(os.path.join(root, "usr", "share", "doc", "scoop", "copyright")) as came, open(os.path.join(TOP, "LICENSE")) as wanted:
+            same("its licence", came.read(), wanted.read())
+        does(*dpkg, "--purge", "scoop")
+        same("what is left when it is removed", left(root), [])
+
+
+@test
+def the_packages_have_their_checksums():
+    with packed() as folder:
+        same("sha256sum", does("sha256sum", "-c", "SHA256SUMS", folder=folder), f"{ARCHIVE}: OK\n{DEBIAN}: OK\n")
+
+
+@test
+def the_same_program_gives_the_same_packages():
+    with packed() as folder:
+        with open(os.path.join(folder, "SHA256SUMS")) as file:
+            before = file.read()
+        same("the status of a second packing", package(SCOOP, folder, "--unproved").status, 0)
+        with open(os.path.join(folder, "SHA256SUMS")) as file:
+            same("its checksums", file.read(), before)
+
+
+def standing_for(folder, version):
+    """A program that prints this version, and the tested program's help."""
+    path = os.path.join(folder, "scoop")
+    with open(path, "w") as file:
+        file.write(f'#!/bin/sh\n[ "$1" != --version ] || exec echo "scoop 1.1.0, {version}"\nexec {SCOOP} "$@"\n')
+    os.chmod(path, 0o755)
+    return path
+
+
+@test
+def an_unproved_program_is_packed_only_by_request_and_says_so():
+    with tempfile.TemporaryDirectory(prefix="packages-") as folder:
+        program, out = standing_for(folder, "compiled without proof"), os.path.join(folder, "out")
+        ran = package(program, out)
+        same("its status, output and files", (ran.status, ran.output, os.path.exists(out)), (1, "", False))
+        holds("it says why", ran.notes.startswith(f"package: {program} isn't proved."), ran.notes)
+        for options, version, line in ((["--unproved"], "compiled without proof", "This program was compiled without proof."),
+                                       ([], "proved", "What it promises is proved of the code that runs.")):
+            same("the status", package(standing_for(folder, version), out, *options).status, 0)
+            about = does("dpkg-deb", "--field", os.path.join(out, DEBIAN), "Description")
+            same(f"the description's last line for {version!r}", about.splitlines()[-1].strip(), line)
+
+
+@test
+def the_manual_has_no_faults():
+    with packed() as folder:
+        does("tar", "-xzf", os.path.join(folder, ARCHIVE), "--strip-components=1", "-C", os.path.join(folder, "root"))
+        page = os.path.join(folder, "root", "share", "man", "man1", "scoop.1.gz")
+        checkers = [("mandoc", ["mandoc", "-T", "lint", "-W", "warning", page]),
+                    ("groff", ["sh", "-c", f"zcat {page} | groff -man -t -Tutf8 -ww -z"])]
+        found = [(name, words) for name, words in checkers if shutil.which(name)]
+        if not found:
+            raise Skipped("neither mandoc nor groff is installed")
+        for name, words in found:
+            same(f"what {name} finds", does(*words), "")

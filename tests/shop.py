@@ -1,0 +1,103 @@
+"""The shop of docs/GUIDE.md: a node with an object of its own, and a client whose commands are calls."""
+import os
+import re
+
+from systems import SCOOP, TOP, Skipped, System, free_ports, holds, run, same, test, until
+
+# Where the runner has found or made the shop's programs.
+SHOP_NODE, SHOP_CLIENT = (os.environ.get(name) for name in ("SHOP_NODE", "SHOP_CLIENT"))
+with open(os.path.join(TOP, "examples", "shop.toml")) as _file:
+    TEXT = _file.read()
+
+
+class Shop(System):
+    """The shelf, which is node 1 and has an object of its own, the till, which is node 2, and the buyer. All write journals."""
+
+    def __init__(self):
+        if not (SHOP_NODE and SHOP_CLIENT):
+            raise Skipped("the shop's programs aren't compiled")
+        super().__init__({}, {})
+        ports = dict(zip(("47301", "47302", "47307"), free_ports(3)))
+        self.toml = self.write("shop.toml", re.sub("|".join(ports), lambda port: str(ports[port.group()]), TEXT))
+        self.make_key()
+        self.status = free_ports(1)[0]
+        self.running = {}
+
+    def options(self, name, number):
+        store = self.path(f"{name}.db")
+        return [str(number), "--system", self.toml, "--store" if os.path.exists(store) else "--new", store, "--key", self.key,
+                "--journal", self.path(f"{name}.journal")]
+
+    def serve(self, name):
+        """Starts the shelf or the till."""
+        if name == "shelf":
+            words = [SHOP_NODE, *self.options(name, 1), "--status", f"127.0.0.1:{self.status}"]
+        else:
+            words = [SCOOP, "node", *self.options(name, 2)]
+        self.running[name] = self.begin(words)
+        self.running[name].expect(f"node {2 - (name == 'shelf')} at ")
+
+    def buys(self, wanted, *options):
+        """The buyer ends with this output."""
+        same("the buyer", run(*self.options("buyer", 7), *options, program=SHOP_CLIENT).result, (0, wanted))
+
+    def refuses(self, number, toml, wanted):
+        """The shelf's program runs no node whose objects it can't make."""
+        ran = run(str(number), "--system", toml, "--volatile", "--turns", "1", program=SHOP_NODE)
+        same("its status and output", ran.result, (3, ""))
+        holds(f"it says {wanted!r}", wanted in ran.notes, ran.notes)
+
+
+@test
+def a_shop_sells_what_it_has_through_kills_of_its_shelf_and_its_buyer():
+    with Shop() as shop:
+        for name in ("shelf", "till"):
+            shop.serve(name)
+        shop.buys("bought\n")
+        shop.running["shelf"].kill()
+        shop.serve("shelf")
+        shop.buys("bought\n")
+        # While the till is down the buyer locks the shelf and waits. There it is killed.
+        shop.running["till"].kill()
+        buyer = shop.begin([SHOP_CLIENT, *shop.options("buyer", 7)])
+        shop.statuses[1] = shop.status
+        until("the buyer has locked the shelf", lambda: shop.shown(1)["handlers"][0]["holder"])
+        buyer.kill()
+        shop.serve("till")
+        shop.buys("cut client 7 at handlers 1 2\n", "--cut")
+        # The shelf had 10, and each purchase takes 3.
+        shop.buys("bought\n")
+        shop.buys("sold out\n")
+        for party in shop.running.values():
+            party.kill()
+        journals = [shop.path(f"{name}.journal") for name in ("shelf", "till", "buyer")]
+        audit = run("audit", "--system", shop.toml, "--blocks", *journals)
+        same("the audit's status and notes", (audit.status, audit.notes), (0, ""))
+        ends = re.findall(r"^block 7\.\d+\.1 handlers 1 2: .*, (\w+)$", audit.output, re.M)
+        same("the ends of the buyer's blocks", ends, ["ended"] * 4)
+
+
+@test
+def a_buyer_whose_nodes_are_down_ends_when_its_turns_are_over():
+    with Shop() as shop:
+        ran = run(*shop.options("buyer", 7), "--turns", "20", program=SHOP_CLIENT)
+        same("its status and output", ran.result, (3, ""))
+        holds("it says so", "scoop: link: TurnsOver\n" in ran.notes, ran.notes)
+
+
+@test
+def a_buyer_with_wrong_words_is_refused():
+    with Shop() as shop:
+        same("the status of an option that it doesn't have", run("7", "--lines", "x", program=SHOP_CLIENT).status, 2)
+        ran = run("7", "--system", shop.toml, program=SHOP_CLIENT)
+        same("its status and output without a store", ran.result, (2, ""))
+        same("its first note", ran.notes.splitlines()[0], "scoop: a client needs a store")
+
+
+@test
+def a_node_whose_objects_are_not_of_the_files_class_is_refused():
+    with Shop() as shop:
+        shop.refuses(2, shop.toml, "scoop: store: WrongClass 2\n")
+        with open(shop.toml) as file:
+            altered = file.read().replace('test = "a0 <= w0"', 'test = "a0 <= w1"')
+        shop.refuses(1, shop.write("altered.toml", altered), "scoop: store: WrongClass 1\n")
