@@ -1,12 +1,17 @@
 """The packages: each is installed into an empty root, runs the demo there, and leaves nothing when it is removed."""
 import os
+import re
 import shutil
 import subprocess
+import sys
 import tempfile
 from contextlib import contextmanager
 
 from demo import CLOSED, demo
 from systems import PATIENCE, SCOOP, TOP, Ran, Skipped, holds, run, same, test
+
+sys.path.append(os.path.join(TOP, "tools"))
+import manual
 
 ARCHIVE, DEBIAN = "scoop-1.1.0-x86_64-linux.tar.gz", "scoop_1.1.0_amd64.deb"
 FILES = ["bin/scoop", "lib/systemd/system/scoop-node@.service", "share/doc/scoop/README.md", "share/man/man1/scoop.1.gz"]
@@ -88,19 +93,14 @@ def the_debian_package_is_installed_runs_and_is_removed():
 
 
 @test
-def the_packages_have_their_checksums():
-    with packed() as folder:
-        same("sha256sum", does("sha256sum", "-c", "SHA256SUMS", folder=folder), f"{ARCHIVE}: OK\n{DEBIAN}: OK\n")
-
-
-@test
-def the_same_program_gives_the_same_packages():
-    with packed() as folder:
-        with open(os.path.join(folder, "SHA256SUMS")) as file:
-            before = file.read()
-        same("the status of a second packing", package(SCOOP, folder, "--unproved").status, 0)
-        with open(os.path.join(folder, "SHA256SUMS")) as file:
-            same("its checksums", file.read(), before)
+def equal_programs_give_equal_packages_with_their_checksums():
+    sums = []
+    for _ in range(2):
+        with packed() as folder:
+            same("sha256sum", does("sha256sum", "-c", "SHA256SUMS", folder=folder), f"{ARCHIVE}: OK\n{DEBIAN}: OK\n")
+            with open(os.path.join(folder, "SHA256SUMS")) as file:
+                sums.append(file.read())
+    same("the checksums of the second ones", sums[1], sums[0])
 
 
 def standing_for(folder, version):
@@ -127,14 +127,18 @@ def an_unproved_program_is_packed_only_by_request_and_says_so():
 
 
 @test
-def the_manual_has_no_faults():
-    with packed() as folder:
-        does("tar", "-xzf", os.path.join(folder, ARCHIVE), "--strip-components=1", "-C", os.path.join(folder, "root"))
-        page = os.path.join(folder, "root", "share", "man", "man1", "scoop.1.gz")
-        checkers = [("mandoc", ["mandoc", "-T", "lint", "-W", "warning", page]),
-                    ("groff", ["sh", "-c", f"zcat {page} | groff -man -t -Tutf8 -ww -z"])]
-        found = [(name, words) for name, words in checkers if shutil.which(name)]
+def the_manual_has_all_commands_and_no_faults():
+    with tempfile.TemporaryDirectory(prefix="manual-") as folder:
+        path = os.path.join(folder, "scoop.1")
+        with open(path, "w") as file:
+            file.write(manual.page(SCOOP, "1.1.0"))
+        checkers = {"mandoc": ["-T", "lint", "-W", "warning"], "groff": ["-man", "-t", "-Tutf8", "-ww", "-z"]}
+        found = [name for name in checkers if shutil.which(name)]
         if not found:
             raise Skipped("neither mandoc nor groff is installed")
-        for name, words in found:
-            same(f"what {name} finds", does(*words), "")
+        for name in found:
+            same(f"what {name} finds", does(name, *checkers[name], path), "")
+        text = does("mandoc", "-T", "ascii", path) if "mandoc" in found else does("groff", "-man", "-Tascii", "-P-cbou", path)
+        plain = re.sub(".\b", "", text)
+        for command in ("answer", "world", "frame", "demo", "check", "key", "node", "client", "up", "audit", "store"):
+            holds(f"a section on scoop {command}", f"\n   scoop {command}\n" in plain, plain[:3000])

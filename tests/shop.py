@@ -15,7 +15,7 @@ class Shop(System):
 
     def __init__(self):
         if not (SHOP_NODE and SHOP_CLIENT):
-            raise Skipped("the shop's programs aren't compiled")
+            raise Skipped("the shop's programs aren't compiled: `./test shop` does that")
         super().__init__({}, {})
         ports = dict(zip(("47301", "47302", "47307"), free_ports(3)))
         self.toml = self.write("shop.toml", re.sub("|".join(ports), lambda port: str(ports[port.group()]), TEXT))

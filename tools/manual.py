@@ -7,6 +7,8 @@ FRONT = """.TH SCOOP 1 "" "scoop {version}" "User Commands"
 scoop \\- {about}
 """
 ITEM = re.compile(r"^ {2,6}(?P<words>(?:-|<|\[)\S*(?: \S+)*)(?: {2,}(?P<help>.*))?$")
+# The options that every command has.
+EVERY = ("-h, ", "-V, ")
 HEAD = re.compile(r"^(Usage|Commands|Arguments|Options):")
 
 
@@ -54,11 +56,6 @@ def paragraphs(lines):
         yield ".fi\n.RE"
 
 
-def commands(lines):
-    """The names of the commands, with what each does in a line."""
-    return [line.split(maxsplit=1) for line in lines if line.strip()]
-
-
 def items(lines):
     """Arguments or options: the words of each, and its help."""
     found = []
@@ -85,7 +82,7 @@ def section(program, name):
     yield ".PP"
     yield from paragraphs("\n".join(parts[""]).strip().splitlines())
     for head in ("Arguments", "Options"):
-        yield from tagged(items(parts.get(head, [])))
+        yield from tagged(item for item in items(parts.get(head, [])) if not item[0].startswith(EVERY))
 
 
 def page(program, version):
@@ -93,7 +90,7 @@ def page(program, version):
     parts = parts_of(help_of(program))
     about = "\n".join(parts[""]).strip()
     lines = [FRONT.format(version=version, about=plain(about)), ".SH SYNOPSIS", bold(parts["Usage"][0].strip()), ".SH COMMANDS"]
-    named = [(name, text) for name, text in commands(parts["Commands"]) if name != "help"]
+    named = [line.split(maxsplit=1) for line in parts["Commands"] if line.strip() and not line.startswith("  help ")]
     lines += tagged((f"scoop {name}", [text]) for name, text in named)
     lines += [".SH OPTIONS", *tagged(items(parts["Options"])), ".SH EACH COMMAND"]
     for name, _ in named:
