@@ -2,7 +2,7 @@
 import socket
 import struct
 
-from systems import HELLO, LOCK, LOCKED, LOG, LOGGED, OPEN, OPENED, UNLOCK, UNLOCKED, WELCOME, System, same, test, until
+from systems import HELLO, LOCK, LOCKED, LOG, LOGGED, OPEN, OPENED, UNLOCK, UNLOCKED, WELCOME, System, equal_to, same, test, until
 
 PLAYED = 8
 
@@ -24,27 +24,30 @@ class Held(System):
         """Sends a message until its reply comes."""
         frame = b"SQ" + struct.pack(">BBIIIIIH", 1, kind, 1, PLAYED, 1, block, number, len(body)) + body
 
-        def is_answered():
+        def reply_kind():
             self.socket.sendto(frame, ("127.0.0.1", self.ports["node", 1][0]))
             try:
-                return self.socket.recv(2048)[3] == reply
+                return self.socket.recv(2048)[3]
             except socket.timeout:
-                return False
+                return None
 
-        until(f"a reply of kind {reply} to one of kind {kind}", is_answered)
+        until(f"a reply of kind {reply} to one of kind {kind}", reply_kind, equal_to(reply))
 
     def counts(self):
         """Datagrams that came to the node, and messages that its handler heard."""
         counts = self.shown(1)["counts"]
         return counts["datagrams_received"], sum(counts["heard"].values())
 
+    def comes_to(self, count):
+        until(f"{count} datagrams came to the node", lambda: self.counts()[0], lambda came: came >= count)
+
     def hears_no_repeats(self, line):
         """The client waits for the reply to this line. It repeats its datagram at least ten times, and the handler hears none."""
         before, _ = self.counts()
         self.waiting.tell(line + "\n")
-        until("the line's datagram, and repeats of it", lambda: self.counts()[0] >= before + 3)
+        self.comes_to(before + 3)
         came, heard = self.counts()
-        until("ten more datagrams", lambda: self.counts()[0] >= came + 10)
+        self.comes_to(came + 10)
         same("messages that the handler heard meanwhile", self.counts()[1] - heard, 0)
 
 

@@ -9,7 +9,7 @@ import socket
 import subprocess
 import time
 
-from systems import PATIENCE, System, holds, same, test, until
+from systems import PATIENCE, System, equal_to, holds, same, test, until
 
 # Requests that the status refuses, with the beginning of the refusal by docs/OPERATING.md. Some may end without one.
 BAD = {
@@ -93,7 +93,7 @@ def the_json_shows_what_the_node_holds():
         same("the client", [it for it in shown["clients"] if it["client"] == 11],
              [{"client": 11, "named": True, "incarnation": 1, "handlers": 1}])
         client.ask("end", "ended")
-        until("the queue has run to its end", lambda: not system.shown(1)["handlers"][0]["queues"])
+        until("the queue has run to its end", lambda: system.shown(1)["handlers"][0]["queues"], equal_to([]))
 
 
 @test
@@ -169,7 +169,7 @@ def four_hundred_connections_at_once_all_end():
 def is_logged(node, words):
     """The node's log gets a line of this form."""
     form = re.compile(rf"^\d{{4}}-\d\d-\d\dT\d\d:\d\d:\d\d\.\d{{3}}Z {words}", re.M)
-    until(f"a line of the log that is {words}", lambda: form.search(node.notes()))
+    until(f"a line of the log that is {words}", node.notes, form.search)
 
 
 @test

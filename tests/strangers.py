@@ -4,7 +4,7 @@ import os
 import socket
 import struct
 
-from systems import Relay, System, holds, run, same, test, until
+from systems import Relay, System, equal_to, holds, run, same, test, until
 
 LINES = "reserve 1\ncall 1 set 5\nquery 1 get\nend\n"
 HEAD = '[system]\nname = "bank"\nlife = 1\n'
@@ -27,6 +27,10 @@ class Sealed(System):
     def is_answered(self, file, *options):
         ran = self.asks(7, LINES, *options, file=file)
         same("the client's status and replies", (ran.status, ran.output.splitlines()[1:]), (0, ["logged 1 1", "answer 5", "ended"]))
+
+    def counts(self, name, wanted):
+        """The node comes to this count."""
+        until(f"{name} is {wanted}", lambda: self.shown(1)["counts"][name], equal_to(wanted))
 
     def send(self, datagrams):
         with socket.socket(socket.AF_INET, socket.SOCK_DGRAM) as out:
@@ -51,7 +55,7 @@ def refuses(change_file=lambda text: text, change=lambda data: data):
         file = system.write("changed.toml", change_file(system.text()))
         system.serves(file, "--volatile")
         system.send([change(data) for data in datagrams])
-        until("each datagram is counted", lambda: system.shown(1)["counts"]["seal_refused"] == len(datagrams), 60)
+        system.counts("seal_refused", len(datagrams))
         system.is_answered(file, "--new", system.path("again.db"))
         same("the refused datagrams in the end", system.shown(1)["counts"]["seal_refused"], len(datagrams))
 
@@ -84,7 +88,7 @@ def invented_clients_are_dropped_and_counted():
         system.serves(file, "--volatile")
         # A greeting by the table of frames: version 1, kind 1, handler 1, its client, incarnation 1, no block, no entry, no body.
         system.send([b"SQ" + struct.pack(">BBIIIIIH", 1, 1, 1, 100 + k, 1, 0, 0, 0) for k in range(64)])
-        until("64 greetings are counted", lambda: system.shown(1)["counts"]["unknown_client_messages"] == 64, 60)
+        system.counts("unknown_client_messages", 64)
         system.is_answered(file)
 
 

@@ -50,15 +50,21 @@ def holds(what, is_so, *came):
         raise AssertionError("\n  ".join([f"not so: {what}", *(f"came: {it!r}" for it in came)]))
 
 
-def until(what, look, patience=PATIENCE):
-    """Looks again and again. Returns the first result that isn't empty, and fails if none comes in time."""
+def equal_to(wanted):
+    """Whether what came is this, for `until`."""
+    return lambda came: came == wanted
+
+
+def until(what, look, is_right=bool, patience=PATIENCE):
+    """Looks again and again, until what it finds is right, and returns that. Fails if it isn't in time."""
     end = time.monotonic() + patience
-    while time.monotonic() < end:
+    while True:
         found = look()
-        if found:
+        if is_right(found):
             return found
+        if time.monotonic() > end:
+            raise AssertionError(f"not within {patience} s: {what}\n  came: {found!r}")
         time.sleep(0.05)
-    raise AssertionError(f"not within {patience} s: {what}")
 
 
 # ---- ports

@@ -1,8 +1,10 @@
 """The manual page of `scoop`, made of the texts of its --help."""
+import os
 import re
 import subprocess
+import time
 
-FRONT = """.TH SCOOP 1 "" "scoop {version}" "User Commands"
+FRONT = """.TH SCOOP 1 "{date}" "scoop {version}" "User Commands"
 .SH NAME
 scoop \\- {about}
 """
@@ -86,10 +88,11 @@ def section(program, name):
 
 
 def page(program, version):
-    """The page in roff."""
+    """The page in roff. Its date is that of the program."""
+    date = time.strftime("%Y-%m-%d", time.gmtime(os.path.getmtime(program)))
     parts = parts_of(help_of(program))
     about = "\n".join(parts[""]).strip()
-    lines = [FRONT.format(version=version, about=plain(about)), ".SH SYNOPSIS", bold(parts["Usage"][0].strip()), ".SH COMMANDS"]
+    lines = [FRONT.format(date=date, version=version, about=plain(about)), ".SH SYNOPSIS", bold(parts["Usage"][0].strip()), ".SH COMMANDS"]
     named = [line.split(maxsplit=1) for line in parts["Commands"] if line.strip() and not line.startswith("  help ")]
     lines += tagged((f"scoop {name}", [text]) for name, text in named)
     lines += [".SH OPTIONS", *tagged(items(parts["Options"])), ".SH EACH COMMAND"]
