@@ -48,16 +48,17 @@ def recorded():
     return system, to_node
 
 
-def refuses(change_file=lambda text: text, change=lambda data: data):
+def refuses(change_file=lambda text: text, changes=(lambda data: data,)):
     """A node of a changed file refuses and counts each of the recorded datagrams, changed, and serves its client all the same."""
     system, datagrams = recorded()
     with system:
         file = system.write("changed.toml", change_file(system.text()))
         system.serves(file, "--volatile")
-        system.send([change(data) for data in datagrams])
-        system.counts("seal_refused", len(datagrams))
+        sent = [change(data) for change in changes for data in datagrams]
+        system.send(sent)
+        system.counts("seal_refused", len(sent))
         system.is_answered(file, "--new", system.path("again.db"))
-        same("the refused datagrams in the end", system.shown(1)["counts"]["seal_refused"], len(datagrams))
+        same("the refused datagrams in the end", system.shown(1)["counts"]["seal_refused"], len(sent))
 
 
 @test
@@ -72,12 +73,12 @@ def datagrams_of_another_system_are_refused():
 
 @test
 def a_changed_byte_is_refused():
-    refuses(change=lambda data: data[:9] + bytes([data[9] ^ 1]) + data[10:])
+    refuses(changes=[lambda data: data[:9] + bytes([data[9] ^ 1]) + data[10:]])
 
 
 @test
 def a_cut_tag_is_refused():
-    refuses(change=lambda data: data[:-1])
+    refuses(changes=[lambda data: data[:-1], lambda data: data[:-16]])
 
 
 @test
