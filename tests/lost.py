@@ -9,8 +9,8 @@ from systems import Ran, System, holds, run, same, test
 BLOCK = "reserve 1\ncall 1 set 5\nquery 1 get\nend\n"
 BOTH = "reserve 1 2\ncall 1 set 5\ncall 2 set 5\nquery 1 get\nend\n"
 HINT = "was moved, replaced, deleted or cut while the store was open"
-# A node that ends by itself: some fifteen seconds without a datagram.
-ENDS = ["--turns", "2000"]
+# A node that ends by itself, after some 24 seconds without a datagram.
+ENDS = ["--turns", "3000"]
 
 
 class Cells(System):

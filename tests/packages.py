@@ -13,7 +13,6 @@ from systems import PATIENCE, SCOOP, TOP, Ran, Skipped, holds, run, same, test
 sys.path.append(os.path.join(TOP, "tools"))
 import manual
 
-ARCHIVE, DEBIAN = "scoop-1.1.0-x86_64-linux.tar.gz", "scoop_1.1.0_amd64.deb"
 FILES = ["bin/scoop", "lib/systemd/system/scoop-node@.service", "share/doc/scoop/README.md", "share/man/man1/scoop.1.gz"]
 
 
@@ -29,17 +28,28 @@ def does(*words, folder=None):
     return done.stdout
 
 
+def version():
+    """The version of the tested program, which prints `scoop VERSION, TEXT`."""
+    return run("--version").output.split()[1].rstrip(",")
+
+
+def names():
+    """The names of the archive and of the Debian package."""
+    return f"scoop-{version()}-x86_64-linux.tar.gz", f"scoop_{version()}_amd64.deb"
+
+
 @contextmanager
 def packed():
-    """A folder with the packages of the tested program, proved or not, and an empty folder `root`."""
+    """A folder, the archive and the Debian package of the tested program there, proved or not, and an empty folder `root`."""
     for tool in ("dpkg", "dpkg-deb"):
         if shutil.which(tool) is None:
             raise Skipped(f"{tool} isn't installed (Debian's dpkg)")
     with tempfile.TemporaryDirectory(prefix="packages-") as folder:
-        wanted = "".join(os.path.join(folder, name) + "\n" for name in (ARCHIVE, DEBIAN))
-        same("tools/package", package(SCOOP, folder, "--unproved"), Ran(0, wanted, ""))
-        os.mkdir(os.path.join(folder, "root"))
-        yield folder
+        archive, debian = (os.path.join(folder, name) for name in names())
+        same("tools/package", package(SCOOP, folder, "--unproved"), Ran(0, f"{archive}\n{debian}\n", ""))
+        root = os.path.join(folder, "root")
+        os.mkdir(root)
+        yield folder, archive, debian, root
 
 
 def runs(root, where):
@@ -65,11 +75,10 @@ def left(root):
 
 @test
 def the_archive_runs_where_it_is_unpacked():
-    with packed() as folder:
-        root = os.path.join(folder, "root")
-        does("tar", "-xzf", os.path.join(folder, ARCHIVE), "--strip-components=1", "-C", root)
+    with packed() as (_, archive, _, root):
+        does("tar", "-xzf", archive, "--strip-components=1", "-C", root)
         runs(root, "/usr/local")
-        for name in does("tar", "-tzf", os.path.join(folder, ARCHIVE)).splitlines():
+        for name in does("tar", "-tzf", archive).splitlines():
             if not name.endswith("/"):
                 os.remove(os.path.join(root, name.partition("/")[2]))
         same("what is left when its files are removed", left(root), [])
@@ -77,14 +86,13 @@ def the_archive_runs_where_it_is_unpacked():
 
 @test
 def the_debian_package_is_installed_runs_and_is_removed():
-    with packed() as folder:
-        root = os.path.join(folder, "root")
+    with packed() as (folder, _, debian, root):
         known = os.path.join(root, "var", "lib", "dpkg")
         os.makedirs(os.path.join(known, "updates"))
         os.mkdir(os.path.join(known, "info"))
         open(os.path.join(known, "status"), "w").close()
         dpkg = ["dpkg", f"--root={root}", "--force-not-root", f"--log={folder}/log"]
-        does(*dpkg, "--install", os.path.join(folder, DEBIAN))
+        does(*dpkg, "--install", debian)
         runs(os.path.join(root, "usr"), "/usr")
         with open(os.path.join(root, "usr", "share", "doc", "scoop", "copyright")) as came, open(os.path.join(TOP, "LICENSE")) as wanted:
             same("its licence", came.read(), wanted.read())
@@ -96,18 +104,19 @@ def the_debian_package_is_installed_runs_and_is_removed():
 def equal_programs_give_equal_packages_with_their_checksums():
     sums = []
     for _ in range(2):
-        with packed() as folder:
-            same("sha256sum", does("sha256sum", "-c", "SHA256SUMS", folder=folder), f"{ARCHIVE}: OK\n{DEBIAN}: OK\n")
+        with packed() as (folder, *_):
+            wanted = "".join(f"{name}: OK\n" for name in names())
+            same("sha256sum", does("sha256sum", "-c", "SHA256SUMS", folder=folder), wanted)
             with open(os.path.join(folder, "SHA256SUMS")) as file:
                 sums.append(file.read())
     same("the checksums of the second ones", sums[1], sums[0])
 
 
-def standing_for(folder, version):
-    """A program that prints this version, and the tested program's help."""
+def standing_for(folder, proof):
+    """A program that says this of its proof, and is the tested one else."""
     path = os.path.join(folder, "scoop")
     with open(path, "w") as file:
-        file.write(f'#!/bin/sh\n[ "$1" != --version ] || exec echo "scoop 1.1.0, {version}"\nexec {SCOOP} "$@"\n')
+        file.write(f'#!/bin/sh\n[ "$1" != --version ] || exec echo "scoop {version()}, {proof}"\nexec {SCOOP} "$@"\n')
     os.chmod(path, 0o755)
     return path
 
@@ -119,11 +128,11 @@ def an_unproved_program_is_packed_only_by_request_and_says_so():
         ran = package(program, out)
         same("its status, output and files", (ran.status, ran.output, os.path.exists(out)), (1, "", False))
         holds("it says why", ran.notes.startswith(f"package: {program} isn't proved."), ran.notes)
-        for options, version, line in ((["--unproved"], "compiled without proof", "This program was compiled without proof."),
+        for options, proof, line in ((["--unproved"], "compiled without proof", "This program was compiled without proof."),
                                        ([], "proved", "What it promises is proved of the code that runs.")):
-            same("the status", package(standing_for(folder, version), out, *options).status, 0)
-            about = does("dpkg-deb", "--field", os.path.join(out, DEBIAN), "Description")
-            same(f"the description's last line for {version!r}", about.splitlines()[-1].strip(), line)
+            same("the status", package(standing_for(folder, proof), out, *options).status, 0)
+            about = does("dpkg-deb", "--field", os.path.join(out, names()[1]), "Description")
+            same(f"the description's last line for {proof!r}", about.splitlines()[-1].strip(), line)
 
 
 @test
@@ -131,7 +140,7 @@ def the_manual_has_all_commands_and_no_faults():
     with tempfile.TemporaryDirectory(prefix="manual-") as folder:
         path = os.path.join(folder, "scoop.1")
         with open(path, "w") as file:
-            file.write(manual.page(SCOOP, "1.1.0"))
+            file.write(manual.page(SCOOP, version()))
         checkers = {"mandoc": ["-T", "lint", "-W", "warning"], "groff": ["-man", "-t", "-Tutf8", "-ww", "-z"]}
         found = [name for name in checkers if shutil.which(name)]
         if not found:

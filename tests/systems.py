@@ -78,13 +78,13 @@ def free_ports(count):
     for port in random.SystemRandom().sample(PORTS, len(PORTS)):
         if len(found) == count:
             return found
-        if is_free(port):
+        if take(port):
             found.append(port)
     raise AssertionError("this machine has no free ports")
 
 
-def is_free(port):
-    """Takes the port, if no program and no other test has it."""
+def take(port):
+    """Takes the port for this process. Returns whether no program and no other test had it."""
     lock = locked(f"scoop-port-{port}")
     if lock is None:
         return False
