@@ -4,16 +4,30 @@ import collections
 from systems import ANSWER, BUSY, LOCKED, LOG
 
 
+# How far before the end of a life a line is changed. The last ones may have had no effect: what a killed node wrote may not be
+# stored, and what a killed client logged may not be sent. At most 64 heard messages share a commit.
+TAIL = {"node": 250, "client": 30}
+
+
 class Journal:
     """The lines of a journal, and their words."""
 
     def __init__(self, text):
         self.lines = text.decode().splitlines()
         self.words = [line.split() for line in self.lines]
+        self.party = self.words[0][3]
+        self.lives = [at for at, line in enumerate(self.words) if line[0] == "scoop"]
 
     def places(self, *words):
-        """The lines that begin with these words."""
-        return [at for at, line in enumerate(self.words) if tuple(line[:len(words)]) == words]
+        """The lines that begin with these words, and have had an effect."""
+        tail, found, ends = TAIL[self.party], [], self.lives[1:] + [len(self.lines)]
+        for begin, end in zip(self.lives, ends):
+            found += [at for at in range(begin, end - tail) if tuple(self.words[at][:len(words)]) == words]
+        return found
+
+    def longest_life(self):
+        """Where it begins and ends."""
+        return max(zip(self.lives, self.lives[1:] + [len(self.lines)]), key=lambda life: life[1] - life[0])
 
     def with_lines(self, begin, end, *lines):
         """The text with other lines in the place of these."""
@@ -38,11 +52,11 @@ def last_digit_changed(word):
 
 def node_changes(journal):
     """For each change to a node's journal, the lines at which it can be made, and its text."""
-    words, early = journal.words, len(journal.lines) - 20
+    words = journal.words
     replies = [at for at in journal.places("hear") if words[at][2] != "none"]
     # A Log that came once: of others the next one would have been the first.
-    once = collections.Counter(words[at][1] for at in journal.places("hear"))
-    pairs = [at for at in journal.places("begin") if words[at + 1:at + 2] and words[at + 1][0] == "finish"]
+    times = collections.Counter(line[1] for line in words if line[0] == "hear")
+    pairs = [at for at in journal.places("begin") if words[at + 1][0] == "finish"]
 
     def busy(at):
         frame = words[at][2]
@@ -56,9 +70,8 @@ def node_changes(journal):
         "a reply changed": ([at for at in replies if kind(words[at][2]) == LOCKED], busy),
         "an answer changed": ([at for at in replies if kind(words[at][2]) == ANSWER],
                               lambda at: journal.with_words(at, "hear", words[at][1], last_digit_changed(words[at][2]))),
-        "a Log left out": ([at for at in replies if kind(words[at][1]) == LOG and once[words[at][1]] == 1 and at < early],
-                           journal.without),
-        "a finish left out": ([at for at in journal.places("finish") if at < early], journal.without),
+        "a Log left out": ([at for at in replies if kind(words[at][1]) == LOG and times[words[at][1]] == 1], journal.without),
+        "a finish left out": (journal.places("finish"), journal.without),
         "two lines exchanged": (pairs, exchanged),
         "an opening state changed": (journal.places("open"),
                                      lambda at: journal.with_words(at, *words[at][:2], last_digit_changed(words[at][2]), words[at][3])),
@@ -69,12 +82,9 @@ def client_changes(journal):
     """The same of a client's journal."""
     words = journal.words
     answers = [at for at in journal.places("turn") if len(words[at][1]) > 10 and kind(words[at][1]) == ANSWER]
-    # A reserve after which its life takes another command, which is refused then. The last one of a killed life may have done nothing.
-    steps = [at for at, line in enumerate(words) if line[0] in ("do", "scoop")]
-    followed = [at for at, after in zip(steps, steps[1:]) if words[at][:2] == ["do", "reserve"] and words[after][0] == "do"]
     return {
         "an answer changed": (answers, lambda at: journal.with_words(at, "turn", last_digit_changed(words[at][1]))),
-        "a reserve left out": (followed, journal.without),
+        "a reserve left out": (journal.places("do", "reserve"), journal.without),
         "a call left out": (journal.places("do", "call"), journal.without),
     }
 
@@ -82,12 +92,10 @@ def client_changes(journal):
 def changed(text, random):
     """Changed journals with the name of each change."""
     journal = Journal(text)
-    is_node = journal.words[0][3] == "node"
-    for name, (places, change) in (node_changes if is_node else client_changes)(journal).items():
+    changes = node_changes if journal.party == "node" else client_changes
+    for name, (places, change) in changes(journal).items():
         if places:
             yield name, change(random.choice(places))
-    lives = journal.places("scoop")
-    if len(lives) > 1:
-        # The longest life: one that did nothing isn't missed.
-        begin, end = max(zip(lives, lives[1:] + [len(journal.lines)]), key=lambda life: life[1] - life[0])
-        yield "a life left out", journal.with_lines(begin, end)
+    if len(journal.lives) > 1:
+        # One that did nothing isn't missed.
+        yield "a life left out", journal.with_lines(*journal.longest_life())

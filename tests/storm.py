@@ -286,10 +286,11 @@ class Storm:
         """The journals have an explanation, and no changed ones have."""
         journals = [party.journal for party in self.nodes + self.clients]
         ran = self.explain(journals)
-        print(ran.output + ran.notes, end="")
+        print(ran.output, end="")
         if ran.status != 0:
             self.errors.append(f"the audit doesn't explain the journals: {ran}")
             return
+        found = 0
         for place, path in enumerate(journals):
             with open(path, "rb") as file:
                 text = file.read()
@@ -297,9 +298,12 @@ class Storm:
                 with open(path + ".changed", "wb") as file:
                     file.write(lines)
                 ran = self.explain(journals[:place] + [path + ".changed"] + journals[place + 1:])
-                print(f"  {os.path.basename(path)}, {name}: {(ran.output + ran.notes).splitlines()[-1:]}")
+                print(f"{os.path.basename(path)}, {name}: {ran.output.strip() or ran.notes.strip()}")
+                found += ran.status in (1, 3)
                 if ran.status not in (1, 3):
                     self.errors.append(f"the audit of {path} doesn't find {name}: {ran}")
+        if found == 0:
+            self.errors.append("no journal was long enough for a change")
 
     def explain(self, journals):
         return run("audit", "--system", self.system.file("node", 1), *journals, patience=5 * PATIENCE)
