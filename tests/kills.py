@@ -9,7 +9,7 @@ from systems import SCOOP, TOP, Ran, System, run, same, test
 # A greeting, a lock, an opening, an unlock, a call that sets the cell to 5, a query, its repeat, and the end of the block.
 with open(os.path.join(TOP, "examples", "block.hex")) as _file:
     LINES = _file.read().splitlines(keepends=True)
-# What docs/PROTOCOL.md says to these: Welcome, Locked, Opened, Unlocked, Logged 1 and 2, Answer 2 with 5, and Logged 3.
+# The replies by docs/PROTOCOL.md: Welcome, Locked, Opened, Unlocked, Logged 1 and 2, Answer 2 with 5, and Logged 3.
 REPLIES = [
     "5351010200000001000000070000000100000000000000000000",
     "5351010400000001000000070000000100000001000000000000",

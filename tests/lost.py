@@ -9,7 +9,7 @@ from systems import Ran, System, holds, run, same, test
 BLOCK = "reserve 1\ncall 1 set 5\nquery 1 get\nend\n"
 BOTH = "reserve 1 2\ncall 1 set 5\ncall 2 set 5\nquery 1 get\nend\n"
 HINT = "was moved, replaced, deleted or cut while the store was open"
-# A node that ends by itself, after some 24 seconds without a datagram.
+# Such a node ends after some 24 seconds without a datagram.
 ENDS = ["--turns", "3000"]
 
 
@@ -199,7 +199,7 @@ def a_killed_nodes_damaged_log_is_refused():
         node.kill()
         log = system.store + "-wal"
         with open(log, "r+b") as file:
-            # All that is behind this place is rolled back.
+            # All after this place is rolled back.
             file.seek(os.path.getsize(log) // 3)
             file.write(b"\xff" * 8192)
         system.is_refused()

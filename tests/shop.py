@@ -4,7 +4,7 @@ import re
 
 from systems import SCOOP, TOP, Skipped, System, free_ports, holds, run, same, test, until
 
-# Where the runner has found or made the shop's programs.
+# The shop's programs, as the runner names them.
 SHOP_NODE, SHOP_CLIENT = (os.environ.get(name) for name in ("SHOP_NODE", "SHOP_CLIENT"))
 with open(os.path.join(TOP, "examples", "shop.toml")) as _file:
     TEXT = _file.read()

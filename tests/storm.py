@@ -67,7 +67,8 @@ class Node:
     def was_cut_off(self, party):
         """Whether it ended since no member of the etcd had answered in time."""
         is_so = self.storm.cluster is not None and party.process.returncode == 3 and "store: Unreachable" in party.notes()
-        self.storm.counts["cut off"] += is_so
+        if is_so:
+            self.storm.counts["cut off"] += 1
         return is_so
 
     def look(self):

@@ -18,7 +18,7 @@ TOP = os.path.dirname(os.path.dirname(os.path.abspath(__file__)))
 SCOOP = os.path.abspath(os.environ.get("SCOOP") or os.path.join(TOP, "scoop"))
 # Seconds after which a silent process has failed. Proofs may run beside the tests.
 PATIENCE = 120
-# Below the ports that the operating system chooses by itself.
+# The operating system itself chooses higher ports.
 PORTS = range(20000, 32000)
 
 TESTS = []
