@@ -9,6 +9,10 @@ FRONT = """.TH SCOOP 1 "{date}" "scoop {version}" "User Commands"
 scoop \\- {about}
 """
 ITEM = re.compile(r"^ {2,6}(?P<words>(?:-|<|\[)\S*(?: \S+)*)(?: {2,}(?P<help>.*))?$")
+# A table has its second column this far to the right. A line that begins with so many spaces has that alone.
+WIDTH = 24
+DEEP = " " * 10
+COLUMNS = re.compile(r"^( {2,6}\S(?:.*?\S)?) {2,}(\S.*)$")
 # The options that every command has.
 EVERY = ("-h, ", "-V, ")
 HEAD = re.compile(r"^(Usage|Commands|Arguments|Options):")
@@ -41,21 +45,36 @@ def parts_of(text):
     return parts
 
 
-def paragraphs(lines):
-    """Text as paragraphs, and indented lines as they stand."""
-    is_set, is_begun = False, False
-    for line in lines:
-        is_indented = line.startswith(" ")
-        if is_indented != is_set and line:
-            yield ".RS 2\n.nf" if is_indented else ".fi\n.RE"
-            is_set = is_indented
-        if line:
-            yield plain(line)
-        elif is_begun and not is_set:
+def paragraphs(text):
+    """Text as paragraphs, and its indented lines as tables."""
+    lines = text.strip().splitlines()
+    for place, line in enumerate(lines):
+        before = lines[place - 1] if place else ""
+        if not line:
             yield ".PP"
-        is_begun = True
-    if is_set:
-        yield ".fi\n.RE"
+        elif line.startswith(" "):
+            yield from row(line, lines[place + 1:place + 2])
+        else:
+            yield from ([".PP"] if before.startswith(" ") else [])
+            yield plain(line)
+
+
+def row(line, after):
+    """A line of a table: two columns, the first one alone, the second one alone, or neither."""
+    columns = COLUMNS.match(line)
+    if line.startswith(DEEP):
+        yield plain(line.strip())
+    elif columns:
+        yield f".TP {WIDTH}\n{tag(columns[1])}\n{plain(columns[2])}"
+    elif after and after[0].startswith(DEEP):
+        yield f".TP {WIDTH}\n{tag(line)}"
+    else:
+        yield f".nf\n{tag(line)}\n.fi"
+
+
+def tag(text):
+    """A first column, moved in as far as it stands."""
+    return "\\ " * (len(text) - len(text.lstrip()) - 2) + bold(text.strip())
 
 
 def items(lines):
@@ -82,7 +101,7 @@ def section(program, name):
     yield f".SS {bold('scoop ' + name)}"
     yield bold(parts["Usage"][0].strip())
     yield ".PP"
-    yield from paragraphs("\n".join(parts[""]).strip().splitlines())
+    yield from paragraphs("\n".join(parts[""]))
     for head in ("Arguments", "Options"):
         yield from tagged(item for item in items(parts.get(head, [])) if not item[0].startswith(EVERY))
 
