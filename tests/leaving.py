@@ -9,6 +9,8 @@ from systems import LOCK, LOG, OPEN, Relay, System, frame_of, holds, same, test,
 
 # Its lines name both handlers.
 BOTH = "reserve 1 2\nquery 1 balance\nquery 2 balance\nend\n"
+# Enough for a greeting on a loaded machine: some three seconds without a datagram.
+FEW_TURNS = ["--turns", "400"]
 
 
 class Losing:
@@ -67,17 +69,17 @@ def a_refused_line_of_a_strict_client_cuts_the_block():
 
 @test
 def turns_that_are_over_while_locking_give_the_block_up():
-    is_free_after("reserve 1 2\nend\n", 3, "--turns", "50", loses=(2, LOCK))
+    is_free_after("reserve 1 2\nend\n", 3, *FEW_TURNS, loses=(2, LOCK))
 
 
 @test
 def turns_that_are_over_while_opening_cut_the_block():
-    is_free_after("reserve 1 2\nend\n", 3, "--turns", "50", loses=(2, OPEN))
+    is_free_after("reserve 1 2\nend\n", 3, *FEW_TURNS, loses=(2, OPEN))
 
 
 @test
 def turns_that_are_over_while_logging_cut_the_block():
-    is_free_after("reserve 1 2\ncall 2 deposit 0\nend\n", 3, "--turns", "50", loses=(2, LOG))
+    is_free_after("reserve 1 2\ncall 2 deposit 0\nend\n", 3, *FEW_TURNS, loses=(2, LOG))
 
 
 @test
