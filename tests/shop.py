@@ -2,7 +2,7 @@
 import os
 import re
 
-from systems import SCOOP, TOP, Skipped, System, free_ports, holds, run, same, test, until
+from systems import SCOOP, TOP, Skipped, System, equal_to, free_ports, holds, local, run, same, table, test, until
 
 # The shop's programs, as the runner names them.
 SHOP_NODE, SHOP_CLIENT = (os.environ.get(name) for name in ("SHOP_NODE", "SHOP_CLIENT"))
@@ -11,16 +11,18 @@ with open(os.path.join(TOP, "examples", "shop.toml")) as _file:
 
 
 class Shop(System):
-    """The shelf, which is node 1 and has an object of its own, the till, which is node 2, and the buyer. All write journals."""
+    """The shelf, which is node 1 and has an object of its own, the till, which is node 2, the buyer, which is client 7, and a client 8.
+    All write journals."""
 
     def __init__(self):
         if not (SHOP_NODE and SHOP_CLIENT):
             raise Skipped("the shop's programs aren't compiled: `./test shop` does that")
         super().__init__({}, {})
         ports = dict(zip(("47301", "47302", "47307"), free_ports(3)))
-        self.toml = self.write("shop.toml", re.sub("|".join(ports), lambda port: str(ports[port.group()]), TEXT))
+        text = re.sub("|".join(ports), lambda port: str(ports[port.group()]), TEXT)
+        other, self.statuses[1] = free_ports(2)
+        self.toml = self.write("shop.toml", text + table("client", number=8, address=local(other)))
         self.make_key()
-        self.status = free_ports(1)[0]
         self.running = {}
 
     def options(self, name, number):
@@ -31,7 +33,7 @@ class Shop(System):
     def serve(self, name):
         """Starts the shelf or the till."""
         if name == "shelf":
-            words = [SHOP_NODE, *self.options(name, 1), "--status", f"127.0.0.1:{self.status}"]
+            words = [SHOP_NODE, *self.options(name, 1), "--status", local(self.statuses[1])]
         else:
             words = [SCOOP, "node", *self.options(name, 2)]
         self.running[name] = self.begin(words)
@@ -57,24 +59,26 @@ def a_shop_sells_what_it_has_through_kills_of_its_shelf_and_its_buyer():
         shop.running["shelf"].kill()
         shop.serve("shelf")
         shop.buys("bought\n")
-        # While the till is down the buyer locks the shelf and waits. There it is killed.
-        shop.running["till"].kill()
+        # While client 8 has a block at the shelf, the buyer waits for its answer. There it is killed.
+        other = shop.begin([SCOOP, "client", *shop.options("other", 8)])
+        other.ask("reserve shelf", "reserved 8.1.1")
         buyer = shop.begin([SHOP_CLIENT, *shop.options("buyer", 7)])
-        shop.statuses[1] = shop.status
-        until("the buyer has locked the shelf", lambda: shop.shown(1)["handlers"][0]["holder"])
+        until("the buyer's block waits at the shelf", lambda: [it["block"] for it in shop.shown(1)["handlers"][0]["queues"]],
+              equal_to(["8.1.1", "7.3.1"]))
         buyer.kill()
-        shop.serve("till")
         shop.buys("cut client 7 at handlers 1 2\n", "--cut")
+        same("the end of client 8", other.end("end\n").result, (0, "ended\n"))
         # The shelf had 10, and each purchase takes 3.
         shop.buys("bought\n")
         shop.buys("sold out\n")
         for party in shop.running.values():
             party.kill()
-        journals = [shop.path(f"{name}.journal") for name in ("shelf", "till", "buyer")]
+        journals = [shop.path(f"{name}.journal") for name in ("shelf", "till", "buyer", "other")]
         audit = run("audit", "--system", shop.toml, "--blocks", *journals)
         same("the audit's status and notes", (audit.status, audit.notes), (0, ""))
-        ends = re.findall(r"^block 7\.\d+\.1 handlers 1 2: .*, (\w+)$", audit.output, re.M)
-        same("the ends of the buyer's blocks", ends, ["ended"] * 4)
+        ends = dict(re.findall(r"^block (7\.\d+\.1) handlers 1 2: .*, (\w+)$", audit.output, re.M))
+        wanted = {"7.1.1": "ended", "7.2.1": "ended", "7.3.1": "cut", "7.5.1": "ended", "7.6.1": "ended"}
+        same("the ends of the buyer's blocks", ends, wanted)
 
 
 @test
