@@ -27,23 +27,35 @@ def answering(system, how, store):
 
 
 def goes_on(store, lines):
-    """The lines that had no answer, over the store of a killed run; over a new one, if the kill came before there was a store."""
-    text = "".join(lines)
-    ran = run("answer", "--store", store, "--words", text=text)
-    return ran if ran.status == 0 or len(lines) < len(LINES) else run("answer", "--new", store, "--words", text=text)
+    """The lines that had no answer, over the store of a killed run."""
+    return run("answer", "--store", store, "--words", text="".join(lines))
+
+
+def begins(store):
+    """All lines, over what a run left that was killed before its first answer: a store, a file that --new takes, or one that neither
+    option takes, which is removed, as the documents say."""
+    for how in ("--store", "--new"):
+        ran = run("answer", how, store, "--words", text="".join(LINES))
+        if ran.status == 0:
+            return ran
+        same("the status and output of a refusal", ran.result, (3, ""))
+    for end in ("", "-wal"):
+        if os.path.exists(store + end):
+            os.remove(store + end)
+    return run("answer", "--new", store, "--words", text="".join(LINES))
 
 
 @test
 def a_kill_after_each_answer_changes_nothing():
     with System({1: (1, "cell", [0])}, {}) as system:
         for k in range(len(LINES) + 1):
-            for pause in (0, 0.05):
+            for pause in (0, 0.02, 0.05) if k else (0, 0.005, 0.01, 0.02, 0.05, 0.1):
                 store = system.path(f"killed-{k}-{pause}")
                 answer = answering(system, "--new", store)
                 got = [answer.ask(line.strip()) for line in LINES[:k]]
                 time.sleep(pause)
                 answer.kill()
-                ran = goes_on(store, LINES[k:])
+                ran = goes_on(store, LINES[k:]) if k else begins(store)
                 same(f"replies and words with a kill after {k} answers", got + ran.output.splitlines(), REPLIES + ["words 5"])
 
 
