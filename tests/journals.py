@@ -3,9 +3,8 @@ import collections
 
 from systems import ANSWER, BUSY, LOCKED, LOG
 
-
-# How far before the end of a life a line is changed. The last ones may have had no effect: what a killed node wrote may not be
-# stored, and what a killed client logged may not be sent. At most 64 heard messages share a commit.
+# How far before the end of a life a line is changed, empty polls aside. The last ones may have had no effect: what a killed node
+# wrote may not be stored, and what a killed client logged may not be sent. At most 64 heard messages share a commit.
 TAIL = {"node": 250, "client": 30}
 
 
@@ -16,18 +15,20 @@ class Journal:
         self.lines = text.decode().splitlines()
         self.words = [line.split() for line in self.lines]
         self.party = self.words[0][3]
-        self.lives = [at for at, line in enumerate(self.words) if line[0] == "scoop"]
+        starts = [at for at, line in enumerate(self.words) if line[0] == "scoop"]
+        self.lives = list(zip(starts, starts[1:] + [len(self.lines)]))
 
     def places(self, *words):
         """The lines that begin with these words, and have had an effect."""
-        tail, found, ends = TAIL[self.party], [], self.lives[1:] + [len(self.lines)]
-        for begin, end in zip(self.lives, ends):
-            found += [at for at in range(begin, end - tail) if tuple(self.words[at][:len(words)]) == words]
+        found = []
+        for begin, end in self.lives:
+            lines = [at for at in range(begin, end) if self.words[at] != ["turn", "none"]]
+            found += [at for at in lines[:-TAIL[self.party]] if tuple(self.words[at][:len(words)]) == words]
         return found
 
-    def longest_life(self):
-        """Where it begins and ends."""
-        return max(zip(self.lives, self.lives[1:] + [len(self.lines)]), key=lambda life: life[1] - life[0])
+    def busiest_life(self):
+        """How many entries have run or commands were taken in the life that did most, and where it begins and ends."""
+        return max((sum(self.words[at][0] in ("finish", "do") for at in range(begin, end)), begin, end) for begin, end in self.lives)
 
     def with_lines(self, begin, end, *lines):
         """The text with other lines in the place of these."""
@@ -96,6 +97,7 @@ def changed(text, random):
     for name, (places, change) in changes(journal).items():
         if places:
             yield name, change(random.choice(places))
-    if len(journal.lives) > 1:
-        # One that did nothing isn't missed.
-        yield "a life left out", journal.with_lines(*journal.longest_life())
+    deeds, begin, end = journal.busiest_life()
+    # One that did nothing isn't missed, and a journal has at least one life.
+    if deeds >= 5 and len(journal.lives) > 1:
+        yield "a life left out", journal.with_lines(begin, end)
