@@ -98,6 +98,6 @@ def changed(text, random):
         if places:
             yield name, change(random.choice(places))
     deeds, begin, end = journal.busiest_life()
-    # One that did nothing isn't missed, and a journal has at least one life.
+    # A life that did nothing isn't missed, and a file without a life is no journal.
     if deeds >= 5 and len(journal.lives) > 1:
         yield "a life left out", journal.with_lines(begin, end)
