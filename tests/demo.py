@@ -10,7 +10,7 @@ CLOSED = "cells same\nnode 1 closed\nnode 2 closed\n"
 
 def demo(*options, program=None):
     """Runs the demo. Its ports are fixed, so one runs at a time, and it is tried again while another program has one of them."""
-    lock = until("no other test runs the demo", lambda: locked("scoop-demo"), patience=4 * PATIENCE)
+    lock = until("no other test runs the demo", lambda: locked("scoop-demo"), patience=2 * PATIENCE)
     try:
         end = time.monotonic() + PATIENCE
         while True:

@@ -170,7 +170,8 @@ class Client(threading.Thread):
 
     def asks(self, lines):
         """A life of these lines alone, which cuts the block of a killed one. Returns its answers."""
-        ran = self.storm.system.asks(self.number, lines, *self.options, *self.storm.store(True))
+        # Over an etcd on a loaded disk each commit may take seconds.
+        ran = self.storm.system.asks(self.number, lines, *self.options, *self.storm.store(True), patience=2 * PATIENCE)
         if ran.status != 0:
             raise AssertionError(f"client {self.number}: {ran}")
         return [line.split()[1] for line in ran.output.splitlines() if line.startswith("answer ")]
@@ -307,7 +308,7 @@ class Storm:
             self.errors.append("no journal was long enough for a change")
 
     def explain(self, journals):
-        return run("audit", "--system", self.system.file("node", 1), *journals, patience=5 * PATIENCE)
+        return run("audit", "--system", self.system.file("node", 1), *journals, patience=2 * PATIENCE)
 
 
 @test

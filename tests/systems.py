@@ -17,7 +17,7 @@ TOP = os.path.dirname(os.path.dirname(os.path.abspath(__file__)))
 # The program that is tested.
 SCOOP = os.path.abspath(os.environ.get("SCOOP") or os.path.join(TOP, "scoop"))
 # Seconds after which a silent process has failed. Proofs may run beside the tests.
-PATIENCE = 120
+PATIENCE = 240
 # The operating system itself chooses higher ports.
 PORTS = range(20000, 32000)
 
@@ -313,9 +313,9 @@ class System:
         """A client that takes lines."""
         return self.begin(self.words("client", number, options, file), **more)
 
-    def asks(self, number, lines, *options, file=None):
+    def asks(self, number, lines, *options, file=None, patience=PATIENCE):
         """Runs a client to its end."""
-        return run(*self.words("client", number, options, file)[1:], text=lines)
+        return run(*self.words("client", number, options, file)[1:], text=lines, patience=patience)
 
     def shown(self, number):
         """What a node's status shows, as JSON has it."""
