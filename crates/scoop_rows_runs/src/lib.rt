@@ -21,11 +21,11 @@ use framing::Framing;
 use handlers::Handlers;
 use long::Long;
 use scoop_refusing::Refusing;
-use scoop_row_player::{Areas, Bad, Case, Heap, Sheet, play_rows};
+use scoop_row_player::{Areas, Bad, Case, Heap, Sheet, Subject, play_rows};
 use scripts::Scripts;
 use worlds::Worlds;
 
-/// The areas `answers`, `charts`, `clients`, `framing`, `handlers`, `limits`, `long`, `scripts` and `worlds`.
+/// The areas `answers`, `charts`, `clients`, `commands`, `framing`, `handlers`, `limits`, `long`, `scripts` and `worlds`.
 #[derive(Clone, Copy)]
 pub struct Runs;
 
@@ -39,24 +39,34 @@ impl Areas for Runs {
     ) -> Result<bool, Bad> {
         let alloc = sheet.alloc();
         match area {
-            "answers" => play_rows(case, heap, &mut Answers::new(alloc), sheet)?,
-            "charts" => play_rows(case, heap, &mut Charts::new(alloc)?, sheet)?,
-            "clients" => play_rows(case, heap, &mut Clients::new(alloc, heap), sheet)?,
-            "framing" => play_rows(case, heap, &mut Framing::new(alloc), sheet)?,
-            "handlers" => play_rows(case, heap, &mut Handlers::new(alloc, heap), sheet)?,
+            "answers" => played(case, heap, Answers::new(alloc), sheet)?,
+            "charts" => played(case, heap, Charts::new(alloc)?, sheet)?,
+            "clients" => played(case, heap, Clients::new(alloc, heap), sheet)?,
+            "framing" => played(case, heap, Framing::new(alloc), sheet)?,
+            "handlers" => played(case, heap, Handlers::new(alloc, heap), sheet)?,
             // without refused growths, each of which would play the whole case again
             "limits" => {
                 let own = Refusing::new(alloc, 0);
-                play_rows(case, heap, &mut Handlers::new(alloc, &own), sheet)?;
+                played(case, heap, Handlers::new(alloc, &own), sheet)?;
             }
             "long" => {
                 let own = Refusing::new(alloc, 0);
-                play_rows(case, heap, &mut Long::new(alloc, &own), sheet)?;
+                played(case, heap, Long::new(alloc, &own), sheet)?;
             }
-            "scripts" => play_rows(case, heap, &mut Scripts::new(alloc), sheet)?,
-            "worlds" => play_rows(case, heap, &mut Worlds::new(alloc, heap), sheet)?,
+            "scripts" => played(case, heap, Scripts::new(alloc), sheet)?,
+            "worlds" => played(case, heap, Worlds::new(alloc, heap), sheet)?,
             _ => return Ok(false),
         }
         Ok(true)
     }
+}
+
+// Plays the rows of a case with a subject of its own.
+fn played<S: Subject + Drop>(
+    case: Case<'_>,
+    heap: Heap<'_>,
+    mut subject: S,
+    sheet: &mut Sheet,
+) -> Result<(), Bad> {
+    play_rows(case, heap, &mut subject, sheet)
 }

@@ -114,12 +114,17 @@ impl Parties {
     pub fn add(&mut self, line: &[u8]) -> Result<(), Bad> {
         match line_kind(line) {
             Some((LineKind::Client, words)) => {
-                let joining = read_client(words).map_err(|_| Bad::Words)?;
-                self.clients.push(joining)?;
+                let (client, batch) = match read_client(words) {
+                    Ok(joining) => joining,
+                    Err(_) => return Err(Bad::Words),
+                };
+                self.clients.push((client, batch))?;
             }
             Some((LineKind::Handler, words)) => {
                 let alloc = *self.placements.allocator();
-                let placed = read_placement(alloc, words).map_err(|_| Bad::Words)?;
+                let Ok(placed) = read_placement(alloc, words) else {
+                    return Err(Bad::Words);
+                };
                 self.placements.push(placement(placed)?)?;
             }
             _ => {}

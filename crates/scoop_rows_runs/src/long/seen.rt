@@ -46,12 +46,13 @@ impl Seen {
 // Adds the words of a line that begin with a letter.
 fn add_words(text: &[u8], line: &mut Vec<u8>) -> Result<(), Bad> {
     for word in text.split(|byte| *byte == b' ' || *byte == b'\n') {
-        if word.first().is_some_and(|byte| byte.is_ascii_alphabetic()) {
-            if !line.is_empty() {
-                line.push(b' ')?;
-            }
-            line.extend_from_slice(word)?;
+        let [b'A'..=b'Z' | b'a'..=b'z', ..] = word else {
+            continue;
+        };
+        if !line.is_empty() {
+            line.push(b' ')?;
         }
+        line.extend_from_slice(word)?;
     }
     Ok(())
 }

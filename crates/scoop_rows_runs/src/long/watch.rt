@@ -3,7 +3,7 @@
 mod party;
 mod site;
 
-use super::{CLIENTS, HANDLERS};
+use super::{ACCOUNT, CELL, CLIENTS, COUNTER};
 use party::Party;
 use scoop_message::{Block, HandlerId, Message};
 use scoop_object::Table;
@@ -75,8 +75,17 @@ impl Watch {
         Watch {
             alloc,
             joint: Vec::new(alloc),
-            sites: HANDLERS.map(|handler| Site::new(alloc, handler)),
-            parties: CLIENTS.map(|client| Party::new(alloc, client)),
+            sites: [
+                Site::new(alloc, CELL),
+                Site::new(alloc, COUNTER),
+                Site::new(alloc, ACCOUNT),
+            ],
+            parties: [
+                Party::new(alloc, CLIENTS[0]),
+                Party::new(alloc, CLIENTS[1]),
+                Party::new(alloc, CLIENTS[2]),
+                Party::new(alloc, CLIENTS[3]),
+            ],
             sent: 0,
         }
     }
