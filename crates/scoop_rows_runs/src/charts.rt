@@ -111,7 +111,11 @@ fn begin(chart: &mut Chart) -> Result<(), ChartError> {
         inc: 1,
         num: 1,
     };
-    chart.note(&Event::Begin(ONE), &Ok(WorldNote::Began(block, 1)), b"")
+    chart.note(
+        &Event::Begin(ONE),
+        &Ok(WorldNote::Began(block, 1)),
+        b"began 7.1.1 1",
+    )
 }
 
 fn pays(transfer: &mut Transfer, paid: u64, answer: &mut Vec<u8>) -> Result<(), Bad> {

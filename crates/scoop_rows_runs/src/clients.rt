@@ -88,7 +88,7 @@ impl Subject for Clients<'_> {
                 tells("ok", answer)
             }
             b"phase" | b"block" | b"handlers" => asks(client, name, answer),
-            _ => told(client.carry_out(&command_of(command)?), answer),
+            _ => carries_out(client, command, answer),
         }
     }
 
@@ -142,6 +142,17 @@ fn command_of(line: &[u8]) -> Result<Command, Bad> {
     match read_event(kind, words) {
         Ok(EventLine::One(Event::Do(_, command))) => Ok(command),
         _ => Err(Bad::Words),
+    }
+}
+
+fn carries_out(
+    client: &mut Client<Heap<'_>>,
+    line: &[u8],
+    answer: &mut Vec<u8>,
+) -> Result<(), Bad> {
+    match command_of(line) {
+        Ok(command) => told(client.carry_out(&command), answer),
+        Err(bad) => Err(bad),
     }
 }
 

@@ -15,7 +15,7 @@ use crate::states::{Parts, shows_state};
 use crate::telling::{message_of, tells, tells_message, tells_note};
 use scoop_handler::{Done, Handler, HandlerState, Job, Ran, StrangerJob};
 use scoop_lines::next_word;
-use scoop_message::{HandlerId, Message};
+use scoop_message::{Entry, HandlerId, Message, Request};
 use scoop_object::{Class, Table};
 use scoop_row_player::words::first;
 use scoop_row_player::{Bad, Heap, Subject};
@@ -72,7 +72,14 @@ impl<'a> Handlers<'a> {
         blank(self.class.as_ref().ok_or(Bad::Command)?)
     }
 
+    fn new_object(&self) -> Result<Table, Bad> {
+        let (_class, object) = self.blank()?;
+        Ok(object)
+    }
+
     fn is_told(&mut self, name: &[u8], line: &[u8], answer: &mut Vec<u8>) -> Result<(), Bad> {
+        // Names types that are held here, which the prover has to know.
+        let _held: Option<(Entry, Request)> = None;
         let handler = self.handler.as_mut().ok_or(Bad::Command)?;
         match name {
             b"hear" => {
@@ -142,9 +149,10 @@ impl<'a> Handlers<'a> {
     }
 
     fn recalls(&mut self, state: HandlerState<Heap<'a>>, answer: &mut Vec<u8>) -> Result<(), Bad> {
+        let _held: Option<(Entry, Request)> = None;
         let object = match self.job.take() {
             Some(job) => job.into_object(),
-            None => self.blank()?.1,
+            None => self.new_object()?,
         };
         let handler = self.handler.as_mut().ok_or(Bad::Command)?;
         is_taken(handler.recall(object, state).is_ok(), answer)

@@ -4,6 +4,7 @@
 mod answers;
 mod charts;
 mod clients;
+mod commands;
 mod framing;
 mod handlers;
 mod long;
@@ -17,6 +18,7 @@ mod worlds;
 use answers::Answers;
 use charts::Charts;
 use clients::Clients;
+use commands::Commands;
 use framing::Framing;
 use handlers::Handlers;
 use long::Long;
@@ -42,6 +44,7 @@ impl Areas for Runs {
             "answers" => played(case, heap, Answers::new(alloc), sheet)?,
             "charts" => played(case, heap, Charts::new(alloc)?, sheet)?,
             "clients" => played(case, heap, Clients::new(alloc, heap), sheet)?,
+            "commands" => played(case, heap, Commands::new(alloc), sheet)?,
             "framing" => played(case, heap, Framing::new(alloc), sheet)?,
             "handlers" => played(case, heap, Handlers::new(alloc, heap), sheet)?,
             // without refused growths, each of which would play the whole case again

@@ -84,7 +84,9 @@ impl<'a> Long<'a> {
         for line in PARTIES {
             parties.add(line.as_bytes())?;
         }
-        let keeper = MemoryKeeper::new(self.heap).with_incarnation(OLD, u32::MAX - 4)?;
+        let Ok(keeper) = MemoryKeeper::new(self.heap).with_incarnation(OLD, u32::MAX - 4) else {
+            return Err(Bad::Memory);
+        };
         match parties.open(self.heap, keeper) {
             Ok(world) => {
                 self.world = Some(world);
@@ -117,10 +119,11 @@ impl<'a> Long<'a> {
         let refused = without && self.heap.has_refused();
         self.heap.refuse(0);
         self.seen.add(told)?;
-        if let (Event::Take(place), Ok(WorldNote::Client(note))) = (event, told) {
-            if let Some(message) = world.sent(place) {
-                self.rule.hears(message.client(), note);
-            }
+        if let Event::Take(place) = event
+            && let Ok(WorldNote::Client(note)) = told
+            && let Some(message) = world.sent(place)
+        {
+            self.rule.hears(message.client(), note);
         }
         self.last = Some((event, told));
         let looks = self.count % 100 == 99;

@@ -100,7 +100,10 @@ impl Scripts {
         if self.last == 0 {
             return Ok(keeper);
         }
-        Ok(keeper.with_incarnation(ClientId(7), self.last)?)
+        match keeper.with_incarnation(ClientId(7), self.last) {
+            Ok(keeper) => Ok(keeper),
+            Err(_) => Err(Bad::Memory),
+        }
     }
 
     // Plays the script from its beginning. Returns its end.

@@ -59,7 +59,10 @@ impl<'a> Worlds<'a> {
     }
 
     fn steps(&mut self, line: &[u8], answer: &mut Vec<u8>) -> Result<(), Bad> {
-        let event = event_of(line)?;
+        let event = match event_of(line) {
+            Ok(event) => event,
+            Err(bad) => return Err(bad),
+        };
         let world = self.world.as_mut().ok_or(Bad::Command)?;
         match stepped(world, event) {
             Ok(WorldNote::Sent(place)) => {
