@@ -51,12 +51,12 @@ impl<'a> Clients<'a> {
     fn begins(&mut self, name: &[u8], line: &[u8], answer: &mut Vec<u8>) -> Result<(), Bad> {
         let (word, line) = first(line)?;
         let handlers = handlers_of(self.alloc, line)?;
-        let begun = match name {
+        let made = match name {
             b"begin" => begun(self.heap, number(word)?, handlers.as_slice())?,
             b"begin_at" => Client::begin_at(self.heap, SEVEN, 1, &handlers, number(word)?),
             _ => begun_batched(self.heap, number(word)?, handlers.as_slice())?,
         };
-        match begun {
+        match made {
             Ok(client) => {
                 self.client = Some(client);
                 tells("ok", answer)

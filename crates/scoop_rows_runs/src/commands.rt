@@ -31,8 +31,8 @@ impl Commands {
             words.push(word)?;
         }
         let names = DemoClass::names();
-        let command = command(alloc, &names).map_err(|_| Bad::Memory)?;
-        match command.try_get_matches_from(words.as_slice()) {
+        let program = command(alloc, &names).map_err(|_| Bad::Memory)?;
+        match program.try_get_matches_from(words.as_slice()) {
             Ok(_) => tells("it runs", answer),
             Err(error) => {
                 self.text = format!(in alloc; "{error}")?;
