@@ -67,6 +67,18 @@ pub(crate) fn counted(word: &[u8]) -> Result<(u64, &[u8]), Bad> {
     }
 }
 
+/// Pushes a value this number of times.
+pub(crate) fn push_times<T: Copy + Drop>(
+    list: &mut Vec<T>,
+    value: &T,
+    count: u64,
+) -> Result<(), Bad> {
+    for _ in 0..count {
+        list.push(*value)?;
+    }
+    Ok(())
+}
+
 fn read_digits(digits: &[u8], bytes: &mut Vec<u8>) -> Result<(), Bad> {
     for pair in digits.chunks(2) {
         let [byte] = <[u8; 1] as FromHex>::from_hex(pair).map_err(|_| Bad::Number)?;
@@ -75,16 +87,28 @@ fn read_digits(digits: &[u8], bytes: &mut Vec<u8>) -> Result<(), Bad> {
     Ok(())
 }
 
+/// The words of a line.
+pub(crate) fn words_in(alloc: Global, line: &[u8]) -> Result<Vec<&[u8]>, Bad> {
+    let mut words = Vec::new(alloc);
+    let mut rest = line;
+    for _ in 0..line.len() {
+        let Some((word, behind)) = next_word(rest) else {
+            break;
+        };
+        words.push(word)?;
+        rest = behind;
+    }
+    Ok(words)
+}
+
 /// The bytes that the words of a line write.
 pub(crate) fn read_bytes(alloc: Global, line: &[u8]) -> Result<Vec<u8>, Bad> {
     let mut bytes = Vec::new(alloc);
-    let mut rest = line;
-    while let Some((word, behind)) = next_word(rest) {
-        let (count, digits) = counted(word)?;
+    for word in words_in(alloc, line)?.as_slice() {
+        let (count, digits) = counted(*word)?;
         for _ in 0..count {
             read_digits(digits, &mut bytes)?;
         }
-        rest = behind;
     }
     Ok(bytes)
 }

@@ -3,8 +3,8 @@
 //! A term is a number, `w0` for a word or `a0` for an argument. `-` stands for no test and no writes, and a comma stands
 //! between writes. `N*ROW` stands for N such rows.
 
-use crate::bytes::{counted, parted};
-use scoop_lines::{decimal, decimal_u16, decimal_u32, is, next_word};
+use crate::bytes::{counted, parted, push_times, words_in};
+use scoop_lines::{decimal, decimal_u16, decimal_u32, is};
 use scoop_object::{OpRow, Term, TooManyWrites, Write, Writes};
 use scoop_row_player::Bad;
 use std::alloc::Global;
@@ -98,14 +98,9 @@ fn row(alloc: Global, word: &[u8]) -> Result<OpRow, NoRows> {
 /// The rows that the words of a line write.
 pub(crate) fn rows(alloc: Global, line: &[u8]) -> Result<Vec<OpRow>, NoRows> {
     let mut rows = Vec::new(alloc);
-    let mut rest = line;
-    while let Some((word, behind)) = next_word(rest) {
-        let (count, word) = counted(word)?;
-        let row = row(alloc, word)?;
-        for _ in 0..count {
-            rows.push(row).map_err(|_| Bad::Memory)?;
-        }
-        rest = behind;
+    for word in words_in(alloc, line)?.as_slice() {
+        let (count, word) = counted(*word)?;
+        push_times(&mut rows, &row(alloc, word)?, count)?;
     }
     Ok(rows)
 }

@@ -1,22 +1,20 @@
-//! Rows about the words of lines, the numbers that they write, and the reads of an input.
+//! Rows about the words of lines, and the numbers that they write.
 //!
-//! - `words LINE` answers the number of words and each of them, after bars.
-//! - `one LINE` and `two LINE` answer its one word or its two words, or `none`.
+//! - `words LINE` answers the number of words, and each of them after a bar.
+//! - `one LINE` and `two LINE` answer its one word or its two words, with a bar between them, or `none`.
 //! - `blank LINE` answers whether it is skipped.
 //! - `numbers WORD` answers the number below 2^64, 2^32 and 2^16 that it writes, and whether it has digits alone.
-//! - `reads N` answers whether an empty input, whose first N reads are interrupted, has a line.
 //!
 //! In a line `\n`, `\r` and `\t` stand for these bytes.
 
 use crate::bytes::{put_text, read_text, tells, tells_found};
 use scoop_lines::{
-    LineBytes, Lines, count_words, decimal, decimal_u16, decimal_u32, is_blank, is_decimal,
-    next_word, one_word, two_words,
+    count_words, decimal, decimal_u16, decimal_u32, is_blank, is_decimal, next_word, one_word,
+    two_words,
 };
-use scoop_row_player::words::{first, last, number};
+use scoop_row_player::words::first;
 use scoop_row_player::{Bad, Subject};
-use std::io;
-use std::io::{ErrorKind, Read, Write};
+use std::io::Write;
 
 /// Words have no state.
 #[derive(Drop)]
@@ -29,11 +27,10 @@ impl Subject for LineWords {
         let line = text.as_slice();
         match name {
             b"words" => splits(line, answer),
-            b"one" => puts_words([one_word(line), None], answer),
+            b"one" => puts_one(line, answer),
             b"two" => puts_two(line, answer),
             b"blank" => tells(is_blank(line), answer),
             b"numbers" => puts_numbers(line, answer),
-            b"reads" => reads(number(last(line)?)?, answer),
             _ => Err(Bad::Command),
         }
     }
@@ -46,7 +43,10 @@ impl Subject for LineWords {
 fn splits(line: &[u8], answer: &mut Vec<u8>) -> Result<(), Bad> {
     tells(count_words(line), answer)?;
     let mut rest = line;
-    while let Some((word, behind)) = next_word(rest) {
+    for _ in 0..line.len() {
+        let Some((word, behind)) = next_word(rest) else {
+            break;
+        };
         answer.push(b'|')?;
         put_text(word, answer)?;
         rest = behind;
@@ -54,22 +54,20 @@ fn splits(line: &[u8], answer: &mut Vec<u8>) -> Result<(), Bad> {
     Ok(())
 }
 
-fn puts_two(line: &[u8], answer: &mut Vec<u8>) -> Result<(), Bad> {
-    match two_words(line) {
-        Some((first, second)) => puts_words([Some(first), Some(second)], answer),
-        None => puts_words([None, None], answer),
+fn puts_one(line: &[u8], answer: &mut Vec<u8>) -> Result<(), Bad> {
+    match one_word(line) {
+        Some(word) => put_text(word, answer),
+        None => tells("none", answer),
     }
 }
 
-fn puts_words(words: [Option<&[u8]>; 2], answer: &mut Vec<u8>) -> Result<(), Bad> {
-    if words[0].is_none() {
+fn puts_two(line: &[u8], answer: &mut Vec<u8>) -> Result<(), Bad> {
+    let Some((first, second)) = two_words(line) else {
         return tells("none", answer);
-    }
-    for word in words.iter().flatten() {
-        answer.push(b'|')?;
-        put_text(*word, answer)?;
-    }
-    Ok(())
+    };
+    put_text(first, answer)?;
+    answer.push(b'|')?;
+    put_text(second, answer)
 }
 
 fn puts_numbers(word: &[u8], answer: &mut Vec<u8>) -> Result<(), Bad> {
@@ -80,31 +78,4 @@ fn puts_numbers(word: &[u8], answer: &mut Vec<u8>) -> Result<(), Bad> {
     tells_found(decimal_u16(word), answer)?;
     write!(answer, " {}", is_decimal(word))?;
     Ok(())
-}
-
-// An empty input whose first reads are interrupted.
-#[derive(Drop)]
-struct Interrupted {
-    left: u32,
-}
-
-impl Read for Interrupted {
-    fn read(&mut self, _buf: &mut [u8]) -> io::Result<usize> {
-        if self.left == 0 {
-            return Ok(0);
-        }
-        self.left -= 1;
-        Err(io::Error::from(ErrorKind::Interrupted))
-    }
-}
-
-fn reads(interrupted: u32, answer: &mut Vec<u8>) -> Result<(), Bad> {
-    let mut lines = Lines::new(Interrupted { left: interrupted });
-    match lines.next_line(&mut LineBytes::new(), &mut io::sink()) {
-        Ok(found) => tells(found, answer),
-        Err(error) => {
-            write!(answer, "{error:?}")?;
-            Ok(())
-        }
-    }
 }

@@ -20,7 +20,7 @@
 //! - `sent I`, `count`, `to_come` and `inner_faults` ask the tape, `refused` the count of a layer.
 //! - `changed H` counts a state of handler H. `put H` stores one through the keeper that counts; `stored H` asks it.
 
-use crate::bytes::{put_bytes, read_bytes, take_number, take_size, tells, told};
+use crate::bytes::{put_bytes, read_bytes, take_number, take_size, tells, told, words_in};
 use crate::layers::{End, Layers, Steps, Tape, tape_of};
 use crate::seals::system_key;
 use scoop_admission::{AdmittingLink, BudgetLink, NoReport};
@@ -95,46 +95,46 @@ impl<'a> Links<'a> {
     // Makes the layers of a name over a new tape.
     fn layers(&self, alloc: Global, name: &[u8], line: &[u8]) -> Result<Layers<'a>, NoLink> {
         let (room, line) = take_size(line)?;
-        let tape = self.tape(room)?;
         match name {
-            b"tape" => Ok(Layers::Tape(tape)),
-            b"holding" => Ok(Layers::Holding(HoldingLink::new(alloc, tape, true))),
-            b"passing" => Ok(Layers::Holding(HoldingLink::new(alloc, tape, false))),
-            b"sealed" => Ok(Layers::Sealed(SealedLink::new(tape, system_key(alloc, line)?))),
+            b"tape" => Ok(Layers::Tape(self.tape(room)?)),
+            b"holding" => Ok(Layers::Holding(HoldingLink::new(alloc, self.tape(room)?, true))),
+            b"passing" => Ok(Layers::Holding(HoldingLink::new(alloc, self.tape(room)?, false))),
+            b"sealed" => {
+                let key = system_key(alloc, line)?;
+                Ok(Layers::Sealed(SealedLink::new(self.tape(room)?, key)))
+            }
             b"recalling" => Ok(Layers::Recalling(RecallingLink::new(
                 self.heap,
-                tape,
+                self.tape(room)?,
                 self.changes,
             )?)),
-            b"paced" => {
-                let (parties, line) = take_size(line)?;
-                let (repeats, _) = take_number(line)?;
-                Ok(Layers::Paced(PacedLink::new(self.heap, tape, parties, repeats)?))
+            b"admitting" => {
+                let clients = clients(alloc, line)?;
+                Ok(Layers::Admitting(AdmittingLink::new(self.tape(room)?, clients, NoReport)))
             }
-            b"admitting" => Ok(Layers::Admitting(AdmittingLink::new(
-                tape,
-                clients(alloc, line)?,
-                NoReport,
-            ))),
-            _ => self.clocked(alloc, name, line, tape),
+            b"paced" => {
+                let (parties, repeats) = read_pace(line)?;
+                Ok(Layers::Paced(PacedLink::new(self.heap, self.tape(room)?, parties, repeats)?))
+            }
+            b"budget" => self.budget(alloc, room, line),
+            b"measured" => self.measured(room, line),
+            _ => Err(NoLink::Bad(Bad::Command)),
         }
     }
 
-    // The layers that have a clock.
-    fn clocked(
-        &self,
-        alloc: Global,
-        name: &[u8],
-        line: &[u8],
-        tape: Tape<'a>,
-    ) -> Result<Layers<'a>, NoLink> {
+    fn budget(&self, alloc: Global, room: usize, line: &[u8]) -> Result<Layers<'a>, NoLink> {
         let (step, line) = take_number(line)?;
+        let clients = clients(alloc, line)?;
         let clock = Steps::of(step);
-        if is(name, "budget") {
-            let clients = clients(alloc, line)?;
-            return Ok(Layers::Budget(BudgetLink::new(self.heap, tape, clock, clients.as_slice())?));
-        }
+        let tape = self.tape(room)?;
+        Ok(Layers::Budget(BudgetLink::new(self.heap, tape, clock, clients.as_slice())?))
+    }
+
+    fn measured(&self, room: usize, line: &[u8]) -> Result<Layers<'a>, NoLink> {
+        let (step, line) = take_number(line)?;
         let (parties, _) = take_size(line)?;
+        let clock = Steps::of(step);
+        let tape = self.tape(room)?;
         Ok(Layers::Measured(MeasuredLink::new(self.heap, tape, clock, parties, 0)?))
     }
 
@@ -148,27 +148,23 @@ impl<'a> Links<'a> {
             Err(NoLink::Bad(bad)) => Err(bad),
         }
     }
-}
 
-impl<'a> Links<'a> {
-    // Makes two ends: the first with a script of the line, perhaps rate-limited.
+    // Makes two ends: the first with the script of the line, and rate-limited if the line says how.
     fn ends(&mut self, line: &[u8], answer: &mut Vec<u8>) -> Result<(), Bad> {
         let (room, line) = take_size(line)?;
         let (script, line) = take_script(line)?;
-        let (end, other) = match ScriptLink::pair(self.heap, script, Script::default(), room) {
-            Ok(ends) => ends,
-            Err(error) => return tells(error, answer),
+        let pace = match next_word(line) {
+            Some(_) => Some(read_pace(line)?),
+            None => None,
         };
-        let link = match next_word(line) {
-            None => Layers::End(end),
-            Some(_) => match paced_end(self.heap, end, line)? {
-                Some(link) => link,
-                None => return tells(OutOfMemory, answer),
-            },
-        };
-        self.link = link;
-        self.other = Some(other);
-        tells("ok", answer)
+        match ends_of(self.heap, room, script, pace) {
+            Ok((link, other)) => {
+                self.link = link;
+                self.other = Some(other);
+                tells("ok", answer)
+            }
+            Err(error) => tells(error, answer),
+        }
     }
 
     // The answers of a command that is given several times: one if they are the same.
@@ -222,15 +218,22 @@ impl<'a> Links<'a> {
         tells("ok", answer)
     }
 
+    // Feeds a datagram for each bit, in which it is turned.
     fn feeds_turned(&mut self, datagram: &[u8]) -> Result<(), Bad> {
-        let mut turned = Vec::from_slice(*self.fed.allocator(), datagram)?;
-        for place in 0..turned.len() {
+        for place in 0..datagram.len() {
             for bit in [1u8, 2, 4, 8, 16, 32, 64, 128] {
-                turned[place] ^= bit;
-                self.fed.push(Datagram::of(turned.as_slice()))?;
-                turned[place] ^= bit;
+                self.feeds_one_turned(datagram, place, bit)?;
             }
         }
+        Ok(())
+    }
+
+    fn feeds_one_turned(&mut self, datagram: &[u8], place: usize, bit: u8) -> Result<(), Bad> {
+        let mut turned = Vec::from_slice(*self.fed.allocator(), datagram)?;
+        if let Some(byte) = turned.get_mut(place) {
+            *byte ^= bit;
+        }
+        self.fed.push(Datagram::of(turned.as_slice()))?;
         Ok(())
     }
 
@@ -264,9 +267,7 @@ impl<'a> Links<'a> {
             },
         }
     }
-}
 
-impl Links<'_> {
     // A command that is given once.
     fn one(&mut self, command: &[u8], answer: &mut Vec<u8>) -> Result<(), Bad> {
         let (name, line) = first(command)?;
@@ -329,22 +330,33 @@ fn take_script(line: &[u8]) -> Result<(Script, &[u8]), Bad> {
     Ok((script, line))
 }
 
-// An end with a retransmission limit; `None` if memory was refused.
-fn paced_end<'a>(heap: Heap<'a>, end: End<'a>, line: &[u8]) -> Result<Option<Layers<'a>>, Bad> {
+// The parties and the repeats of a retransmission limit.
+fn read_pace(line: &[u8]) -> Result<(usize, u64), Bad> {
     let (parties, line) = take_size(line)?;
     let (repeats, _) = take_number(line)?;
-    match PacedLink::new(heap, end, parties, repeats) {
-        Ok(link) => Ok(Some(Layers::PacedEnd(link))),
-        Err(OutOfMemory) => Ok(None),
+    Ok((parties, repeats))
+}
+
+fn ends_of<'a>(
+    heap: Heap<'a>,
+    room: usize,
+    script: Script,
+    pace: Option<(usize, u64)>,
+) -> Result<(Layers<'a>, End<'a>), OutOfMemory> {
+    let (end, other) = ScriptLink::pair(heap, script, Script::default(), room)?;
+    match pace {
+        None => Ok((Layers::End(end), other)),
+        Some((parties, repeats)) => {
+            let link = PacedLink::new(heap, end, parties, repeats)?;
+            Ok((Layers::PacedEnd(link), other))
+        }
     }
 }
 
 fn clients(alloc: Global, line: &[u8]) -> Result<Vec<ClientId>, Bad> {
     let mut clients = Vec::new(alloc);
-    let mut rest = line;
-    while let Some((word, behind)) = next_word(rest) {
-        clients.push(ClientId(number(word)?))?;
-        rest = behind;
+    for word in words_in(alloc, line)?.as_slice() {
+        clients.push(ClientId(number(*word)?))?;
     }
     Ok(clients)
 }

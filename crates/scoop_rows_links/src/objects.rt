@@ -9,13 +9,12 @@
 //!
 //! WHAT is `cell`, `counter`, `account` or `exchange`, an object of this type in a box; or `table CLASS`, a table of a class.
 
-use crate::bytes::{tells, tells_found, told};
+use crate::bytes::{tells, tells_found, told, words_in};
 use crate::class_words::{NoRows, rows};
 use scoop_classes::{
     AccountObject, CellObject, CounterObject, DemoClass, ExchangeObject, demo_class,
 };
-use scoop_lines::{decimal, decimal_u16, is, next_word};
-use scoop_message::limits::MAX_WORDS;
+use scoop_lines::{decimal, decimal_u16, is};
 use scoop_message::{Args, OutOfMemory, Request, Words};
 use scoop_object::{Behaviour, Boxed, Class, Object, OpRow, Table, TooManyWrites};
 use scoop_row_player::words::{first, last, number};
@@ -199,10 +198,8 @@ fn halves(line: &[u8]) -> Result<(&[u8], &[u8]), Bad> {
 
 fn numbers(alloc: Global, line: &[u8]) -> Result<Vec<u64>, Bad> {
     let mut numbers = Vec::new(alloc);
-    let mut rest = line;
-    while let Some((word, behind)) = next_word(rest) {
-        numbers.push(decimal(word).ok_or(Bad::Number)?)?;
-        rest = behind;
+    for word in words_in(alloc, line)?.as_slice() {
+        numbers.push(decimal(*word).ok_or(Bad::Number)?)?;
     }
     Ok(numbers)
 }

@@ -12,8 +12,7 @@
 ghost use Rattle.std.specs.Prelude.{ℕ, ◌<◌, length, IsTrue, IfSome};
 ghost use Rattle.scoop_queue.specs.Queue.{head_at};
 
-use crate::bytes::{counted, take_size, tells, told};
-use scoop_lines::next_word;
+use crate::bytes::{counted, push_times, take_size, tells, told, words_in};
 use scoop_message::limits::MAX_PENDING;
 use scoop_message::{Block, Entries, Entry};
 use scoop_queue::{Head, PutError, QueueOfQueues, QueueState};
@@ -194,11 +193,7 @@ fn state(word: &[u8]) -> Result<QueueState, Bad> {
 // Adds an entry, or N of them.
 fn add(many: &mut Vec<Entry>, word: &[u8]) -> Result<(), Bad> {
     let (count, word) = counted(word)?;
-    let entry = entry(word)?;
-    for _ in 0..count {
-        many.push(entry).map_err(|_| Bad::Memory)?;
-    }
-    Ok(())
+    push_times(many, &entry(word)?, count)
 }
 
 fn appends<A: Allocator + Copy>(
@@ -215,10 +210,8 @@ fn appends<A: Allocator + Copy>(
         state: state(state_word)?,
     };
     let mut many = Vec::new(*answer.allocator());
-    let mut rest = line;
-    while let Some((word, behind)) = next_word(rest) {
-        add(&mut many, word)?;
-        rest = behind;
+    for word in words_in(*answer.allocator(), line)?.as_slice() {
+        add(&mut many, *word)?;
     }
     told(queues.append(head, many.as_slice()), answer)
 }
