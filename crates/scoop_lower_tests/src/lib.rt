@@ -1,8 +1,7 @@
 #![tactic(auto)]
 
-//! Tests of the crates below handlers and clients, by their public calls: messages, frames, objects, classes,
-//! queues, links, seals, lines and words. They have a crate of their own, so that the gate doesn't prove each of
-//! these crates once more with them.
+//! Tests of links over UDP of this machine, and of the longest input. What else is tested of the crates below handlers and
+//! clients is in rows.
 
 #[cfg(test)]
 mod tests;
