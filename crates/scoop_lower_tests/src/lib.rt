@@ -1,7 +1,7 @@
 #![tactic(auto)]
 
-//! Tests of links over UDP of this machine, and of the longest input. What else is tested of the crates below handlers and
-//! clients is in rows.
+//! Tests of links over UDP of this machine, and of the longest input. The other tests of the crates below handlers and clients
+//! are rows.
 
 #[cfg(test)]
 mod tests;

@@ -1,7 +1,7 @@
 //! Rows about links. Bytes are in hex digits, where `N*DIGITS` stands for N of them.
 //!
-//! A case first feeds the tape, and then makes its link: layers over a tape with room for ROOM sent datagrams, or an end of
-//! a pair whose lanes have this room.
+//! A case first feeds the tape, and then makes its link. That is layers over a tape with room for ROOM sent datagrams, or an end
+//! of a pair whose lanes have this room.
 //!
 //! - `feed BYTES` is one datagram to come, `turned BYTES` one for each bit of the bytes, in which that bit is turned.
 //! - `tape ROOM`

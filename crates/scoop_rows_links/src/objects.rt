@@ -71,7 +71,7 @@ impl<'a> Objects<'a> {
         }
     }
 
-    // What is done with an object.
+    // Reads an act.
     fn read_act(&self, alloc: Global, name: &[u8], line: &[u8]) -> Result<Act, Bad> {
         match name {
             b"run" => Ok(Act::Run(request(alloc, line)?)),
@@ -148,7 +148,7 @@ impl Subject for Objects<'_> {
     }
 }
 
-/// What is done with an object.
+/// An act on an object.
 #[derive(Drop)]
 enum Act {
     Run(Request),
