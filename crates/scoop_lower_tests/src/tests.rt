@@ -164,16 +164,32 @@ fn port_refusal<R: Net, A: Allocator>(rt: &R, alloc: A, own: u16) -> Option<Open
 fn an_address_is_taken_once_and_a_table_takes_memory(rt: HostRuntime) -> Result<(), Fail> {
     let [port, other] = free_ports::<_, 2>(&rt)?;
     let heap = Refusing::new(rt.alloc(), 1);
-    are_equal(&rt, port_refusal(&rt, &heap, port), Some(OpenLinkError::OutOfMemory));
+    are_equal(
+        &rt,
+        port_refusal(&rt, &heap, port),
+        Some(OpenLinkError::OutOfMemory),
+    );
     heap.refuse(1);
-    are_equal(&rt, refusal(&rt, &heap, at(2, port)), Some(OpenLinkError::OutOfMemory));
+    are_equal(
+        &rt,
+        refusal(&rt, &heap, at(2, port)),
+        Some(OpenLinkError::OutOfMemory),
+    );
     heap.refuse(2);
     are_equal(&rt, port_refusal(&rt, &heap, port), None);
     heap.refuse(2);
     are_equal(&rt, refusal(&rt, &heap, at(2, port)), None);
     let _first = udp(&rt, rt.alloc(), at(1, port), CLIENT, at(1, other));
-    are_equal(&rt, port_refusal(&rt, rt.alloc(), port), Some(OpenLinkError::Fault));
-    are_equal(&rt, refusal(&rt, rt.alloc(), at(1, port)), Some(OpenLinkError::Fault));
+    are_equal(
+        &rt,
+        port_refusal(&rt, rt.alloc(), port),
+        Some(OpenLinkError::Fault),
+    );
+    are_equal(
+        &rt,
+        refusal(&rt, rt.alloc(), at(1, port)),
+        Some(OpenLinkError::Fault),
+    );
     Ok(())
 }
 
