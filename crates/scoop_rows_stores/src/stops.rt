@@ -1,0 +1,266 @@
+//! Rows about stores over files that are stopped at a call of the disk, and opened again.
+//!
+//! Each command takes commands of the area `stores`, which `;` separates.
+//!
+//! - `before COMMANDS` adds to those that prepare the files.
+//! - `check COMMANDS` adds to those whose answers are the state of the files.
+//! - `stop PART COMMANDS` opens the files and gives these, once for each call of a part at which the disk stops, up to where
+//!   the last one isn't refused. After each, the state is read from the files as they were written, and as a crash leaves
+//!   them without unsynced bytes. The answer is each state that was found, once, the one before any stop first. The parts
+//!   are `log`, and `checkpoint` and `file`: the log and the database file where a transaction begins with a checkpoint.
+
+use crate::keeping::says;
+use crate::stores::Stores;
+use scoop_row_player::words::first;
+use scoop_row_player::{Bad, Subject};
+use sqlite::{Alter, Connection, FileStore, Files, Options};
+use sqlite_disk::{Crash, Disk, Fuse, Memory};
+use std::alloc::Global;
+
+type Stopped = Fuse<Memory>;
+
+type Stoppable = FileStore<Stopped>;
+
+/// More calls than an opening and a call make.
+const MAX_CALLS: u64 = 400;
+
+/// The calls at which the disk is stopped.
+#[derive(Clone, Copy)]
+enum Part {
+    Log,
+    Checkpoint,
+    File,
+}
+
+/// The commands before a stop, and those after it.
+#[derive(Drop)]
+pub struct Stops {
+    before: Vec<u8>,
+    checks: Vec<u8>,
+}
+
+impl Stops {
+    pub fn new(alloc: Global) -> Stops {
+        Stops {
+            before: Vec::new(alloc),
+            checks: Vec::new(alloc),
+        }
+    }
+}
+
+impl Subject for Stops {
+    fn does(&mut self, command: &[u8], answer: &mut Vec<u8>) -> Result<(), Bad> {
+        let (name, line) = first(command)?;
+        match name {
+            b"before" => adds(&mut self.before, line, answer),
+            b"check" => adds(&mut self.checks, line, answer),
+            b"stop" => stops(&self.before, &self.checks, line, answer),
+            _ => Err(Bad::Command),
+        }
+    }
+
+    // The files are made anew for each stop.
+    fn shows(&self, _text: &mut Vec<u8>) -> Result<(), Bad> {
+        Ok(())
+    }
+}
+
+fn adds(commands: &mut Vec<u8>, line: &[u8], answer: &mut Vec<u8>) -> Result<(), Bad> {
+    if !commands.is_empty() {
+        commands.push(b';')?;
+    }
+    commands.extend_from_slice(line)?;
+    says("ok", answer)
+}
+
+// A file with these bytes that takes this many calls.
+fn file(alloc: Global, bytes: &[u8], calls: u64) -> Result<Stopped, Bad> {
+    let mut file = Memory::new(alloc);
+    if file.write_at(0, bytes).is_ok() && file.sync().is_ok() {
+        Ok(Fuse::new(file, calls))
+    } else {
+        Err(Bad::Memory)
+    }
+}
+
+fn blank(alloc: Global) -> Result<Files<Stopped>, Bad> {
+    Ok(Files {
+        log: file(alloc, &[], u64::MAX)?,
+        db: file(alloc, &[], u64::MAX)?,
+    })
+}
+
+// Files with the same bytes, of which that part takes this many calls.
+fn copy_of(
+    alloc: Global,
+    files: &Files<Stopped>,
+    part: Part,
+    calls: u64,
+) -> Result<Files<Stopped>, Bad> {
+    let (log, db) = match part {
+        Part::Log | Part::Checkpoint => (calls, u64::MAX),
+        Part::File => (u64::MAX, calls),
+    };
+    Ok(Files {
+        log: file(alloc, files.log.inner().bytes(), log)?,
+        db: file(alloc, files.db.inner().bytes(), db)?,
+    })
+}
+
+// With a checkpoint where a transaction first writes to a log that isn't empty, or with none.
+fn options_of(part: Part) -> Options {
+    match part {
+        Part::Log => Options::new(1),
+        Part::Checkpoint | Part::File => Options {
+            checkpoint_frames: 1,
+            ..Options::new(1)
+        },
+    }
+}
+
+// A function that names the files' type does one thing alone, and takes nothing apart.
+fn connected(
+    alloc: Global,
+    files: Files<Stopped>,
+    options: Options,
+) -> Option<Connection<Stoppable>> {
+    if !files.may_be_used() {
+        return None;
+    }
+    match Connection::open_files(alloc, files, options) {
+        Ok(connection) => Some(connection),
+        Err(_) => None,
+    }
+}
+
+fn left_by(medium: Stoppable) -> Files<Stopped> {
+    medium.close()
+}
+
+// Gives commands to the database in files, and adds their answers. The files after them, if they open, and none of the
+// commands finds the connection dropped.
+fn given(
+    alloc: Global,
+    files: Files<Stopped>,
+    options: Options,
+    commands: &[u8],
+    answers: &mut Vec<u8>,
+) -> Option<Files<Stopped>> {
+    let connection = connected(alloc, files, options)?;
+    Some(left_by(given_to(connection, commands, answers)?))
+}
+
+fn given_to<S: Alter + Drop>(
+    connection: Connection<S>,
+    commands: &[u8],
+    answers: &mut Vec<u8>,
+) -> Option<S> {
+    let mut stores = Stores::new(connection);
+    if gives(&mut stores, commands, answers).is_err() {
+        return None;
+    }
+    stores.into_medium()
+}
+
+// Gives commands in turn, and joins their answers by spaces.
+fn gives<S: Subject>(
+    subject: &mut S,
+    commands: &[u8],
+    answers: &mut Vec<u8>,
+) -> Result<(), Bad> {
+    for command in commands.split(|byte| *byte == b';') {
+        if !answers.is_empty() {
+            answers.push(b' ')?;
+        }
+        subject.does(command, answers)?;
+    }
+    Ok(())
+}
+
+// Adds the state of the files to those that were found, if it is a new one. Returns whether it is the newest.
+fn finds(
+    alloc: Global,
+    files: &Files<Stopped>,
+    checks: &[u8],
+    found: &mut Vec<Vec<u8>>,
+) -> Result<bool, Bad> {
+    let copy = copy_of(alloc, files, Part::Log, u64::MAX)?;
+    let mut state = Vec::new(alloc);
+    if given(alloc, copy, Options::new(1), checks, &mut state).is_none() {
+        state.extend_from_slice(b" unopened")?;
+    }
+    match found.iter().position(|known| known.as_slice() == state.as_slice()) {
+        Some(place) => Ok(place.saturating_add(1) == found.len()),
+        None => {
+            found.push(state)?;
+            Ok(true)
+        }
+    }
+}
+
+// The same of the files as they were written, and as a crash leaves them.
+fn finds_both(
+    alloc: Global,
+    mut files: Files<Stopped>,
+    checks: &[u8],
+    found: &mut Vec<Vec<u8>>,
+) -> Result<bool, Bad> {
+    let written = finds(alloc, &files, checks, found)?;
+    files.log.crash();
+    files.db.crash();
+    Ok(finds(alloc, &files, checks, found)? && written)
+}
+
+fn stops(
+    before: &[u8],
+    checks: &[u8],
+    line: &[u8],
+    answer: &mut Vec<u8>,
+) -> Result<(), Bad> {
+    let alloc = *answer.allocator();
+    let (part, commands) = first(line)?;
+    let part = part_of(part)?;
+    let mut answers = Vec::new(alloc);
+    let prepared = given(alloc, blank(alloc)?, Options::new(1), before, &mut answers);
+    let Some(files) = prepared else {
+        return Err(Bad::Words);
+    };
+    let mut found = Vec::new(alloc);
+    finds(alloc, &files, checks, &mut found)?;
+    let mut is_stopped = false;
+    for calls in 0..MAX_CALLS {
+        let copy = copy_of(alloc, &files, part, calls)?;
+        answers.clear();
+        if let Some(left) = given(alloc, copy, options_of(part), commands, &mut answers) {
+            let is_newest = finds_both(alloc, left, checks, &mut found)?;
+            if !answers.ends_with(b"Refused") {
+                return tells(&found, is_stopped && is_newest, answer);
+            }
+            is_stopped = true;
+        }
+    }
+    says("never done", answer)
+}
+
+// Adds the states. It is wrong if the call was never stopped, or what it did isn't the newest of them.
+fn tells(found: &[Vec<u8>], is_kept: bool, answer: &mut Vec<u8>) -> Result<(), Bad> {
+    for (place, state) in found.iter().enumerate() {
+        if place > 0 {
+            answer.push(b'\n')?;
+        }
+        answer.extend_from_slice(state)?;
+    }
+    if !is_kept {
+        answer.extend_from_slice(b"\nnever stopped, or lost")?;
+    }
+    Ok(())
+}
+
+fn part_of(word: &[u8]) -> Result<Part, Bad> {
+    match word {
+        b"log" => Ok(Part::Log),
+        b"checkpoint" => Ok(Part::Checkpoint),
+        b"file" => Ok(Part::File),
+        _ => Err(Bad::Words),
+    }
+}
