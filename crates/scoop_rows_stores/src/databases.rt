@@ -16,7 +16,8 @@ use scoop_row_player::{Bad, Subject};
 
 const CLIENT: ClientId = ClientId(7);
 
-const STORE: &str = "store.db";
+/// The file of the store.
+pub const STORE: &str = "store.db";
 
 /// The store, if it is open.
 #[derive(Drop)]

@@ -54,7 +54,7 @@ impl Subject for Stops {
         match name {
             b"before" => adds(&mut self.before, line, answer),
             b"check" => adds(&mut self.checks, line, answer),
-            b"stop" => stops(&self.before, &self.checks, line, answer),
+            b"stop" => stop_each(&self.before, &self.checks, line, answer),
             _ => Err(Bad::Command),
         }
     }
@@ -189,13 +189,17 @@ fn finds(
     if given(alloc, copy, Options::new(1), checks, &mut state).is_none() {
         state.extend_from_slice(b" unopened")?;
     }
-    match found.iter().position(|known| known.as_slice() == state.as_slice()) {
-        Some(place) => Ok(place.saturating_add(1) == found.len()),
-        None => {
-            found.push(state)?;
-            Ok(true)
+    adds_state(state, found)
+}
+
+fn adds_state(state: Vec<u8>, found: &mut Vec<Vec<u8>>) -> Result<bool, Bad> {
+    for place in 0..found.len() {
+        if found.get(place).map(|known| known.as_slice()) == Some(state.as_slice()) {
+            return Ok(place.saturating_add(1) == found.len());
         }
     }
+    found.push(state)?;
+    Ok(true)
 }
 
 // The same of the files as they were written, and as a crash leaves them.
@@ -205,44 +209,121 @@ fn finds_both(
     checks: &[u8],
     found: &mut Vec<Vec<u8>>,
 ) -> Result<bool, Bad> {
-    let written = finds(alloc, &files, checks, found)?;
+    let written = finds(alloc, &files, checks, found);
     files.log.crash();
     files.db.crash();
-    Ok(finds(alloc, &files, checks, found)? && written)
+    let left = finds(alloc, &files, checks, found);
+    Ok(written? && left?)
 }
 
-fn stops(
+/// What is stopped, and how its states are read.
+#[derive(Clone, Copy)]
+struct Trial<'l> {
+    part: Part,
+    commands: &'l [u8],
+    checks: &'l [u8],
+}
+
+/// How a trial ended.
+#[derive(Clone, Copy)]
+enum Ended {
+    /// The disk stopped before the last command.
+    Before,
+    /// The last command was refused.
+    Refused,
+    /// It wasn't; and whether the newest state is found in the files.
+    Done(bool),
+}
+
+// Stops the trial after this number of calls, and adds the states that it leaves.
+fn stopped_at(
+    alloc: Global,
+    files: &Files<Stopped>,
+    trial: Trial<'_>,
+    calls: u64,
+    found: &mut Vec<Vec<u8>>,
+) -> Result<Ended, Bad> {
+    let copy = copy_of(alloc, files, trial.part, calls)?;
+    let mut answers = Vec::new(alloc);
+    let options = options_of(trial.part);
+    match given(alloc, copy, options, trial.commands, &mut answers) {
+        Some(left) => {
+            let is_newest = finds_both(alloc, left, trial.checks, found)?;
+            if answers.ends_with(b"Refused") {
+                Ok(Ended::Refused)
+            } else {
+                Ok(Ended::Done(is_newest))
+            }
+        }
+        None => Ok(Ended::Before),
+    }
+}
+
+// Stops the trial at each call in turn, up to where it is done. Returns whether it was stopped before, and what it does is
+// kept.
+fn stopped_in_turn(
+    alloc: Global,
+    files: &Files<Stopped>,
+    trial: Trial<'_>,
+    found: &mut Vec<Vec<u8>>,
+) -> Result<bool, Bad> {
+    let mut is_stopped = false;
+    for calls in 0..MAX_CALLS {
+        match stopped_at(alloc, files, trial, calls, found)? {
+            Ended::Before => {}
+            Ended::Refused => is_stopped = true,
+            Ended::Done(is_newest) => return Ok(is_stopped && is_newest),
+        }
+    }
+    Ok(false)
+}
+
+fn stop_each(
     before: &[u8],
     checks: &[u8],
     line: &[u8],
     answer: &mut Vec<u8>,
 ) -> Result<(), Bad> {
-    let alloc = *answer.allocator();
     let (part, commands) = first(line)?;
-    let part = part_of(part)?;
-    let mut answers = Vec::new(alloc);
-    let prepared = given(alloc, blank(alloc)?, Options::new(1), before, &mut answers);
-    let Some(files) = prepared else {
-        return Err(Bad::Words);
+    let trial = Trial {
+        part: part_of(part)?,
+        commands,
+        checks,
     };
-    let mut found = Vec::new(alloc);
-    finds(alloc, &files, checks, &mut found)?;
-    let mut is_stopped = false;
-    for calls in 0..MAX_CALLS {
-        let copy = copy_of(alloc, &files, part, calls)?;
-        answers.clear();
-        if let Some(left) = given(alloc, copy, options_of(part), commands, &mut answers) {
-            let is_newest = finds_both(alloc, left, checks, &mut found)?;
-            if !answers.ends_with(b"Refused") {
-                return tells(&found, is_stopped && is_newest, answer);
-            }
-            is_stopped = true;
-        }
-    }
-    says("never done", answer)
+    let mut found = Vec::new(*answer.allocator());
+    let kept = stops_over(before, trial, &mut found)?;
+    tells(&found, kept, answer)
 }
 
-// Adds the states. It is wrong if the call was never stopped, or what it did isn't the newest of them.
+// Prepares the files, and stops the trial over them.
+fn stops_over(
+    before: &[u8],
+    trial: Trial<'_>,
+    found: &mut Vec<Vec<u8>>,
+) -> Result<bool, Bad> {
+    let alloc = *found.allocator();
+    let files = blank(alloc)?;
+    let mut answers = Vec::new(alloc);
+    if before.is_empty() {
+        return stops_in(alloc, &files, trial, found);
+    }
+    match given(alloc, files, Options::new(1), before, &mut answers) {
+        Some(files) => stops_in(alloc, &files, trial, found),
+        None => Err(Bad::Words),
+    }
+}
+
+fn stops_in(
+    alloc: Global,
+    files: &Files<Stopped>,
+    trial: Trial<'_>,
+    found: &mut Vec<Vec<u8>>,
+) -> Result<bool, Bad> {
+    finds(alloc, files, trial.checks, found)?;
+    stopped_in_turn(alloc, files, trial, found)
+}
+
+// Adds the states. It is wrong if the call was never stopped or never done, or what it did isn't the newest of them.
 fn tells(found: &[Vec<u8>], is_kept: bool, answer: &mut Vec<u8>) -> Result<(), Bad> {
     for (place, state) in found.iter().enumerate() {
         if place > 0 {
@@ -251,7 +332,7 @@ fn tells(found: &[Vec<u8>], is_kept: bool, answer: &mut Vec<u8>) -> Result<(), B
         answer.extend_from_slice(state)?;
     }
     if !is_kept {
-        answer.extend_from_slice(b"\nnever stopped, or lost")?;
+        answer.extend_from_slice(b"\nnever stopped, never done, or lost")?;
     }
     Ok(())
 }
