@@ -24,12 +24,7 @@ pub fn path(file: &[u8]) -> Result<&str, Bad> {
 }
 
 /// Does what a command says with files.
-pub fn files(
-    rt: &HostRuntime,
-    name: &[u8],
-    line: &[u8],
-    answer: &mut Vec<u8>,
-) -> Result<(), Bad> {
+pub fn files(rt: &HostRuntime, name: &[u8], line: &[u8], answer: &mut Vec<u8>) -> Result<(), Bad> {
     match name {
         b"write" => {
             let (file, text) = first(line)?;

@@ -100,7 +100,10 @@ impl<'a> Folder<'a> {
         let text = read_text(self.rt, TEXT.as_bytes())?;
         let mut wanted = Vec::new(self.rt.alloc());
         add_text(line.get(1..).unwrap_or(&[]), &mut wanted)?;
-        says(text.as_bytes() == wanted.as_slice() || self.is_late(), answer)
+        says(
+            text.as_bytes() == wanted.as_slice() || self.is_late(),
+            answer,
+        )
     }
 
     // Whether a second has gone by since the start.
@@ -153,11 +156,7 @@ impl Subject for Folder<'_> {
     }
 }
 
-fn told(
-    keeper: &mut Option<Named<'_>>,
-    command: &[u8],
-    answer: &mut Vec<u8>,
-) -> Result<(), Bad> {
+fn told(keeper: &mut Option<Named<'_>>, command: &[u8], answer: &mut Vec<u8>) -> Result<(), Bad> {
     let (name, line) = first(command)?;
     match keeper {
         Some(keeper) => keeps(*answer.allocator(), keeper, name, line, answer),
@@ -165,11 +164,7 @@ fn told(
     }
 }
 
-fn repeats(
-    keeper: &mut Option<Named<'_>>,
-    line: &[u8],
-    answer: &mut Vec<u8>,
-) -> Result<(), Bad> {
+fn repeats(keeper: &mut Option<Named<'_>>, line: &[u8], answer: &mut Vec<u8>) -> Result<(), Bad> {
     let (count, command) = first(line)?;
     for _ in 0..number(count)? {
         answer.clear();
@@ -197,7 +192,10 @@ fn appends_to(
     answer: &mut Vec<u8>,
 ) -> Result<(), Bad> {
     let mut journal = Journal::new(rt.alloc(), file);
-    let line = read(text).map_err(|_| Bad::Words)?;
+    let line = match read(text) {
+        Ok(line) => line,
+        Err(_) => return Err(Bad::Words),
+    };
     match journal.append(&line) {
         Ok(()) => says("ok", answer),
         Err(error) => says(error, answer),

@@ -139,7 +139,9 @@ fn verdict(heap: Heap<'_>, handler: HandlerId, blobs: &Blobs) -> &'static str {
 fn is_written<'a>(heap: Heap<'a>, state: &HandlerState<Heap<'a>>, blobs: &Blobs) -> &'static str {
     match written(heap, state) {
         Ok((image, pending)) => {
-            if image.as_slice() == blobs.image.as_slice() && pending.as_slice() == blobs.pending.as_slice() {
+            if image.as_slice() == blobs.image.as_slice()
+                && pending.as_slice() == blobs.pending.as_slice()
+            {
                 "ok"
             } else {
                 "written as other bytes"

@@ -178,11 +178,7 @@ fn tells<K: Keeper<Global>>(
     }
 }
 
-fn hears<K: Keeper<Global>>(
-    keeper: &mut K,
-    line: &[u8],
-    answer: &mut Vec<u8>,
-) -> Result<(), Bad> {
+fn hears<K: Keeper<Global>>(keeper: &mut K, line: &[u8], answer: &mut Vec<u8>) -> Result<(), Bad> {
     let (word, frames) = first(line)?;
     let note = note(word)?;
     let mut text = Vec::new(*answer.allocator());
@@ -211,7 +207,7 @@ fn reads_line(line: &[u8], answer: &mut Vec<u8>) -> Result<(), Bad> {
         Ok(read) => {
             let mut out = Vec::new(*answer.allocator());
             write_back(&read, &mut out)?;
-            if out.strip_suffix(b"\n") == Some(text) {
+            if out.pop() == Some(b'\n') && out.as_slice() == text {
                 says("ok", answer)
             } else {
                 says("written as another text", answer)

@@ -163,11 +163,7 @@ fn given_to<S: Alter + Drop>(
 }
 
 // Gives commands in turn, and joins their answers by spaces.
-fn gives<S: Subject>(
-    subject: &mut S,
-    commands: &[u8],
-    answers: &mut Vec<u8>,
-) -> Result<(), Bad> {
+fn gives<S: Subject>(subject: &mut S, commands: &[u8], answers: &mut Vec<u8>) -> Result<(), Bad> {
     for command in commands.split(|byte| *byte == b';') {
         if !answers.is_empty() {
             answers.push(b' ')?;
@@ -193,8 +189,8 @@ fn finds(
 }
 
 fn adds_state(state: Vec<u8>, found: &mut Vec<Vec<u8>>) -> Result<bool, Bad> {
-    for place in 0..found.len() {
-        if found.get(place).map(|known| known.as_slice()) == Some(state.as_slice()) {
+    for (place, known) in found.iter().enumerate() {
+        if known.as_slice() == state.as_slice() {
             return Ok(place.saturating_add(1) == found.len());
         }
     }
@@ -278,12 +274,7 @@ fn stopped_in_turn(
     Ok(false)
 }
 
-fn stop_each(
-    before: &[u8],
-    checks: &[u8],
-    line: &[u8],
-    answer: &mut Vec<u8>,
-) -> Result<(), Bad> {
+fn stop_each(before: &[u8], checks: &[u8], line: &[u8], answer: &mut Vec<u8>) -> Result<(), Bad> {
     let (part, commands) = first(line)?;
     let trial = Trial {
         part: part_of(part)?,
@@ -296,11 +287,7 @@ fn stop_each(
 }
 
 // Prepares the files, and stops the trial over them.
-fn stops_over(
-    before: &[u8],
-    trial: Trial<'_>,
-    found: &mut Vec<Vec<u8>>,
-) -> Result<bool, Bad> {
+fn stops_over(before: &[u8], trial: Trial<'_>, found: &mut Vec<Vec<u8>>) -> Result<bool, Bad> {
     let alloc = *found.allocator();
     let files = blank(alloc)?;
     let mut answers = Vec::new(alloc);

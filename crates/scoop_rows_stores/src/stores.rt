@@ -100,7 +100,11 @@ fn creates<S: Alter + Drop>(
     answer: &mut Vec<u8>,
 ) -> Result<(), Bad> {
     match connection.take() {
-        Some(connection) => kept(Store::create(*answer.allocator(), connection), store, answer),
+        Some(connection) => kept(
+            Store::create(*answer.allocator(), connection),
+            store,
+            answer,
+        ),
         None => Err(Bad::Command),
     }
 }
@@ -144,10 +148,7 @@ fn gathers<S: Alter + Drop>(
     }
 }
 
-fn parts<S: Alter + Drop>(
-    gathering: &mut Option<GatheringStore<S>>,
-    store: &mut Option<Store<S>>,
-) {
+fn parts<S: Alter + Drop>(gathering: &mut Option<GatheringStore<S>>, store: &mut Option<Store<S>>) {
     if let Some(gathering) = gathering.take() {
         *store = Some(gathering.into_inner());
     }
