@@ -21,7 +21,7 @@ use std::io::Write;
 /// The last error.
 #[derive(Drop)]
 pub struct Errors {
-    pub last: Option<RuntimeError>,
+    last: Option<RuntimeError>,
 }
 
 impl Errors {
@@ -29,26 +29,36 @@ impl Errors {
         Errors { last: None }
     }
 
+    /// Remembers an error, and adds its text.
+    pub fn tells(&mut self, error: RuntimeError, answer: &mut Vec<u8>) -> Result<(), Bad> {
+        self.last = Some(error);
+        write!(answer, "{error}")?;
+        Ok(())
+    }
+
+    /// The commands about errors.
     pub fn does(&mut self, name: &[u8], line: &[u8], answer: &mut Vec<u8>) -> Result<(), Bad> {
         if is(name, "error") {
             let (name, line) = first(line)?;
-            let error = error_of(name, number(last(line)?)?)?;
-            self.last = Some(error);
-            write!(answer, "{error}")?;
-            return Ok(());
+            let Some(error) = error_of(name, number(last(line)?)?) else {
+                return Err(Bad::Words);
+            };
+            return self.tells(error, answer);
         }
-        let error = self.last.ok_or(Bad::Command)?;
+        let Some(error) = self.last else {
+            return Err(Bad::Command);
+        };
         match name {
-            b"of" => tells(error, answer),
+            b"of" => classifies(error, answer),
             b"advises" => has(error.advice().as_bytes(), line, answer),
             _ => has(error.advice_over_store().as_bytes(), line, answer),
         }
     }
 }
 
-fn error_of(name: &[u8], number: u32) -> Result<RuntimeError, Bad> {
+fn error_of(name: &[u8], number: u32) -> Option<RuntimeError> {
     let handler = HandlerId(number);
-    Ok(match name {
+    Some(match name {
         b"NoHandler" => RuntimeError::NoHandler(handler),
         b"NoHandlers" => RuntimeError::Handlers(BeginError::NoHandlers),
         b"Repeated" => RuntimeError::Handlers(BeginError::Repeated(handler)),
@@ -60,12 +70,12 @@ fn error_of(name: &[u8], number: u32) -> Result<RuntimeError, Bad> {
         b"StoreRefused" => RuntimeError::Ended(PartyError::Store(KeeperError::Refused)),
         b"NodeFailed" => RuntimeError::Ended(PartyError::Loop(ServeEnd::NodeFailed)),
         b"TurnsOver" => RuntimeError::Ended(PartyError::Driver(DriverError::TurnsOver)),
-        _ => return Err(Bad::Words),
+        _ => return None,
     })
 }
 
 // The exit status, and what the advice is about.
-fn tells(error: RuntimeError, answer: &mut Vec<u8>) -> Result<(), Bad> {
+fn classifies(error: RuntimeError, answer: &mut Vec<u8>) -> Result<(), Bad> {
     let status = error.status();
     match error.about() {
         About::Handler(handler) => write!(answer, "status {status} handler {handler}")?,

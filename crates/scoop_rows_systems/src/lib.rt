@@ -13,7 +13,7 @@ mod text;
 mod text_lines;
 mod watches;
 
-use scoop_row_player::{Areas, Bad, Case, Heap, Sheet, play_rows};
+use scoop_row_player::{Areas, Bad, Case, Heap, Sheet, Subject, play_rows};
 use std::sync::Wait;
 use std::time::Clock;
 use systems::Systems;
@@ -41,10 +41,20 @@ impl<R: Wait + Clock> Areas for SystemAreas<'_, R> {
     ) -> Result<bool, Bad> {
         let alloc = sheet.alloc();
         match area {
-            "systems" => play_rows(case, heap, &mut Systems::new(alloc), sheet)?,
-            "watches" => play_rows(case, heap, &mut Watches::new(alloc, self.rt), sheet)?,
+            "systems" => plays(case, heap, Systems::new(alloc), sheet)?,
+            "watches" => plays(case, heap, Watches::new(alloc, self.rt), sheet)?,
             _ => return Ok(false),
         }
         Ok(true)
     }
+}
+
+// Owns the subject of a case, so that one function drops it.
+fn plays<S: Subject + Drop>(
+    case: Case<'_>,
+    heap: Heap<'_>,
+    mut subject: S,
+    sheet: &mut Sheet,
+) -> Result<(), Bad> {
+    play_rows(case, heap, &mut subject, sheet)
 }

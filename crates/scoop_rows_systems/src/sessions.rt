@@ -23,10 +23,9 @@ use scoop_message::ClientId;
 use scoop_message::limits::BUFFER_LEN;
 use scoop_row_player::Bad;
 use scoop_row_player::words::{first, last, number};
-use scoop_runtime::{ClientPlan, Progress, RuntimeError, client_cut, client_run};
+use scoop_runtime::{ClientPlan, Progress, client_cut, client_run};
 use scoop_system::System;
 use std::alloc::Global;
-use std::fmt::Display;
 use std::io;
 use std::io::{Error, ErrorKind, Write};
 
@@ -102,8 +101,14 @@ impl Sessions {
                 says("ok", answer)
             }
             b"notes" => has(&self.notes, line, answer),
-            b"progress" => shows(self.progress, answer),
-            b"writes" => shows(self.written.writes, answer),
+            b"progress" => {
+                write!(answer, "{}", self.progress)?;
+                Ok(())
+            }
+            b"writes" => {
+                write!(answer, "{}", self.written.writes)?;
+                Ok(())
+            }
             _ => counts(&self.written.text, line, answer),
         }
     }
@@ -136,10 +141,13 @@ impl Sessions {
             &mut self.notes,
         );
         match ended {
-            Ok(()) => ends(Ok(()), errors, answer),
+            Ok(()) => {
+                without_last(answer);
+                Ok(())
+            }
             Err(stop) => {
                 self.progress = stop.progress;
-                ends(Err(stop.error), errors, answer)
+                errors.tells(stop.error, answer)
             }
         }
     }
@@ -167,13 +175,14 @@ impl Sessions {
             answer,
             &mut self.notes,
         );
-        ends(ended, errors, answer)
+        match ended {
+            Ok(()) => {
+                without_last(answer);
+                Ok(())
+            }
+            Err(error) => errors.tells(error, answer),
+        }
     }
-}
-
-fn shows<T: Display + Drop>(value: T, answer: &mut Vec<u8>) -> Result<(), Bad> {
-    write!(answer, "{value}")?;
-    Ok(())
 }
 
 // A tape with these messages, one a line.
@@ -216,24 +225,6 @@ fn plan_of<'s, 'l>(system: &'s System, line: &'l [u8]) -> Result<(ClientPlan<'s>
     }
 }
 
-// Adds the error with which a client ended, if there is one.
-fn ends(
-    ended: Result<(), RuntimeError>,
-    errors: &mut Errors,
-    answer: &mut Vec<u8>,
-) -> Result<(), Bad> {
-    match ended {
-        Ok(()) => {
-            without_last(answer);
-            Ok(())
-        }
-        Err(error) => {
-            errors.last = Some(error);
-            shows(error, answer)
-        }
-    }
-}
-
 // Adds how many lines of the text begin so.
 fn counts(text: &[u8], start: &[u8], answer: &mut Vec<u8>) -> Result<(), Bad> {
     let start = start.strip_prefix(b" ").unwrap_or(start);
@@ -243,5 +234,6 @@ fn counts(text: &[u8], start: &[u8], answer: &mut Vec<u8>) -> Result<(), Bad> {
             count = count.saturating_add(1);
         }
     }
-    shows(count, answer)
+    write!(answer, "{count}")?;
+    Ok(())
 }

@@ -7,13 +7,13 @@
 //!   milliseconds; then one more, with the log written at LAST. It answers how many lines the log has, and the last one.
 
 use crate::systems::without_last;
-use crate::text::{has, says};
-use crate::watches::{Call, Node, calls, level_of};
+use crate::text::has;
+use crate::watches::{Call, calls, level_of};
 use jiff::Timestamp;
 use scoop_handler::{Heard, Note, Reason};
 use scoop_keeper::MemoryKeeper;
 use scoop_lines::{decimal, next_word};
-use scoop_message::{ClientId, Message};
+use scoop_message::{ClientId, HandlerId, Message};
 use scoop_row_player::Bad;
 use scoop_row_player::words::{first, last, number};
 use scoop_status::{About, Log, NodeView, gather, print_metrics, print_page};
@@ -30,6 +30,9 @@ const STARTED: i64 = 1_795_689_674;
 const UPTIME: u64 = 3_725;
 
 const STORE: &str = "/tmp/a \"<b>&.db";
+
+// The number of the node.
+const NODE: u32 = 1;
 
 // The length of a time stamp, as `2026-11-26T10:41:15.250Z `.
 const STAMP_LEN: usize = 25;
@@ -51,9 +54,13 @@ fn view<'s, R: Wait + Clock>(
         is_sealed: true,
         started,
     };
-    let mut view = gather(rt, alloc, watch, &about)?;
-    view.uptime_seconds = UPTIME;
-    Ok(view)
+    match gather(rt, alloc, watch, &about) {
+        Ok(mut view) => {
+            view.uptime_seconds = UPTIME;
+            Ok(view)
+        }
+        Err(_) => Err(Bad::Memory),
+    }
 }
 
 /// The commands that show the node.
@@ -65,19 +72,36 @@ pub fn shows_node<R: Wait + Clock>(
     answer: &mut Vec<u8>,
 ) -> Result<(), Bad> {
     let alloc = *answer.allocator();
-    let view = view(rt, alloc, watch, system)?;
+    match view(rt, alloc, watch, system) {
+        Ok(view) => shows_view(&view, (name, line), answer),
+        Err(bad) => Err(bad),
+    }
+}
+
+fn shows_view(
+    view: &NodeView<'_>,
+    (name, line): (&[u8], &[u8]),
+    answer: &mut Vec<u8>,
+) -> Result<(), Bad> {
+    let alloc = *answer.allocator();
     let mut text = Vec::new(alloc);
     match name {
-        b"json" => {
-            let json = print_json(alloc, &view).ok_or(Bad::Memory)?;
-            answer.extend_from_slice(&json)?;
-            return Ok(());
-        }
-        b"page" => print_page(&view, &mut text)?,
-        b"metrics" => print_metrics(&view, &mut text)?,
+        b"json" => return shows_json(alloc, view, answer),
+        b"page" => print_page(view, &mut text)?,
+        b"metrics" => print_metrics(view, &mut text)?,
         _ => return Err(Bad::Command),
     }
     has(&text, line, answer)
+}
+
+fn shows_json(alloc: Global, view: &NodeView<'_>, answer: &mut Vec<u8>) -> Result<(), Bad> {
+    match print_json(alloc, view) {
+        Some(json) => {
+            answer.extend_from_slice(&json)?;
+            Ok(())
+        }
+        None => Err(Bad::Memory),
+    }
 }
 
 /// Writes a log, and adds its lines without their times.
@@ -87,54 +111,96 @@ pub fn logs<R: Wait + Clock>(
     line: &[u8],
     answer: &mut Vec<u8>,
 ) -> Result<(), Bad> {
-    let (level, line) = first(line)?;
+    let (level, times) = first(line)?;
+    let level = level_of(level)?;
     let mut written = Vec::new(*answer.allocator());
-    let mut log = Log::new(&mut written, 1, level_of(level)?);
-    let mut rest = line;
-    for _ in 0..line.len() {
+    logs_at(rt, watch, level, times, &mut written)?;
+    for line in written.split(|byte| *byte == b'\n') {
+        if !line.is_empty() {
+            answer.extend_from_slice(line.get(STAMP_LEN..).unwrap_or(b""))?;
+            answer.push(b'\n')?;
+        }
+    }
+    without_last(answer);
+    Ok(())
+}
+
+// Writes a log of this level at these times.
+fn logs_at<R: Wait + Clock>(
+    rt: &R,
+    watch: &Watch,
+    level: LogLevel,
+    times: &[u8],
+    written: &mut Vec<u8>,
+) -> Result<(), Bad> {
+    let mut log = Log::new(written, NODE, level);
+    let mut rest = times;
+    for _ in 0..times.len() {
         let Some((word, behind)) = next_word(rest) else {
             break;
         };
         log.write_all(rt, watch, decimal(word).ok_or(Bad::Number)?);
         rest = behind;
     }
-    drop(log);
-    for line in written.split(|byte| *byte == b'\n') {
-        answer.extend_from_slice(line.get(STAMP_LEN..).unwrap_or(b""))?;
-        answer.push(b'\n')?;
-    }
-    without_last(answer);
-    without_last(answer);
     Ok(())
+}
+
+// A flood of messages: rounds of this many, a time after each, and one after the last message.
+#[derive(Clone, Copy)]
+struct Flood {
+    rounds: u32,
+    each: u32,
+    millis: u64,
+    last: u64,
+}
+
+fn flood_of(line: &[u8]) -> Result<Flood, Bad> {
+    let (rounds, line) = first(line)?;
+    let (each, line) = first(line)?;
+    let (millis, line) = first(line)?;
+    Ok(Flood {
+        rounds: number(rounds)?,
+        each: number(each)?,
+        millis: decimal(millis).ok_or(Bad::Number)?,
+        last: decimal(last(line)?).ok_or(Bad::Number)?,
+    })
 }
 
 /// Writes a log of many stale greetings, and adds how many lines it has, and the last one.
 pub fn floods<R: Wait + Clock>(
     rt: &R,
     watch: &Watch,
-    node: &Node,
+    handler: HandlerId,
     line: &[u8],
     answer: &mut Vec<u8>,
 ) -> Result<(), Bad> {
-    let alloc = *answer.allocator();
-    let (rounds, line) = first(line)?;
-    let (each, line) = first(line)?;
-    let (millis, line) = first(line)?;
-    let millis = decimal(millis).ok_or(Bad::Number)?;
-    let message = Message::Hello(node.handler.number(), ClientId(7), 1);
-    let mut written = Vec::new(alloc);
-    let mut log = Log::new(&mut written, 1, LogLevel::Debug);
-    for _ in 0..number(rounds)? {
-        for _ in 0..number(each)? {
-            drops(rt, alloc, watch, &message)?;
-        }
-        log.write_all(rt, watch, millis);
-    }
-    drops(rt, alloc, watch, &message)?;
-    log.write_all(rt, watch, decimal(last(line)?).ok_or(Bad::Number)?);
-    drop(log);
+    let flood = flood_of(line)?;
+    let message = Message::Hello(handler, ClientId(7), 1);
+    let mut written = Vec::new(*answer.allocator());
+    pours(rt, watch, &message, flood, &mut written)?;
     without_last(&mut written);
     counts(&written, answer)
+}
+
+// Writes a log of the flood.
+fn pours<R: Wait + Clock>(
+    rt: &R,
+    watch: &Watch,
+    message: &Message,
+    flood: Flood,
+    written: &mut Vec<u8>,
+) -> Result<(), Bad> {
+    let alloc = *written.allocator();
+    let mut log = Log::new(written, NODE, LogLevel::Debug);
+    for _ in 0..flood.rounds {
+        for _ in 0..flood.each {
+            drops(rt, alloc, watch, message)?;
+        }
+        log.write_all(rt, watch, flood.millis);
+    }
+    drops(rt, alloc, watch, message)?;
+    log.write_all(rt, watch, flood.last);
+    Ok(())
 }
 
 // A handler drops a message.

@@ -35,10 +35,12 @@ pub fn says(word: &str, answer: &mut Vec<u8>) -> Result<(), Bad> {
 pub fn has(text: &[u8], words: &[u8], answer: &mut Vec<u8>) -> Result<(), Bad> {
     let mut wanted = Vec::new(*answer.allocator());
     add_text(words, &mut wanted)?;
-    let len = wanted.len();
-    if len == 0 {
+    let (Ok(text), Ok(wanted)) = (str::from_utf8(text), str::from_utf8(&wanted)) else {
+        return Err(Bad::Words);
+    };
+    if wanted.is_empty() {
         return Err(Bad::Words);
     }
-    let found = text.windows(len).any(|part| part == wanted.as_slice());
-    says(if found { "yes" } else { "no" }, answer)
+    let word = if text.contains(wanted) { "yes" } else { "no" };
+    says(word, answer)
 }

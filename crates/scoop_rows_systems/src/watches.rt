@@ -123,14 +123,23 @@ impl<R: Wait + Clock> Subject for Watches<'_, R> {
 }
 
 fn node_of(alloc: Global, line: &[u8]) -> Result<Node, Bad> {
+    let system = system_of(alloc, line)?;
+    match handler_of(alloc, &system) {
+        Ok(handler) => Ok(Node { system, handler }),
+        Err(bad) => Err(bad),
+    }
+}
+
+fn system_of(alloc: Global, line: &[u8]) -> Result<System, Bad> {
     let mut text = Vec::new(alloc);
     add_text(line, &mut text)?;
-    let text = str::from_utf8(&text).map_err(|_| Bad::Words)?;
-    let Ok(system) = System::read(alloc, text) else {
+    let Ok(text) = str::from_utf8(&text) else {
         return Err(Bad::Words);
     };
-    let handler = handler_of(alloc, &system)?;
-    Ok(Node { system, handler })
+    match System::read(alloc, text) {
+        Ok(system) => Ok(system),
+        Err(_) => Err(Bad::Words),
+    }
 }
 
 fn handler_of(alloc: Global, system: &System) -> Result<Handler<Table>, Bad> {
@@ -181,9 +190,12 @@ fn asks<R: Wait + Clock>(
         }
         b"shown" => {
             let handler = HandlerId(number(last(line)?)?);
-            compares(watch.state(rt, handler)?, node.handler.state(), answer)
+            match watch.state(rt, handler) {
+                Ok(shown) => compares(shown, node.handler.state(), answer),
+                Err(_) => Err(Bad::Memory),
+            }
         }
-        b"flood" => floods(rt, watch, node, line, answer),
+        b"flood" => floods(rt, watch, node.handler.number(), line, answer),
         _ => shows_node(rt, watch, &node.system, (name, line), answer),
     }
 }
@@ -259,8 +271,12 @@ fn hears<R: Wait>(
     line: &[u8],
     answer: &mut Vec<u8>,
 ) -> Result<(), Bad> {
-    let message = message_of(line, *answer.allocator())?;
-    let heard = handler.hear(&message)?;
+    let Ok(message) = message_of(line, *answer.allocator()) else {
+        return Err(Bad::Words);
+    };
+    let Ok(heard) = handler.hear(&message) else {
+        return Err(Bad::Memory);
+    };
     write!(answer, "{}", heard.note)?;
     match calls(
         rt,
@@ -321,21 +337,27 @@ fn meets<R: Wait>(rt: &R, watch: &Watch, line: &[u8], answer: &mut Vec<u8>) -> R
 fn passes(watch: &Watch, line: &[u8], answer: &mut Vec<u8>) -> Result<(), Bad> {
     let (genuine, line) = first(line)?;
     let (forged, line) = first(line)?;
-    let (room, line) = first(line)?;
+    let (room, sends) = first(line)?;
+    let (genuine, forged) = (number(genuine)?, number(forged)?);
+    let (room, sends) = (number(room)?, number(last(sends)?)?);
     let alloc = *answer.allocator();
-    let mut tape = TapeLink::new(alloc, number(room)? as usize)?;
-    brings(alloc, number(genuine)?, number(forged)?, &mut tape)?;
+    let mut tape = TapeLink::new(alloc, room as usize)?;
+    brings(alloc, genuine, forged, &mut tape)?;
     let mut link = WatchedLink::new(SealedLink::new(tape, Key::new(KEY)), watch);
+    exchanges(&mut link, sends, answer)
+}
+
+// Takes what comes over a link, and sends. Adds how many datagrams came, and how many sends failed.
+fn exchanges<L: Link>(link: &mut L, sends: u32, answer: &mut Vec<u8>) -> Result<(), Bad> {
     let mut came = 0u32;
     let mut buffer = [0; BUFFER_LEN];
     for _ in 0..TAKEN {
         match link.receive(&mut buffer) {
             Ok(Some(_)) => came = came.saturating_add(1),
-            Ok(None) => break,
-            Err(_) => return Err(Bad::Words),
+            Ok(None) | Err(_) => break,
         }
     }
-    for _ in 0..number(last(line)?)? {
+    for _ in 0..sends {
         let _counted = link.send(CLIENT, b"reply");
     }
     write!(answer, "{came} came, {} failed", link.faults())?;
@@ -358,20 +380,32 @@ fn brings(alloc: Global, genuine: u32, forged: u32, tape: &mut TapeLink) -> Resu
     Ok(())
 }
 
-// Writes a line of the node's output, and flushes it twice.
+// Writes a line of the node's output, and adds whether all of it was passed on.
 fn outputs<R: Wait>(rt: &R, watch: &Watch, line: &[u8], answer: &mut Vec<u8>) -> Result<(), Bad> {
-    let mut written = Vec::new(*answer.allocator());
-    let mut text = Vec::new(*answer.allocator());
+    let alloc = *answer.allocator();
+    let (mut text, mut written) = (Vec::new(alloc), Vec::new(alloc));
     add_text(line, &mut text)?;
     text.push(b'\n')?;
-    let mut output = WatchedOutput::new(&mut written, rt, watch);
-    output.write_all(&text)?;
+    flushes(rt, watch, &text, &mut written, answer)?;
+    let same = written.as_slice() == text.as_slice();
+    write!(answer, " {same}")?;
+    Ok(())
+}
+
+// Writes a line, and flushes it twice. Adds whether the node is open before that, and after it.
+fn flushes<R: Wait>(
+    rt: &R,
+    watch: &Watch,
+    text: &[u8],
+    written: &mut Vec<u8>,
+    answer: &mut Vec<u8>,
+) -> Result<(), Bad> {
+    let mut output = WatchedOutput::new(written, rt, watch);
+    output.write_all(text)?;
     let before = watch.tally(rt).is_open;
     output.flush()?;
     output.flush()?;
-    drop(output);
     let after = watch.tally(rt).is_open;
-    let same = written == text;
-    write!(answer, "{before} {after} {same}")?;
+    write!(answer, "{before} {after}")?;
     Ok(())
 }
