@@ -4,21 +4,18 @@ mod backoff;
 mod deaf_link;
 mod deals;
 mod emptied_keeper;
-mod ends;
 mod giving_up;
 mod going_on;
-mod journals;
 mod leaving;
 mod lossy_link;
 mod moments;
 mod node_and_client;
 mod own_objects;
 mod pausing;
-mod printing;
 mod programs;
 mod replay;
+mod serving;
 mod storm;
-mod systems;
 mod text_lines;
 
 use scoop_driver::{Interrupt, NoPause};
@@ -262,16 +259,5 @@ fn text_of<'b>(rt: &impl Abort, bytes: &'b [u8]) -> &'b str {
 fn are_equal<T: PartialEq + Debug + Drop>(rt: &impl Abort, left: T, right: T) {
     if left != right {
         panic!(rt; "{left:?} is not {right:?}");
-    }
-}
-
-/// Both values are equal, at this step.
-fn are_equal_at<T, N>(rt: &impl Abort, left: T, right: T, step: N)
-where
-    T: PartialEq + Debug + Drop,
-    N: Debug + Drop,
-{
-    if left != right {
-        panic!(rt; "{left:?} is not {right:?}, at {step:?}");
     }
 }
