@@ -22,7 +22,8 @@ use scoop_row_player::{Areas, Bad, Case, Heap, Sheet, play_rows};
 use scripted::ScriptedEtcd;
 use std::cell::RefCell;
 use stores::Stores;
-pub use txns::{read_range, read_txn};
+pub use telling::{tell, tell_done, tell_outcome, tell_pairs, tell_whether};
+pub use txns::{after_space, read_range, read_txn};
 use wire::Wire;
 
 /// The areas of this library.

@@ -1,2 +1,0 @@
-pub mod ExampleLemmas
-pub mod RangeLemmas
