@@ -31,7 +31,7 @@ const SET: u16 = 1;
 const ROOM: usize = 32;
 
 /// Both clients are done after fewer turns.
-const TURNS: u32 = 10_000;
+const TURNS: u32 = 3_000;
 
 type Painted = Book<Table, MemoryKeeper>;
 
