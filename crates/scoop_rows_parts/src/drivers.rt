@@ -40,6 +40,9 @@ const ONE: HandlerId = HandlerId(1);
 
 const SEVEN: ClientId = ClientId(7);
 
+/// Entries of a message, at most.
+const MAX_BATCH: u8 = 4;
+
 /// A driver of a row.
 pub type HeapDriver<'a> = Driver<Wire, Counting<Heap<'a>>, Heap<'a>>;
 
@@ -75,6 +78,12 @@ impl Interrupt for AtTime {
 
 // Client 7 of the first incarnation.
 fn begin<A: Allocator + Clone>(alloc: A, numbers: &HandlerList, batch: u8) -> Option<Client<A>> {
+    if batch < 1 {
+        return None;
+    }
+    if batch > MAX_BATCH {
+        return None;
+    }
     Client::begin_batched(alloc, SEVEN, 1, numbers.as_slice(), batch).ok()
 }
 

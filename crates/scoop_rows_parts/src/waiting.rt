@@ -6,6 +6,8 @@
 //!   before and after a deposit. `calls TRIES HANDLER PART..` has a body of two deposits, the second at this handler. All
 //!   answer the result, the answers of the body, and the sum of the numbers of failed tries at which it paused.
 
+ghost use Rattle.std.specs.Prelude.{◌≤◌};
+
 use crate::drivers::{HeapDriver, tells_refusal};
 use crate::printing::{handler, tells};
 use scoop_driver::{BodyEntry, Condition, ConditionPart, DriverError, Pause, Test};
