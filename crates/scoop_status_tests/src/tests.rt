@@ -1,0 +1,3 @@
+//! The server of a status, over sockets of this machine.
+
+mod serving;
