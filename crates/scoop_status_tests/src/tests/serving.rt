@@ -1,12 +1,11 @@
 //! A server of the status over sockets of this machine, with requests of all kinds.
 
-use super::watch;
 use jiff::Timestamp;
 use mio::net::TcpListener;
 use scoop_status::About;
 use scoop_status_server::{Pages, Server};
 use scoop_system::{NodePlace, System};
-use scoop_watch::{LogLevel, Watch};
+use scoop_watch::{LogLevel, Settings, Watch};
 use std::alloc::Global;
 use std::hash::RandomState;
 use std::io::{ErrorKind, Read, Write};
@@ -159,7 +158,6 @@ fn long_request(rt: &impl Abort, alloc: Global) -> Vec<u8> {
     long
 }
 
-// A failure stops the test at once, so that no early return has to drop what the test owns.
 fn answers_each<R: Wait + Clock + Abort + Net<Stream = TcpStream>>(
     rt: &R,
     alloc: Global,
@@ -182,14 +180,6 @@ fn answers_each<R: Wait + Clock + Abort + Net<Stream = TcpStream>>(
     let long = long_request(rt, alloc);
     let wanted = "HTTP/1.1 431 ";
     let _took = answers(rt, alloc, served, &mut pages, &long, wanted);
-}
-
-#[test]
-fn each_request_gets_its_answer_in_time(rt: HostRuntime) {
-    let mut served = serve(&rt, rt.alloc());
-    let system = System::read(rt.alloc(), SYSTEM).expect(&rt, "no system");
-    let watch: Watch = watch(rt.alloc(), LogLevel::Off);
-    answers_each(&rt, rt.alloc(), &system, &watch, &mut served);
 }
 
 // Connections that send nothing, more than the server has places for.
@@ -250,11 +240,17 @@ fn leaves_room<R: Wait + Clock + Abort + Net<Stream = TcpStream>>(
     let _took = answers(rt, alloc, served, &mut pages, request, wanted);
 }
 
+// Each request gets its answer in time, and silent connections leave room for it.
 #[test]
-fn silent_connections_leave_room(rt: HostRuntime) {
+fn a_status_is_served_in_time(rt: HostRuntime) {
     let mut served = serve(&rt, rt.alloc());
     let system = System::read(rt.alloc(), SYSTEM).expect(&rt, "no system");
-    let watch: Watch = watch(rt.alloc(), LogLevel::Off);
+    let settings = Settings {
+        log: LogLevel::Off,
+        shows_states: true,
+    };
+    let watch = Watch::new(rt.alloc(), settings);
+    answers_each(&rt, rt.alloc(), &system, &watch, &mut served);
     let mut silent = Vec::new(rt.alloc());
     leaves_room(&rt, rt.alloc(), &system, &watch, &mut served, &mut silent);
 }

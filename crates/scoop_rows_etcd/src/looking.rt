@@ -1,0 +1,137 @@
+//! Rows of looks into an etcd, without a store.
+
+use crate::keeping::word_of;
+use crate::lent::LentEtcd;
+use crate::telling::{tell, tell_bytes, tell_found};
+use crate::txns::{after_space, read_bytes};
+use scoop_etcd::{EtcdError, Owner};
+use scoop_etcd_stores::{
+    clients_in, handlers_in, has_state, owners_in, put_text, read_text, state_under,
+};
+use scoop_message::{ClientId, HandlerId};
+use scoop_row_player::Bad;
+use scoop_row_player::words::{first, last, number};
+use std::io::Write;
+
+/// The owner at the beginning of a line, and what follows it.
+pub fn read_owner(line: &[u8]) -> Result<(Owner, &[u8]), Bad> {
+    let (kind, line) = first(line)?;
+    let (word, rest) = first(line)?;
+    let number = number(word)?;
+    match kind {
+        b"node" => Ok((Owner::Node(number), rest)),
+        b"client" => Ok((Owner::Client(ClientId(number)), rest)),
+        _ => Err(Bad::Words),
+    }
+}
+
+fn tell_handlers(
+    found: Result<Vec<HandlerId>, EtcdError>,
+    answer: &mut Vec<u8>,
+) -> Result<(), Bad> {
+    let handlers = match found {
+        Ok(handlers) => handlers,
+        Err(error) => return tell(error, answer),
+    };
+    write!(answer, "{}:", handlers.len())?;
+    for handler in &handlers {
+        tell(*handler, answer)?;
+    }
+    Ok(())
+}
+
+fn tell_clients(
+    found: Result<Vec<(ClientId, u32)>, EtcdError>,
+    answer: &mut Vec<u8>,
+) -> Result<(), Bad> {
+    let clients = match found {
+        Ok(clients) => clients,
+        Err(error) => return tell(error, answer),
+    };
+    write!(answer, "{}:", clients.len())?;
+    for (client, inc) in &clients {
+        write!(answer, " {client}.{inc}")?;
+    }
+    Ok(())
+}
+
+fn tell_owners(found: Result<Vec<Owner>, EtcdError>, answer: &mut Vec<u8>) -> Result<(), Bad> {
+    let owners = match found {
+        Ok(owners) => owners,
+        Err(error) => return tell(error, answer),
+    };
+    write!(answer, "{}:", owners.len())?;
+    for owner in &owners {
+        match owner {
+            Owner::Node(number) => write!(answer, " node {number}")?,
+            Owner::Client(client) => write!(answer, " client {client}")?,
+        }
+    }
+    Ok(())
+}
+
+// The handler's state, and before it whether there is one.
+fn tell_state(
+    etcd: &mut LentEtcd<'_>,
+    of: &str,
+    line: &[u8],
+    answer: &mut Vec<u8>,
+) -> Result<(), Bad> {
+    let alloc = *answer.allocator();
+    let handler = HandlerId(number(last(line)?)?);
+    match has_state(alloc, etcd, of, handler) {
+        Ok(true) => tell("stored", answer)?,
+        Ok(false) => {}
+        Err(error) => tell(error, answer)?,
+    }
+    tell_found(word_of(state_under(alloc, etcd, of, handler)), answer)
+}
+
+fn tell_text(
+    etcd: &mut LentEtcd<'_>,
+    of: &str,
+    line: &[u8],
+    answer: &mut Vec<u8>,
+) -> Result<(), Bad> {
+    let (owner, _) = read_owner(line)?;
+    match read_text(*answer.allocator(), etcd, of, owner) {
+        Ok(Some(text)) => tell_bytes(text.as_bytes(), answer),
+        Ok(None) => tell("none", answer),
+        Err(error) => tell(error, answer),
+    }
+}
+
+fn writes(etcd: &mut LentEtcd<'_>, of: &str, line: &[u8], answer: &mut Vec<u8>) -> Result<(), Bad> {
+    let alloc = *answer.allocator();
+    let (owner, rest) = read_owner(line)?;
+    let Ok(text) = String::from_utf8(read_bytes(alloc, after_space(rest))?) else {
+        return Err(Bad::Words);
+    };
+    match put_text(alloc, etcd, of, owner, &text) {
+        Ok(true) => tell("ok", answer),
+        Ok(false) => tell("stands", answer),
+        Err(error) => tell(error, answer),
+    }
+}
+
+/// Looks into the etcd under a name.
+pub fn looks(
+    etcd: &mut LentEtcd<'_>,
+    name: &[u8],
+    line: &[u8],
+    answer: &mut Vec<u8>,
+) -> Result<(), Bad> {
+    let alloc = *answer.allocator();
+    let (word, line) = first(line)?;
+    let Ok(of) = str::from_utf8(word) else {
+        return Err(Bad::Words);
+    };
+    match name {
+        b"handlers" => tell_handlers(handlers_in(alloc, etcd, of), answer),
+        b"clients" => tell_clients(clients_in(alloc, etcd, of), answer),
+        b"owners" => tell_owners(owners_in(alloc, etcd, of), answer),
+        b"state" => tell_state(etcd, of, line, answer),
+        b"text" => tell_text(etcd, of, line, answer),
+        _ => writes(etcd, of, line, answer),
+    }
+}

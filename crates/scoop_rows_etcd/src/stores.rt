@@ -1,0 +1,197 @@
+//! Rows of stores in an etcd. An OWNER is `node N` or `client C`, and a FATE is `answered`, `answer-lost`, `taken-over`, `late`
+//! or an ERROR: `unreachable`, `no-space`, `refused`, `bad-answer`, `out-of-memory`.
+//!
+//! - `script FATE..` sets the fates of the next transactions, and `failing ERROR` that of every range.
+//! - `other KEY VALUE` puts a value, as another program does. `rival` is another program that takes over node 1's store `shop`.
+//! - `range ..` and `txn ..` ask the etcd. `calls` answers how many transactions and how many ranges were asked.
+//! - `create NAME OWNER` and `open NAME OWNER` begin a program's store.
+//! - `put H WORD`, `load H`, `next C`, `commit`, `confirm`, `finish` and `hear greeted|known|dropped` are calls of its keeper.
+//!   `puts N` and `loads N` are for handlers 1 to N, of which each has ten times its number.
+//! - `noted` answers why the keeper refused last. `fault TEXT` answers the status of a program that ends with the last fault,
+//!   and whether its advice has the text.
+//! - `handlers NAME`, `clients NAME`, `owners NAME`, `state NAME H`, `text NAME OWNER` and `write NAME OWNER TEXT` look without
+//!   a store.
+
+use crate::keeping::keeps;
+use crate::lent::LentEtcd;
+use crate::looking::{looks, read_owner};
+use crate::scripted::{Event, ScriptedEtcd};
+use crate::telling::{tell, tell_done, tell_outcome, tell_pairs, tell_whether};
+use crate::txns::{after_space, read_bytes, read_range, read_txn};
+use scoop_etcd::{Etcd, EtcdError, EtcdStore, OpenError, Owner};
+use scoop_etcd_stores::{EtcdFault, Fate, FatefulKeeper};
+use scoop_lines::{is, next_word};
+use scoop_row_player::words::first;
+use scoop_row_player::{Bad, Subject};
+use std::alloc::Global;
+use std::cell::RefCell;
+
+/// A program's store in an etcd, if it has one.
+#[derive(Drop)]
+pub struct Stores<'a> {
+    etcd: &'a RefCell<ScriptedEtcd>,
+    fate: &'a Fate,
+    keeper: Option<FatefulKeeper<'a, LentEtcd<'a>>>,
+    // The last fault that was answered.
+    fault: Option<EtcdFault>,
+}
+
+fn read_error(word: &[u8]) -> Result<EtcdError, Bad> {
+    match word {
+        b"unreachable" => Ok(EtcdError::Unreachable),
+        b"no-space" => Ok(EtcdError::NoSpace),
+        b"refused" => Ok(EtcdError::Refused),
+        b"bad-answer" => Ok(EtcdError::BadAnswer),
+        b"out-of-memory" => Ok(EtcdError::OutOfMemory),
+        _ => Err(Bad::Words),
+    }
+}
+
+fn read_event(word: &[u8]) -> Result<Event, Bad> {
+    match word {
+        b"answered" => Ok(Event::Answered),
+        b"answer-lost" => Ok(Event::AnswerLost),
+        b"taken-over" => Ok(Event::TakenOver),
+        b"late" => Ok(Event::Late),
+        _ => Ok(Event::Fails(read_error(word)?)),
+    }
+}
+
+// The fates of a line, the last one first.
+fn read_script(alloc: Global, line: &[u8]) -> Result<Vec<Event>, Bad> {
+    let mut script = Vec::new(alloc);
+    let mut rest = line;
+    for _ in 0..line.len() {
+        let Some((word, behind)) = next_word(rest) else {
+            break;
+        };
+        script.push(read_event(word)?)?;
+        rest = behind;
+    }
+    script.reverse();
+    Ok(script)
+}
+
+// Changes the etcd, or counts its calls.
+fn scripts(
+    etcd: &mut ScriptedEtcd,
+    name: &[u8],
+    line: &[u8],
+    answer: &mut Vec<u8>,
+) -> Result<(), Bad> {
+    let alloc = *answer.allocator();
+    match name {
+        b"script" => etcd.script = read_script(alloc, line)?,
+        b"failing" => etcd.failing = Some(read_error(first(line)?.0)?),
+        b"other" => {
+            let (key, rest) = first(line)?;
+            let value = read_bytes(alloc, after_space(rest))?;
+            return tell_done(etcd.put(&read_bytes(alloc, key)?, &value), answer);
+        }
+        b"range" => return tell_pairs(etcd.range(&read_range(alloc, line)?), answer),
+        b"txn" => return tell_outcome(etcd.transact(&read_txn(alloc, line)?), answer),
+        _ => {
+            tell(etcd.transactions, answer)?;
+            return tell(etcd.ranges, answer);
+        }
+    }
+    tell("ok", answer)
+}
+
+impl<'a> Stores<'a> {
+    /// No store over this etcd.
+    pub fn new(etcd: &'a RefCell<ScriptedEtcd>, fate: &'a Fate) -> Stores<'a> {
+        Stores {
+            etcd,
+            fate,
+            keeper: None,
+            fault: None,
+        }
+    }
+
+    // Begins a store, in place of the one before.
+    fn begin(
+        &mut self,
+        opened: Result<EtcdStore<LentEtcd<'a>>, OpenError>,
+        answer: &mut Vec<u8>,
+    ) -> Result<(), Bad> {
+        match opened {
+            Ok(store) => {
+                self.keeper = Some(FatefulKeeper::new(store, self.fate));
+                tell("ok", answer)
+            }
+            Err(error) => {
+                let fault = EtcdFault::from(error);
+                self.fault = Some(fault);
+                tell(fault, answer)
+            }
+        }
+    }
+
+    fn opens(&mut self, name: &[u8], line: &[u8], answer: &mut Vec<u8>) -> Result<(), Bad> {
+        let alloc = *answer.allocator();
+        let (word, line) = first(line)?;
+        let Ok(of) = str::from_utf8(word) else {
+            return Err(Bad::Words);
+        };
+        let (owner, _) = read_owner(line)?;
+        let etcd = LentEtcd(self.etcd);
+        let opened = match name {
+            b"create" => EtcdStore::create(alloc, etcd, of, owner, [7; 16]),
+            _ => EtcdStore::open(alloc, etcd, of, owner, [8; 16]),
+        };
+        self.begin(opened, answer)
+    }
+
+    fn notes(&mut self, name: &[u8], line: &[u8], answer: &mut Vec<u8>) -> Result<(), Bad> {
+        if is(name, "noted") {
+            self.fault = self.fate.fault();
+        }
+        let Some(fault) = self.fault else {
+            return tell("none", answer);
+        };
+        if is(name, "noted") {
+            return tell(fault, answer);
+        }
+        let Ok(part) = str::from_utf8(after_space(line)) else {
+            return Err(Bad::Words);
+        };
+        tell(fault.status(), answer)?;
+        tell_whether(fault.advice().contains(part), answer)
+    }
+}
+
+// Another program takes the store over.
+fn rivals(etcd: &RefCell<ScriptedEtcd>, answer: &mut Vec<u8>) -> Result<(), Bad> {
+    let alloc = *answer.allocator();
+    let opened = EtcdStore::open(alloc, LentEtcd(etcd), "shop", Owner::Node(1), [9; 16]);
+    tell_done(opened, answer)
+}
+
+impl Subject for Stores<'_> {
+    fn does(&mut self, command: &[u8], answer: &mut Vec<u8>) -> Result<(), Bad> {
+        let (name, line) = first(command)?;
+        match name {
+            b"script" | b"failing" | b"other" | b"range" | b"txn" | b"calls" => {
+                match self.etcd.try_borrow_mut() {
+                    Ok(mut etcd) => scripts(&mut etcd, name, line, answer),
+                    Err(_) => Err(Bad::Memory),
+                }
+            }
+            b"create" | b"open" => self.opens(name, line, answer),
+            b"rival" => rivals(self.etcd, answer),
+            b"noted" | b"fault" => self.notes(name, line, answer),
+            b"handlers" | b"clients" | b"owners" | b"state" | b"text" | b"write" => {
+                looks(&mut LentEtcd(self.etcd), name, line, answer)
+            }
+            _ => match &mut self.keeper {
+                Some(keeper) => keeps(keeper, name, line, answer),
+                None => Err(Bad::Words),
+            },
+        }
+    }
+
+    fn shows(&self, _text: &mut Vec<u8>) -> Result<(), Bad> {
+        Ok(())
+    }
+}

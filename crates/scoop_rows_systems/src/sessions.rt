@@ -1,0 +1,239 @@
+//! Rows about the sessions of a client, over a tape of replies.
+//!
+//! - `heard MESSAGE` adds a message to the tape, in the words of `scoop frame`. Each session plays the whole tape.
+//! - `store N` begins with a new store, and with a new journal that fails after N writes.
+//! - `client NUMBER TURNS KIND LINES` runs the client with these lines, each of which takes at most this many turns. The kind
+//!   is `script`, `strict` or `typed`. It answers the client's output and its error, if there is one. `cut NUMBER TURNS KIND`
+//!   runs `client --cut`.
+//! - `progress` answers the progress that came with the error, and `notes WORDS` whether the notes have these words.
+//! - `writes` answers how many writes the journal took, and `journal START` how many of its lines begin so.
+
+use crate::errors::Errors;
+use crate::systems::without_last;
+use crate::text::{add_text, has, says};
+use crate::text_lines::TextLines;
+use scoop_demo::read_message;
+use scoop_driver::NoPause;
+use scoop_frame::encode;
+use scoop_journal::Journal;
+use scoop_keeper::MemoryKeeper;
+use scoop_lines::decimal;
+use scoop_link::TapeLink;
+use scoop_message::ClientId;
+use scoop_message::limits::BUFFER_LEN;
+use scoop_row_player::Bad;
+use scoop_row_player::words::{first, last, number};
+use scoop_runtime::{ClientPlan, Progress, client_cut, client_run};
+use scoop_system::System;
+use std::alloc::Global;
+use std::io;
+use std::io::{Error, ErrorKind, Write};
+
+// Datagrams that a client can send in one session.
+const ROOM: usize = 256;
+
+/// What a client hears and keeps, and what it said at its end.
+#[derive(Drop)]
+pub struct Sessions {
+    heard: Vec<u8>,
+    keeper: MemoryKeeper,
+    written: Written,
+    notes: Vec<u8>,
+    progress: Progress,
+}
+
+// A writer that counts its writes, and fails after a number of them.
+#[derive(Drop)]
+struct Written {
+    text: Vec<u8>,
+    writes: u32,
+    limit: u32,
+}
+
+impl Written {
+    fn new(alloc: Global, limit: u32) -> Written {
+        Written {
+            text: Vec::new(alloc),
+            writes: 0,
+            limit,
+        }
+    }
+}
+
+impl Write for Written {
+    fn write(&mut self, bytes: &[u8]) -> io::Result<usize> {
+        if self.writes >= self.limit {
+            return Err(Error::new(ErrorKind::Other, "full"));
+        }
+        self.writes = self.writes.saturating_add(1);
+        self.text.write_all(bytes)?;
+        Ok(bytes.len())
+    }
+
+    fn flush(&mut self) -> io::Result<()> {
+        Ok(())
+    }
+}
+
+impl Sessions {
+    pub fn new(alloc: Global) -> Sessions {
+        Sessions {
+            heard: Vec::new(alloc),
+            keeper: MemoryKeeper::new(alloc),
+            written: Written::new(alloc, u32::MAX),
+            notes: Vec::new(alloc),
+            progress: Progress::new(),
+        }
+    }
+
+    /// The commands that need no system.
+    pub fn does(&mut self, name: &[u8], line: &[u8], answer: &mut Vec<u8>) -> Result<(), Bad> {
+        match name {
+            b"heard" => {
+                add_text(line, &mut self.heard)?;
+                self.heard.push(b'\n')?;
+                says("ok", answer)
+            }
+            b"store" => {
+                let alloc = *answer.allocator();
+                self.written = Written::new(alloc, number(last(line)?)?);
+                self.keeper = MemoryKeeper::new(alloc);
+                says("ok", answer)
+            }
+            b"notes" => has(&self.notes, line, answer),
+            b"progress" => {
+                write!(answer, "{}", self.progress)?;
+                Ok(())
+            }
+            b"writes" => {
+                write!(answer, "{}", self.written.writes)?;
+                Ok(())
+            }
+            _ => counts(&self.written.text, line, answer),
+        }
+    }
+
+    /// Runs a client.
+    pub fn runs(
+        &mut self,
+        system: &System,
+        line: &[u8],
+        errors: &mut Errors,
+        answer: &mut Vec<u8>,
+    ) -> Result<(), Bad> {
+        let alloc = *answer.allocator();
+        let (plan, line) = plan_of(system, line)?;
+        let mut text = Vec::new(alloc);
+        add_text(line, &mut text)?;
+        let link = tape_of(alloc, &self.heard)?;
+        self.notes.clear();
+        let ended = client_run(
+            alloc,
+            &plan,
+            &mut self.keeper,
+            link,
+            Some(Journal::new(alloc, &mut self.written)),
+            &mut TextLines::new(&text),
+            Vec::new(alloc),
+            Vec::new(alloc),
+            &mut NoPause,
+            answer,
+            &mut self.notes,
+        );
+        match ended {
+            Ok(()) => {
+                without_last(answer);
+                Ok(())
+            }
+            Err(stop) => {
+                self.progress = stop.progress;
+                errors.tells(stop.error, answer)
+            }
+        }
+    }
+
+    /// Cuts the blocks of a client.
+    pub fn cuts(
+        &mut self,
+        system: &System,
+        line: &[u8],
+        errors: &mut Errors,
+        answer: &mut Vec<u8>,
+    ) -> Result<(), Bad> {
+        let alloc = *answer.allocator();
+        let (plan, _) = plan_of(system, line)?;
+        let link = tape_of(alloc, &self.heard)?;
+        self.notes.clear();
+        let ended = client_cut(
+            alloc,
+            &plan,
+            &mut self.keeper,
+            link,
+            Some(Journal::new(alloc, &mut self.written)),
+            Vec::new(alloc),
+            Vec::new(alloc),
+            answer,
+            &mut self.notes,
+        );
+        match ended {
+            Ok(()) => {
+                without_last(answer);
+                Ok(())
+            }
+            Err(error) => errors.tells(error, answer),
+        }
+    }
+}
+
+// A tape with these messages, one a line.
+fn tape_of(alloc: Global, heard: &[u8]) -> Result<TapeLink, Bad> {
+    let mut tape = TapeLink::new(alloc, ROOM)?;
+    for line in heard.split(|byte| *byte == b'\n') {
+        if !line.is_empty() {
+            feeds(alloc, &mut tape, line)?;
+        }
+    }
+    Ok(tape)
+}
+
+// Adds the frame of a message to the tape.
+fn feeds(alloc: Global, tape: &mut TapeLink, line: &[u8]) -> Result<(), Bad> {
+    let Ok((version, message)) = read_message(alloc, line) else {
+        return Err(Bad::Words);
+    };
+    let mut buffer = [0; BUFFER_LEN];
+    let len = encode(version, &message, &mut buffer);
+    tape.feed(&buffer[..len])?;
+    Ok(())
+}
+
+// The client's plan, and what follows it in the row.
+fn plan_of<'s, 'l>(system: &'s System, line: &'l [u8]) -> Result<(ClientPlan<'s>, &'l [u8]), Bad> {
+    let (client, line) = first(line)?;
+    let (turns, line) = first(line)?;
+    let (kind, line) = first(line)?;
+    let place = *system.client(ClientId(number(client)?)).ok_or(Bad::Number)?;
+    let turns = decimal(turns).ok_or(Bad::Number)?;
+    let plan = match kind {
+        b"strict" => ClientPlan::new_strict(system, place, turns, false),
+        b"typed" => ClientPlan::new(system, place, turns, true),
+        _ => ClientPlan::new(system, place, turns, false),
+    };
+    match plan {
+        Ok(plan) => Ok((plan, line)),
+        Err(_) => Err(Bad::Number),
+    }
+}
+
+// Adds how many lines of the text begin so.
+fn counts(text: &[u8], start: &[u8], answer: &mut Vec<u8>) -> Result<(), Bad> {
+    let start = start.strip_prefix(b" ").unwrap_or(start);
+    let mut count = 0u64;
+    for line in text.split(|byte| *byte == b'\n') {
+        if line.starts_with(start) {
+            count = count.saturating_add(1);
+        }
+    }
+    write!(answer, "{count}")?;
+    Ok(())
+}
