@@ -39,13 +39,25 @@ def cases_of(name):
 
 
 def play(case):
-    """Plays a case, and fails if a row of it is wrong."""
+    """Plays a case, and fails if rows of it are wrong."""
+    wrong = []
     with AREAS[case.area]() as subject:
         for row in case.rows:
-            name, _, words = row.command.partition(" ")
-            does = getattr(subject, "do_" + name.replace("-", "_"))
-            same(f"{row.place}: {row.command}", does(words) or "ok", "\n".join(row.wanted or ["ok"]))
+            came, wanted = answer(subject, row), "\n".join(row.wanted or ["ok"])
+            if came != wanted:
+                wrong.append(f"{row.place}: {row.command}\n  wanted: {wanted!r}\n  came:   {came!r}")
+        if wrong:
+            raise AssertionError("\n".join(["wrong rows", *wrong]))
         subject.ends()
+
+
+def answer(subject, row):
+    """The answer to the row's command."""
+    name, _, words = row.command.partition(" ")
+    try:
+        return getattr(subject, "do_" + name.replace("-", "_"))(words) or "ok"
+    except Exception as why:
+        raise AssertionError(f"{row.place}: {row.command}") from why
 
 
 def add_test(case):
