@@ -70,9 +70,10 @@ class Running(System):
         self.times.setdefault(data, time.monotonic())
         return [0]
 
-    def sent(self, *kinds):
-        """When the different datagrams of these kinds came from clients."""
-        return sorted(at for data, at in list(self.times.items()) if frame_of(data).kind in kinds)
+    def sent(self):
+        """The time and kind of each different datagram that came from clients, in order."""
+        sent = ((at, frame_of(data).kind) for data, at in list(self.times.items()))
+        return sorted(it for it in sent if it[1] in (HELLO, LOCK, OPEN, UNLOCK, LOG))
 
     def ends(self):
         """Uses up the node's turns, and checks all that it printed after its first line."""
@@ -116,12 +117,14 @@ class Running(System):
         return f"{reply}\n{told(client.end(rest))}\n{other}"
 
     def do_asked(self, _):
-        return str(len(self.sent(HELLO, LOCK, OPEN, UNLOCK, LOG)))
+        return str(len(self.sent()))
 
     def do_pause(self, words):
         failed, least = map(int, words.split())
-        locks = self.sent(LOCK)
-        return "yes" if (locks[failed] - locks[failed - 1]) * 1_000_000 >= least else "no"
+        sent = self.sent()
+        # Each try locks one handler. What the client sent before that was answered before the pause.
+        place = [place for place, (_, kind) in enumerate(sent) if kind == LOCK][failed]
+        return "yes" if (sent[place][0] - sent[place - 1][0]) * 1_000_000 >= least else "no"
 
     def do_opens(self, kind):
         number = {"node": 1, "client": 7}[kind]
