@@ -65,7 +65,8 @@ def add_test(case):
     def played():
         play(case)
 
-    played.__name__ = re.sub(r"\W+", "_", f"{case.area} {case.name.replace(chr(39), '')}")
+    words = re.findall(r"\w+", f"{case.area} {case.name}".replace("'", ""))
+    played.__name__ = "_".join(words)
     test(played)
 
 
