@@ -9,9 +9,9 @@ import time
 from systems import (HELLO, LOCK, LOG, OPEN, PATIENCE, UNLOCK, Ended, Ran, Relay, System, frame_of, free_ports, holds, run, same,
                      table)
 
-# More polls than a case takes. Datagrams of nobody use them up at its end.
+# More polls than a case takes. At its end the test uses them up by datagrams that the node drops.
 TURNS = "10000"
-# What a party may note on a loaded machine.
+# A note of a party on a loaded machine.
 WAITS = re.compile(r"^scoop: waiting for handlers .*\n(hint: .*\n)?", re.M)
 # The hint about a client's end, before its last line. `RuntimeError::advice` has a clause for its text.
 HINT = re.compile(r"hint: .*\n(scoop: .*\n)\Z")
@@ -122,7 +122,7 @@ class Running(System):
     def do_pause(self, words):
         failed, least = map(int, words.split())
         sent = self.sent()
-        # Each try locks one handler. What the client sent before that was answered before the pause.
+        # Each try locks one handler. The datagram before that was answered before the pause.
         place = [place for place, (_, kind) in enumerate(sent) if kind == LOCK][failed]
         return "yes" if (sent[place][0] - sent[place - 1][0]) * 1_000_000 >= least else "no"
 
