@@ -1,15 +1,16 @@
-//! The handlers of nodes, whose objects hold 0.
+//! The handlers and the numbers that a line names.
 
 ghost use Rattle.std.specs.Prelude.{◌≤◌, IfOk, vec_len};
 ghost use Rattle.scoop_message.specs.declared.limits.TheConstants.{MAX_HANDLERS};
 
 use scoop_classes::DemoClass;
 use scoop_driver::HandlerList;
-use scoop_lines::{decimal_u32, next_word};
+use scoop_lines::{decimal_u32, is, next_word};
 use scoop_message::limits::MAX_HANDLERS;
 use scoop_message::{HandlerId, Words};
 use scoop_object::{Class, Table};
 use scoop_row_player::Bad;
+use scoop_row_player::words::{first, number};
 use std::alloc::Global;
 
 /// Handlers from this number on come with a class that isn't their object's.
@@ -22,31 +23,16 @@ pub fn numbers(line: &[u8]) -> Result<HandlerList, Bad> {
     let mut cells = [HandlerId(0); 4];
     let mut rest = line;
     for place in 0..4usize {
-        let Some((number, behind)) = next_number(rest) else {
+        let Some((word, behind)) = next_word(rest) else {
             return list(&cells[..place]);
         };
-        cells[place] = number;
+        let Some(number) = decimal_u32(word) else {
+            return list(&cells[..place]);
+        };
+        cells[place] = HandlerId(number);
         rest = behind;
     }
     list(&cells)
-}
-
-/// What follows the numbers at the front of a line.
-pub fn after_numbers(line: &[u8]) -> &[u8] {
-    let mut rest = line;
-    for _ in 0..line.len() {
-        let Some((_, behind)) = next_number(rest) else {
-            break;
-        };
-        rest = behind;
-    }
-    rest
-}
-
-fn next_number(line: &[u8]) -> Option<(HandlerId, &[u8])> {
-    let (word, rest) = next_word(line)?;
-    let number = decimal_u32(word)?;
-    Some((HandlerId(number), rest))
 }
 
 /// The list of these handlers.
@@ -55,6 +41,22 @@ pub fn list(handlers: &[HandlerId]) -> Result<HandlerList, Bad> {
         Ok(list) => Ok(list),
         Err(_) => Err(Bad::Words),
     }
+}
+
+/// The number that follows this word in a line, or the other one if the line lacks the word.
+pub fn setting(line: &[u8], name: &str, missing: u32) -> Result<u32, Bad> {
+    let mut rest = line;
+    for _ in 0..line.len() {
+        let Some((word, behind)) = next_word(rest) else {
+            break;
+        };
+        if is(word, name) {
+            let (value, _) = first(behind)?;
+            return number(value);
+        }
+        rest = behind;
+    }
+    Ok(missing)
 }
 
 fn handed(alloc: Global, class: DemoClass, number: HandlerId) -> Result<Handed, Bad> {
