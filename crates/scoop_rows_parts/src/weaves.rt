@@ -7,7 +7,6 @@
 //! - `moves` answers the moves of the last party.
 
 use crate::printing::{message, put_move, put_moves, tells};
-use scoop_lines::is;
 use scoop_message::Message;
 use scoop_row_player::words::first;
 use scoop_row_player::{Bad, Heap, Subject};
@@ -123,7 +122,7 @@ fn traffic(alloc: Global, line: &[u8]) -> Result<Traffic, Bad> {
 
 // The message that a text writes, or none.
 fn written(alloc: Global, text: &[u8]) -> Result<Option<Message>, Bad> {
-    if is(text, "none") {
+    if text.ends_with(b"none") {
         return Ok(None);
     }
     let (_, message) = message(alloc, text)?;
