@@ -10,11 +10,11 @@ use scoop_classes::DemoClass;
 use scoop_free_ports::free_ports;
 use scoop_keeper::{Keeper, MemoryKeeper};
 use scoop_link::{Peers, UdpLink};
-use scoop_message::{ClientId, Words};
-use scoop_object::{Class, Table};
+use scoop_message::{ClientId, HandlerId};
+use scoop_object::Table;
 use scoop_row_player::words::{first, last, number};
 use scoop_row_player::{Bad, Subject};
-use scoop_rows_parts::handlers::setting;
+use scoop_rows_parts::handlers::{STRANGE, handed, setting};
 use scoop_rows_parts::printing::tells;
 use scoop_two_cells::{Objects, Plan, Ports, demo_run};
 use std::alloc::Global;
@@ -33,7 +33,7 @@ pub struct Demos<'r, R> {
 
 impl<R: Threads + Wait + Clock + Net + Sync> Demos<'_, R> {
     fn demonstrates(&mut self, line: &[u8], answer: &mut Vec<u8>) -> Result<(), Bad> {
-        let objects = objects(self.alloc, line)?;
+        let given = objects(self.alloc, line)?;
         let Ok(ports) = free_ports::<R, 5>(self.rt) else {
             return Err(Bad::Memory);
         };
@@ -47,20 +47,25 @@ impl<R: Threads + Wait + Clock + Net + Sync> Demos<'_, R> {
             },
             weaves: setting(line, "weaves", 0)? > 0,
         };
-        let own = Peers {
-            own: nine,
-            table: &[],
-        };
         let taken = if setting(line, "taken", 0)? > 0 {
-            UdpLink::open(self.rt, self.alloc, own).ok()
+            UdpLink::open(
+                self.rt,
+                self.alloc,
+                Peers {
+                    own: nine,
+                    table: &[],
+                },
+            )
+            .ok()
         } else {
             None
         };
-        let (mut progress, mut output) = (Vec::new(self.alloc), Vec::new(self.alloc));
+        let mut progress: Vec<u8> = Vec::new(self.alloc);
+        let mut output: Vec<u8> = Vec::new(self.alloc);
         let ended = demo_run(
             self.rt,
             self.alloc,
-            objects,
+            given,
             &mut self.keeper,
             &plan,
             Some(&mut progress),
@@ -98,31 +103,20 @@ impl<R: Threads + Wait + Clock + Net + Sync> Subject for Demos<'_, R> {
     }
 }
 
-// A class, with an object of another class or of this one.
-fn handed(alloc: Global, class: DemoClass, of: DemoClass) -> Result<(Class, Table), Bad> {
-    let Ok(words) = Words::of(&[0]) else {
-        return Err(Bad::Words);
-    };
-    match Table::new(of.class(alloc)?, words) {
-        Ok(object) => Ok((class.class(alloc)?, object)),
-        Err(_) => Err(Bad::Words),
-    }
-}
-
 fn objects(alloc: Global, line: &[u8]) -> Result<Objects<Table>, Bad> {
-    let of = if setting(line, "other", 0)? > 0 {
-        DemoClass::Account
-    } else {
-        DemoClass::Cell
-    };
+    let is_other = setting(line, "other", 0)? > 0;
+    let second = if is_other { STRANGE } else { 2 };
+    let (_, class, object) = handed(alloc, DemoClass::Cell, HandlerId(1))?;
+    let (_, second_class, second) = handed(alloc, DemoClass::Cell, HandlerId(second))?;
     let account = if setting(line, "account", 0)? > 0 {
-        Some(handed(alloc, DemoClass::Account, DemoClass::Account)?)
+        let (_, class, object) = handed(alloc, DemoClass::Account, HandlerId(3))?;
+        Some((class, object))
     } else {
         None
     };
     Ok(Objects {
-        first: handed(alloc, DemoClass::Cell, DemoClass::Cell)?,
-        second: handed(alloc, DemoClass::Cell, of)?,
+        first: (class, object),
+        second: (second_class, second),
         account,
     })
 }
@@ -130,11 +124,10 @@ fn objects(alloc: Global, line: &[u8]) -> Result<Objects<Table>, Bad> {
 // Adds the lines; of the one that says how many moves were woven, which differs from run to run, only the first word.
 fn tells_lines(output: &[u8], answer: &mut Vec<u8>) -> Result<(), Bad> {
     let text = str::from_utf8(output).unwrap_or("?");
-    let (lines, end) = match text.split_once(": ") {
-        Some((lines, _)) => (lines, ""),
-        None => (text, "\n"),
+    let lines = match text.split_once(": ") {
+        Some((lines, _)) => lines,
+        None => text.strip_suffix("\n").unwrap_or(text),
     };
-    let lines = lines.strip_suffix(end).unwrap_or(lines);
     answer.extend_from_slice(lines.as_bytes())?;
     Ok(())
 }

@@ -114,21 +114,15 @@ impl<'a, R: Threads + Wait + Clock + Sync> Nodes<'a, R> {
         tells(end, answer)
     }
 
-    // A node that isn't closed comes back.
     fn closes(&mut self, answer: &mut Vec<u8>) -> Result<(), Bad> {
         let Some((node, passes)) = self.opened.take() else {
             return Err(Bad::Command);
         };
         match node.close(self.rt, passes) {
-            Ok(closed) => {
-                write!(answer, "{} entries", closed.history.len())?;
-                Ok(())
-            }
-            Err(error) => {
-                self.opened = Some((error.node, error.passes));
-                tells(error.cause, answer)
-            }
+            Ok(closed) => write!(answer, "{} entries", closed.history.len())?,
+            Err(error) => write!(answer, "{}", error.cause)?,
         }
+        Ok(())
     }
 
     fn feeds(&mut self, line: &[u8], answer: &mut Vec<u8>) -> Result<(), Bad> {
@@ -149,8 +143,8 @@ impl<'a, R: Threads + Wait + Clock + Sync> Nodes<'a, R> {
         };
         match name {
             b"hear" => {
-                let (_, message) = message(self.alloc, line)?;
-                put_replied(node.event(self.rt, pass, Event::Hear(message)), answer)
+                let (_, heard) = message(self.alloc, line)?;
+                put_replied(node.event(self.rt, pass, Event::Hear(heard)), answer)
             }
             b"run" => runs(self.rt, node, pass, handler(last(line)?)?, answer),
             b"events" => tells(pass.events().len(), answer),
@@ -194,10 +188,10 @@ fn runs<'a, R: Wait>(
     rt: &R,
     node: &HeapNode<'a>,
     pass: &mut Pass<Heap<'a>>,
-    handler: HandlerId,
+    at: HandlerId,
     answer: &mut Vec<u8>,
 ) -> Result<(), Bad> {
-    let done = match node.begin(rt, pass, handler) {
+    let done = match node.begin(rt, pass, at) {
         Ok(None) => return tells("none", answer),
         Ok(Some(job)) => job.work(),
         Err(error) => return tells(error, answer),

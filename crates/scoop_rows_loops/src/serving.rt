@@ -42,9 +42,9 @@ impl Gate for Shut {
 
 /// Feeds a message's datagram to a tape.
 pub fn feed(tape: &mut TapeLink, alloc: Global, line: &[u8]) -> Result<(), Bad> {
-    let (version, message) = message(alloc, line)?;
+    let (version, heard) = message(alloc, line)?;
     let mut buffer = [0; BUFFER_LEN];
-    let len = encode(version, &message, &mut buffer);
+    let len = encode(version, &heard, &mut buffer);
     tape.feed(buffer.get(..len).unwrap_or(&[]))?;
     Ok(())
 }

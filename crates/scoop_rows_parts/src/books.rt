@@ -22,8 +22,8 @@ use scoop_driver::HandlerList;
 use scoop_handler::{Done, Heard, Ran};
 use scoop_keeper::{FailingKeeper, MemoryKeeper};
 use scoop_lines::{LineBytes, is};
+use scoop_message::Message;
 use scoop_message::limits::BUFFER_LEN;
-use scoop_message::{HandlerId, Message};
 use scoop_netloop::{Answered, answer_datagram, run_out};
 use scoop_object::Table;
 use scoop_row_player::words::{first, last, number};
@@ -107,15 +107,18 @@ impl<'a> Books<'a> {
         };
         match name {
             b"hear" => {
-                let (_, message) = message(alloc, line)?;
-                put_replied(book.step(pass, Event::Hear(message)), answer)
+                let (_, heard) = message(alloc, line)?;
+                put_replied(book.step(pass, Event::Hear(heard)), answer)
             }
             b"begin" => begins(book, &mut self.out, pass, line, answer),
             b"finish" => finishes(book, &mut self.out, pass, answer),
             b"datagram" => answers(book, pass, line, answer),
             b"run" => told(run_out(book, pass, handler(last(line)?)?), answer),
             b"commit" => told(book.commit(), answer),
-            b"word" => tells_word(book, handler(last(line)?)?, answer),
+            b"word" => match book.words(handler(last(line)?)?) {
+                Some(words) => tells(words.get(0).unwrap_or(0), answer),
+                None => tells("none", answer),
+            },
             b"history" => tells(book.history().len(), answer),
             b"entries" => tells_entries(book, answer),
             b"traffic" => tells_traffic(book, alloc, answer),
@@ -217,13 +220,6 @@ fn answers(
         Ok(Answered::RefusedFrame(error)) => tells(error, answer),
         Err(error) => tells(error, answer),
     }
-}
-
-fn tells_word(book: &HeapBook<'_>, handler: HandlerId, answer: &mut Vec<u8>) -> Result<(), Bad> {
-    let Some(words) = book.words(handler) else {
-        return tells("none", answer);
-    };
-    tells(words.get(0).unwrap_or(0), answer)
 }
 
 fn put_entry(entry: &(u32, Event, Reply), answer: &mut Vec<u8>) -> Result<(), Bad> {

@@ -107,11 +107,11 @@ impl<'a> Drivers<'a> {
     }
 
     fn hears(&mut self, line: &[u8], answer: &mut Vec<u8>) -> Result<(), Bad> {
-        let (_, message) = message(self.alloc, line)?;
+        let (_, heard) = message(self.alloc, line)?;
         let Some(book) = self.book.as_mut() else {
             return Err(Bad::Command);
         };
-        put_replied(book.step(0, Event::Hear(message)), answer)
+        put_replied(book.step(0, Event::Hear(heard)), answer)
     }
 
     fn begins(&mut self, heap: Heap<'a>, line: &[u8], answer: &mut Vec<u8>) -> Result<(), Bad> {
@@ -138,13 +138,23 @@ impl<'a> Drivers<'a> {
         };
         match name {
             b"turn" => takes_turn(driver, answer)?,
-            b"reserve" => told(driver.reserve(numbers(line)?.as_slice()), answer)?,
+            b"reserve" => {
+                let handlers = numbers(line)?;
+                told(driver.reserve(handlers.as_slice()), answer)?;
+            }
             b"unless" => reserves_unless(driver, line, answer)?,
             b"log" => logs(driver, line, answer)?,
             b"end" => told(driver.end(), answer)?,
             b"giveup" => told(driver.give_up(), answer)?,
             b"when" => waits(driver, line, answer)?,
-            _ => return reads(driver, name, line, answer),
+            b"due" => return put_message(driver.due(handler(last(line)?)?), answer),
+            b"sent" => return put_frame(driver.link().last(), answer),
+            b"linked" => {
+                let link = driver.link();
+                write!(answer, "{} {}", link.calls(), link.faults())?;
+                return Ok(());
+            }
+            _ => return Err(Bad::Command),
         }
         put_phase(driver, answer)
     }
@@ -246,23 +256,5 @@ fn logs(driver: &mut HeapDriver<'_>, line: &[u8], answer: &mut Vec<u8>) -> Resul
             told(driver.call(at, request), answer)
         }
         Entry::End => Err(Bad::Words),
-    }
-}
-
-fn reads(
-    driver: &HeapDriver<'_>,
-    name: &[u8],
-    line: &[u8],
-    answer: &mut Vec<u8>,
-) -> Result<(), Bad> {
-    let link = driver.link();
-    match name {
-        b"due" => put_message(driver.due(handler(last(line)?)?), answer),
-        b"sent" => put_frame(link.last(), answer),
-        b"linked" => {
-            write!(answer, "{} {}", link.calls(), link.faults())?;
-            Ok(())
-        }
-        _ => Err(Bad::Command),
     }
 }

@@ -14,9 +14,10 @@ use scoop_row_player::words::{first, number};
 use std::alloc::Global;
 
 /// Handlers from this number on come with a class that isn't their object's.
-const STRANGE: u32 = 100;
+pub const STRANGE: u32 = 100;
 
-type Handed = (HandlerId, Class, Table);
+/// A handler with its class and its object.
+pub type Handed = (HandlerId, Class, Table);
 
 /// The numbers at the front of a line, up to four.
 pub fn numbers(line: &[u8]) -> Result<HandlerList, Bad> {
@@ -26,10 +27,10 @@ pub fn numbers(line: &[u8]) -> Result<HandlerList, Bad> {
         let Some((word, behind)) = next_word(rest) else {
             return list(&cells[..place]);
         };
-        let Some(number) = decimal_u32(word) else {
+        let Some(value) = decimal_u32(word) else {
             return list(&cells[..place]);
         };
-        cells[place] = HandlerId(number);
+        cells[place] = HandlerId(value);
         rest = behind;
     }
     list(&cells)
@@ -38,7 +39,7 @@ pub fn numbers(line: &[u8]) -> Result<HandlerList, Bad> {
 /// The list of these handlers.
 pub fn list(handlers: &[HandlerId]) -> Result<HandlerList, Bad> {
     match HandlerList::of(handlers) {
-        Ok(list) => Ok(list),
+        Ok(made) => Ok(made),
         Err(_) => Err(Bad::Words),
     }
 }
@@ -59,29 +60,30 @@ pub fn setting(line: &[u8], name: &str, missing: u32) -> Result<u32, Bad> {
     Ok(missing)
 }
 
-fn handed(alloc: Global, class: DemoClass, number: HandlerId) -> Result<Handed, Bad> {
+/// The handler with an object of this class, which has one word.
+pub fn handed(alloc: Global, class: DemoClass, at: HandlerId) -> Result<Handed, Bad> {
     let Ok(words) = Words::of(&[0]) else {
         return Err(Bad::Words);
     };
     let Ok(object) = Table::new(class.class(alloc)?, words) else {
         return Err(Bad::Words);
     };
-    let class = if number.0 < STRANGE {
+    let class = if at.0 < STRANGE {
         class
     } else {
         DemoClass::Exchange
     };
-    Ok((number, class.class(alloc)?, object))
+    Ok((at, class.class(alloc)?, object))
 }
 
-/// The handlers of these numbers, with objects of one class, whose objects have one word.
-pub fn objects(alloc: Global, class: DemoClass, numbers: &[HandlerId]) -> Result<Vec<Handed>, Bad>
+/// These handlers, with objects of one class, whose objects have one word.
+pub fn objects(alloc: Global, class: DemoClass, named: &[HandlerId]) -> Result<Vec<Handed>, Bad>
     ensures { IfOk result (λ handlers. vec_len handlers ≤ MAX_HANDLERS) }
 {
     let mut handlers = Vec::new(alloc);
-    for number in numbers {
-        let handed = handed(alloc, class, *number)?;
-        handlers.push(handed)?;
+    for at in named {
+        let made = handed(alloc, class, *at)?;
+        handlers.push(made)?;
     }
     if handlers.len() > MAX_HANDLERS {
         return Err(Bad::Words);

@@ -48,7 +48,7 @@ fn part(line: &[u8]) -> Result<(ConditionPart, &[u8]), Bad> {
     let (test, line) = first(line)?;
     let (value, line) = first(line)?;
     let value = u64::from(number(value)?);
-    let Entry::Query(request) = entry(asked)? else {
+    let Entry::Query(query) = entry(asked)? else {
         return Err(Bad::Words);
     };
     let test = match test {
@@ -57,11 +57,11 @@ fn part(line: &[u8]) -> Result<(ConditionPart, &[u8]), Bad> {
         b"is" => Test::Is(value),
         _ => return Err(Bad::Words),
     };
-    let handler = handler(at)?;
+    let at = handler(at)?;
     Ok((
         ConditionPart {
-            handler,
-            request,
+            handler: at,
+            request: query,
             test,
         },
         line,

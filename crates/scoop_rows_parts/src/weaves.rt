@@ -125,8 +125,8 @@ fn written(alloc: Global, text: &[u8]) -> Result<Option<Message>, Bad> {
     if text.ends_with(b"none") {
         return Ok(None);
     }
-    let (_, message) = message(alloc, text)?;
-    Ok(Some(message))
+    let (_, heard) = message(alloc, text)?;
+    Ok(Some(heard))
 }
 
 // Adds a line for each move, with the place of its party.
