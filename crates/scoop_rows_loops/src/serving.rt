@@ -110,16 +110,16 @@ pub fn serves_first<R: Threads + Wait + Clock + Sync>(
         Err(error) => return tells(error, answer),
     };
     let (end, (node, passes)) = serves(rt, heap, opened, &mut tape, turns, false)?;
-    if end == ServeEnd::OutOfMemory {
-        return tells("out of memory", answer);
-    }
     let heard = match passes.first() {
         Some(pass) => pass.events().len(),
         None => 0,
     };
-    match node.close(rt, passes) {
-        Ok(_) => write!(answer, "{end} {heard}")?,
-        Err(error) => write!(answer, "{}", error.cause)?,
+    if let Err(error) = node.close(rt, passes) {
+        return tells(error.cause, answer);
     }
+    if end == ServeEnd::OutOfMemory {
+        return tells("out of memory", answer);
+    }
+    write!(answer, "{end} {heard}")?;
     Ok(())
 }
