@@ -5,7 +5,7 @@
 //! - `serve TURNS` serves the node over the tape, with a thread for each pass but the first, and answers the loop's end.
 //!   `serve TURNS holding` holds replies back until the link is flushed, and `serve TURNS shut` lets no handler pass.
 //! - `first TURNS` opens a node, serves it over a tape with the first five messages of a client, and closes it. Answers the
-//!   loop's end, and how many messages were heard.
+//!   loop's end, how many messages were heard, and whether all were answered.
 
 use crate::nodes::{Opened, Tape, opens};
 use scoop_frame::encode;
@@ -120,6 +120,7 @@ pub fn serves_first<R: Threads + Wait + Clock + Sync>(
     if end == ServeEnd::OutOfMemory {
         return tells("out of memory", answer);
     }
-    write!(answer, "{end} {heard}")?;
+    let answers_all = tape.inner().sent(FIRST.len() - 1).is_some();
+    write!(answer, "{end} {heard} {answers_all}")?;
     Ok(())
 }
