@@ -3,14 +3,13 @@
 //! [`Loops`] has the areas `loops` and `demos`. Each area's module says its commands.
 #![tactic(auto)]
 
-mod closing;
 mod demos;
 mod nodes;
 mod serving;
-mod working;
 
 use demos::Demos;
 use nodes::Nodes;
+use scoop_keeper::MemoryKeeper;
 use scoop_refusing::Refusing;
 use scoop_row_player::{Areas, Bad, Case, Heap, Sheet, play_rows};
 use std::net::Net;
@@ -39,7 +38,16 @@ impl<R: Threads + Wait + Clock + Net + Sync> Areas for Loops<'_, R> {
                 &mut Nodes::new(self.0, alloc, heap, &roomy),
                 sheet,
             )?,
-            "demos" => play_rows(case, heap, &mut Demos::new(self.0, alloc), sheet)?,
+            "demos" => play_rows(
+                case,
+                heap,
+                &mut Demos {
+                    rt: self.0,
+                    alloc,
+                    keeper: MemoryKeeper::new(alloc),
+                },
+                sheet,
+            )?,
             _ => return Ok(false),
         }
         Ok(true)

@@ -1,35 +1,29 @@
 //! Rows about nodes: books that threads share, each thread with a pass.
 //!
-//! - `node PASSES [calls N]` opens a node of accounts 1 and 2. Its keeper takes N calls, and refuses the later ones. `roomy`
-//!   opens it over memory that is never refused, and `limited PASSES` with a history of at most two entries. `again` opens
-//!   it over the keeper of the one before, and `again limited` with such a history.
-//! - `hear PASS MESSAGE`, `begin PASS HANDLER` and `finish PASS` are events; a job that has left is kept for `finish`.
-//!   `events PASS` answers how many the pass has.
-//! - `works N` lets two threads work, each with its pass, client and handler ([`crate::working`]).
-//! - `close` answers how many entries the history has, or the refusal ([`crate::closing`]). `close missing` closes without
-//!   the last pass, and `close strange` with another node's pass in its place.
-//! - `tape ROOM`, `feed MESSAGE`, `serve TURNS`, `sent` and `trials TURNS` are about the loop ([`crate::serving`]).
+//! - `node PASSES [limit N] [calls N]` opens a node of accounts 1 and 2, whose history has at most N entries. Its keeper
+//!   takes N calls, and refuses the later ones. `roomy` opens it over memory that is never refused.
+//! - `hear PASS MESSAGE` answers the event's reply. `run PASS HANDLER` begins an entry of the handler and finishes it, and
+//!   answers the reply to the second event. `events PASS` answers how many events the pass has.
+//! - `tape ROOM`, `feed MESSAGE`, `serve TURNS`, `sent` and `first TURNS` are about the loop ([`crate::serving`]).
+//! - `close` answers how many entries the history has, or the refusal.
 
 ghost use Rattle.std.specs.Prelude.{◌≤◌};
 ghost use Rattle.scoop_message.specs.declared.limits.TheConstants.{MAX_HISTORY};
 
-use crate::closing::{closes, opens_again};
-use crate::serving::{feeds, makes_tape, serves, tells_sent, tries_refusals};
-use crate::working::works;
+use crate::serving::{feed, serves, serves_first, tells_sent};
 use scoop_book::{Event, Node, OpenError, Pass, Reply};
 use scoop_classes::DemoClass;
-use scoop_handler::Done;
 use scoop_keeper::{FailingKeeper, MemoryKeeper};
-use scoop_lines::{is, next_word};
 use scoop_link::{HoldingLink, TapeLink};
 use scoop_message::HandlerId;
 use scoop_message::limits::MAX_HISTORY;
 use scoop_object::Table;
 use scoop_row_player::words::{first, last, number};
 use scoop_row_player::{Bad, Heap, Subject};
-use scoop_rows_parts::handlers::objects;
-use scoop_rows_parts::printing::{handler, message, put_reply, tells};
+use scoop_rows_parts::handlers::{objects, setting};
+use scoop_rows_parts::printing::{handler, message, put_replied, put_reply, tells};
 use std::alloc::Global;
+use std::io::Write;
 use std::sync::Wait;
 use std::thread::Threads;
 use std::time::Clock;
@@ -40,18 +34,13 @@ pub type Kept<'a> = FailingKeeper<MemoryKeeper<Heap<'a>>>;
 /// A node of a row.
 pub type HeapNode<'a> = Node<Table, Kept<'a>, Heap<'a>>;
 
-/// The passes of a node.
-pub type Passes<'a> = Vec<Pass<Heap<'a>>, Heap<'a>>;
-
 /// A node with its passes.
-pub type Opened<'a> = (HeapNode<'a>, Passes<'a>);
+pub type Opened<'a> = (HeapNode<'a>, Vec<Pass<Heap<'a>>, Heap<'a>>);
 
 /// The link of a loop.
 pub type Tape = HoldingLink<TapeLink>;
 
-const HANDLERS: [HandlerId; 2] = [HandlerId(1), HandlerId(2)];
-
-/// A node, its passes, the job that has left, and the link of its loop.
+/// A node, its passes, and the link of its loop.
 #[derive(Drop)]
 pub struct Nodes<'a, R> {
     rt: &'a R,
@@ -59,22 +48,22 @@ pub struct Nodes<'a, R> {
     heap: Heap<'a>,
     roomy: Heap<'a>,
     opened: Option<Opened<'a>>,
-    out: Option<Done<Table>>,
     tape: Option<TapeLink>,
     served: Option<Tape>,
 }
 
-/// A node of accounts 1 and 2 over this keeper, and its passes.
+/// A node of accounts 1 and 2, and its passes.
 pub fn opens<'a>(
     alloc: Global,
     heap: Heap<'a>,
-    keeper: Kept<'a>,
     passes: u32,
     limit: usize,
+    calls: u32,
 ) -> Result<Result<Opened<'a>, OpenError>, Bad>
     requires { limit ≤ MAX_HISTORY }
 {
-    let handlers = objects(alloc, DemoClass::Account, &HANDLERS)?;
+    let handlers = objects(alloc, DemoClass::Account, &[HandlerId(1), HandlerId(2)])?;
+    let keeper = FailingKeeper::new(MemoryKeeper::new(heap), u64::from(calls));
     Ok(Node::open_limited(heap, handlers, keeper, passes, limit))
 }
 
@@ -86,33 +75,19 @@ impl<'a, R: Threads + Wait + Clock + Sync> Nodes<'a, R> {
             heap,
             roomy,
             opened: None,
-            out: None,
             tape: None,
             served: None,
         }
     }
 
-    fn opens(
-        &mut self,
-        heap: Heap<'a>,
-        limit: usize,
-        line: &[u8],
-        answer: &mut Vec<u8>,
-    ) -> Result<(), Bad>
-        requires { limit ≤ MAX_HISTORY }
-    {
+    fn opens(&mut self, heap: Heap<'a>, line: &[u8], answer: &mut Vec<u8>) -> Result<(), Bad> {
         let (passes, line) = first(line)?;
-        let keeper = FailingKeeper::new(MemoryKeeper::new(heap), calls(line)?);
-        let opened = opens(self.alloc, heap, keeper, number(passes)?, limit)?;
-        self.keeps(opened, answer)
-    }
-
-    fn keeps(
-        &mut self,
-        opened: Result<Opened<'a>, OpenError>,
-        answer: &mut Vec<u8>,
-    ) -> Result<(), Bad> {
-        match opened {
+        let mut limit = setting(line, "limit", u32::MAX)? as usize;
+        if limit > MAX_HISTORY {
+            limit = MAX_HISTORY;
+        }
+        let calls = setting(line, "calls", u32::MAX)?;
+        match opens(self.alloc, heap, number(passes)?, limit, calls)? {
             Ok(opened) => {
                 self.opened = Some(opened);
                 tells("ok", answer)
@@ -121,49 +96,41 @@ impl<'a, R: Threads + Wait + Clock + Sync> Nodes<'a, R> {
         }
     }
 
-    // What takes the node away, and gives back a node or none.
-    fn ends(&mut self, name: &[u8], line: &[u8], answer: &mut Vec<u8>) -> Result<(), Bad> {
-        let Some(opened) = self.opened.take() else {
-            return Err(Bad::Command);
-        };
-        if is(name, "again") {
-            let limit = if next_word(line).is_some() {
-                2
-            } else {
-                MAX_HISTORY
-            };
-            let again = opens_again(self.rt, self.alloc, self.roomy, opened, limit)?;
-            return self.keeps(again, answer);
-        }
-        self.opened = match name {
-            b"works" => Some(works(self.rt, opened, number(last(line)?)?, answer)?),
-            b"serve" => Some(self.serves(opened, line, answer)?),
-            _ => closes(self.rt, self.alloc, self.roomy, opened, line, answer)?,
-        };
-        Ok(())
-    }
-
     // Serves the node over the tape, which then is the one that was served.
-    fn serves(
-        &mut self,
-        opened: Opened<'a>,
-        line: &[u8],
-        answer: &mut Vec<u8>,
-    ) -> Result<Opened<'a>, Bad> {
+    fn serves(&mut self, line: &[u8], answer: &mut Vec<u8>) -> Result<(), Bad> {
         let (turns, line) = first(line)?;
         let turns = u64::from(number(turns)?);
-        let (holds, shuts) = match next_word(line) {
-            Some((b"holding", _)) => (true, false),
-            Some((b"shut", _)) => (false, true),
-            _ => (false, false),
-        };
         let Some(tape) = self.tape.take() else {
             return Err(Bad::Command);
         };
-        let mut tape = HoldingLink::new(self.alloc, tape, holds);
-        let served = serves(self.rt, self.roomy, opened, &mut tape, turns, shuts, answer);
+        let Some(opened) = self.opened.take() else {
+            return Err(Bad::Command);
+        };
+        let mut tape = HoldingLink::new(self.alloc, tape, line.ends_with(b"holding"));
+        let shuts = line.ends_with(b"shut");
+        let (end, opened) = serves(self.rt, self.roomy, opened, &mut tape, turns, shuts)?;
         self.served = Some(tape);
-        served
+        self.opened = Some(opened);
+        tells(end, answer)
+    }
+
+    fn closes(&mut self, answer: &mut Vec<u8>) -> Result<(), Bad> {
+        let Some((node, passes)) = self.opened.take() else {
+            return Err(Bad::Command);
+        };
+        match node.close(self.rt, passes) {
+            Ok(closed) => write!(answer, "{} entries", closed.history.len())?,
+            Err(error) => write!(answer, "{}", error.cause)?,
+        }
+        Ok(())
+    }
+
+    fn feeds(&mut self, line: &[u8], answer: &mut Vec<u8>) -> Result<(), Bad> {
+        let Some(tape) = self.tape.as_mut() else {
+            return Err(Bad::Command);
+        };
+        feed(tape, self.alloc, line)?;
+        tells("ok", answer)
     }
 
     fn acts(&mut self, name: &[u8], line: &[u8], answer: &mut Vec<u8>) -> Result<(), Bad> {
@@ -175,9 +142,11 @@ impl<'a, R: Threads + Wait + Clock + Sync> Nodes<'a, R> {
             return Err(Bad::Number);
         };
         match name {
-            b"hear" => hears(self.rt, self.alloc, node, pass, line, answer),
-            b"begin" => begins(self.rt, node, pass, &mut self.out, line, answer),
-            b"finish" => finishes(self.rt, node, pass, &mut self.out, answer),
+            b"hear" => {
+                let (_, heard) = message(self.alloc, line)?;
+                put_replied(node.event(self.rt, pass, Event::Hear(heard)), answer)
+            }
+            b"run" => runs(self.rt, node, pass, handler(last(line)?)?, answer),
             b"events" => tells(pass.events().len(), answer),
             _ => Err(Bad::Command),
         }
@@ -188,17 +157,17 @@ impl<R: Threads + Wait + Clock + Sync> Subject for Nodes<'_, R> {
     fn does(&mut self, command: &[u8], answer: &mut Vec<u8>) -> Result<(), Bad> {
         let (name, line) = first(command)?;
         match name {
-            b"node" => self.opens(self.heap, MAX_HISTORY, line, answer),
-            b"roomy" => self.opens(self.roomy, MAX_HISTORY, line, answer),
-            b"limited" => self.opens(self.roomy, 2, line, answer),
-            b"again" | b"works" | b"serve" | b"close" => self.ends(name, line, answer),
+            b"node" => self.opens(self.heap, line, answer),
+            b"roomy" => self.opens(self.roomy, line, answer),
             b"tape" => {
-                self.tape = Some(makes_tape(self.alloc, line)?);
+                self.tape = Some(TapeLink::new(self.alloc, number(last(line)?)? as usize)?);
                 tells("ok", answer)
             }
-            b"feed" => feeds(&mut self.tape, self.alloc, line, answer),
+            b"feed" => self.feeds(line, answer),
+            b"serve" => self.serves(line, answer),
             b"sent" => tells_sent(&self.served, answer),
-            b"trials" => tries_refusals(self.rt, self.alloc, line, answer),
+            b"first" => serves_first(self.rt, self.alloc, self.heap, line, answer),
+            b"close" => self.closes(answer),
             _ => self.acts(name, line, answer),
         }
     }
@@ -208,71 +177,31 @@ impl<R: Threads + Wait + Clock + Sync> Subject for Nodes<'_, R> {
             return Ok(());
         };
         for pass in passes.as_slice() {
-            tells(pass.events().len(), text)?;
-            text.push(b' ')?;
+            write!(text, "{} ", pass.events().len())?;
         }
         Ok(())
     }
 }
 
-// How many calls a keeper takes.
-fn calls(line: &[u8]) -> Result<u64, Bad> {
-    match next_word(line) {
-        None => Ok(u64::MAX),
-        Some((b"calls", rest)) => Ok(u64::from(number(last(rest)?)?)),
-        Some(_) => Err(Bad::Words),
-    }
-}
-
-fn hears<'a, R: Wait>(
-    rt: &R,
-    alloc: Global,
-    node: &HeapNode<'a>,
-    pass: &mut Pass<Heap<'a>>,
-    line: &[u8],
-    answer: &mut Vec<u8>,
-) -> Result<(), Bad> {
-    let (_, message) = message(alloc, line)?;
-    match node.event(rt, pass, Event::Hear(message)) {
-        Ok(reply) => put_reply(&reply, answer),
-        Err(error) => tells(error, answer),
-    }
-}
-
-fn begins<'a, R: Wait>(
+// Begins an entry and finishes it. A refused finish is tried once more.
+fn runs<'a, R: Wait>(
     rt: &R,
     node: &HeapNode<'a>,
     pass: &mut Pass<Heap<'a>>,
-    out: &mut Option<Done<Table>>,
-    line: &[u8],
+    at: HandlerId,
     answer: &mut Vec<u8>,
 ) -> Result<(), Bad> {
-    match node.begin(rt, pass, handler(last(line)?)?) {
-        Ok(None) => tells("none", answer),
-        Ok(Some(job)) => {
-            let left = (job.block(), job.number());
-            *out = Some(job.work());
-            put_reply(&Reply::Began(Some(left)), answer)
-        }
-        Err(error) => tells(error, answer),
-    }
-}
-
-fn finishes<'a, R: Wait>(
-    rt: &R,
-    node: &HeapNode<'a>,
-    pass: &mut Pass<Heap<'a>>,
-    out: &mut Option<Done<Table>>,
-    answer: &mut Vec<u8>,
-) -> Result<(), Bad> {
-    let Some(done) = out.take() else {
-        return Err(Bad::Command);
+    let done = match node.begin(rt, pass, at) {
+        Ok(None) => return tells("none", answer),
+        Ok(Some(job)) => job.work(),
+        Err(error) => return tells(error, answer),
+    };
+    let done = match node.finish(rt, pass, done) {
+        Ok(ran) => return put_reply(&Reply::Finished(ran), answer),
+        Err(error) => error.done,
     };
     match node.finish(rt, pass, done) {
         Ok(ran) => put_reply(&Reply::Finished(ran), answer),
-        Err(error) => {
-            *out = Some(error.done);
-            tells(error.cause, answer)
-        }
+        Err(error) => tells(error.cause, answer),
     }
 }

@@ -7,31 +7,30 @@
 //!   handlers as they stood, and `fresh` tries so over a keeper that has nothing.
 //! - `pass N` sets the number of the pass of the events that follow.
 //! - `hear MESSAGE`, `begin HANDLER` and `finish` answer the event's reply. A job that has left is kept for `finish`.
-//! - `datagram HEX` answers the handler's note and the frame of its reply.
-//! - `run HANDLER` runs the handler until nothing can run. If memory runs out meanwhile, the book is opened again.
-//! - `idle N HANDLER` begins so often, and answers `none` if nothing can run each time.
+//! - `datagram HEX` answers the handler's note and its reply.
+//! - `run HANDLER` runs the handler until nothing can run.
 //! - `commit`, `word HANDLER`, `history` (its length), `entries` and `traffic` (what its moves hear and send).
 
-use crate::handlers::{after_numbers, list, numbers, objects};
+use crate::handlers::{list, numbers, objects, setting};
 use crate::printing::{
-    handler, message, put_event, put_message, put_moves, put_reply, tells, told,
+    handler, message, put_frame, put_message, put_moves, put_replied, put_reply, tells, told,
 };
-use scoop_book::{Book, BookError, Event, OpenError, Reply};
+use scoop_book::{Book, Event, Reply};
 use scoop_classes::DemoClass;
 use scoop_demo::{MAX_DATAGRAM_LEN, read_datagram};
 use scoop_driver::HandlerList;
-use scoop_frame::decode;
 use scoop_handler::{Done, Heard, Ran};
 use scoop_keeper::{FailingKeeper, MemoryKeeper};
-use scoop_lines::{LineBytes, is, next_word};
+use scoop_lines::{LineBytes, is};
+use scoop_message::Message;
 use scoop_message::limits::BUFFER_LEN;
-use scoop_message::{HandlerId, Message};
 use scoop_netloop::{Answered, answer_datagram, run_out};
 use scoop_object::Table;
 use scoop_row_player::words::{first, last, number};
 use scoop_row_player::{Bad, Heap, Subject};
 use scoop_weaver::Party;
 use std::alloc::Global;
+use std::fmt::Display;
 use std::io::Write;
 
 type Kept<'a> = FailingKeeper<MemoryKeeper<Heap<'a>>>;
@@ -64,17 +63,15 @@ impl<'a> Books<'a> {
     }
 
     fn opens(&mut self, heap: Heap<'a>, line: &[u8], answer: &mut Vec<u8>) -> Result<(), Bad> {
-        let calls = calls(after_numbers(line))?;
+        let keeper = FailingKeeper::new(MemoryKeeper::new(heap), calls(line)?);
         self.numbers = numbers(line)?;
-        let keeper = FailingKeeper::new(MemoryKeeper::new(heap), calls);
         let handlers = objects(self.alloc, DemoClass::Account, self.numbers.as_slice())?;
-        let opened = Book::open(heap, handlers, keeper);
-        self.keeps(opened, answer)
+        self.keeps(Book::open(heap, handlers, keeper), answer)
     }
 
-    fn keeps(
+    fn keeps<E: Display + Drop>(
         &mut self,
-        opened: Result<HeapBook<'a>, OpenError>,
+        opened: Result<HeapBook<'a>, E>,
         answer: &mut Vec<u8>,
     ) -> Result<(), Bad> {
         match opened {
@@ -86,51 +83,21 @@ impl<'a> Books<'a> {
         }
     }
 
-    fn opens_again(&mut self, line: &[u8], answer: &mut Vec<u8>) -> Result<(), Bad> {
-        let calls = calls(line)?;
+    // Opens the handlers over their keeper, or as they stood: over their keeper, or over one that has nothing.
+    fn reopens(&mut self, name: &[u8], line: &[u8], answer: &mut Vec<u8>) -> Result<(), Bad> {
         let handlers = objects(self.alloc, DemoClass::Account, self.numbers.as_slice())?;
         let Some(book) = self.book.take() else {
             return Err(Bad::Command);
         };
-        let keeper = FailingKeeper::new(book.into_keeper().into_inner(), calls);
-        let opened = Book::open(self.roomy, handlers, keeper);
-        self.keeps(opened, answer)
-    }
-
-    // Opens the handlers as they stood: over their keeper, or over one that has nothing.
-    fn reopens(&mut self, is_fresh: bool, answer: &mut Vec<u8>) -> Result<(), Bad> {
-        let handlers = objects(self.alloc, DemoClass::Account, self.numbers.as_slice())?;
-        let Some(book) = self.book.take() else {
-            return Err(Bad::Command);
-        };
+        if is(name, "again") {
+            let keeper = FailingKeeper::new(book.into_keeper().into_inner(), calls(line)?);
+            return self.keeps(Book::open(self.roomy, handlers, keeper), answer);
+        }
         let (mut keeper, stood) = book.into_standing();
-        if is_fresh {
+        if is(name, "fresh") {
             keeper = FailingKeeper::new(MemoryKeeper::new(self.roomy), u64::MAX);
         }
-        match Book::reopen(self.roomy, handlers, keeper, &stood) {
-            Ok(book) => {
-                self.book = Some(book);
-                tells("ok", answer)
-            }
-            Err(error) => tells(error, answer),
-        }
-    }
-
-    fn runs(&mut self, line: &[u8], answer: &mut Vec<u8>) -> Result<(), Bad> {
-        let handler = handler(last(line)?)?;
-        let Some(book) = self.book.as_mut() else {
-            return Err(Bad::Command);
-        };
-        match run_out(book, self.pass, handler) {
-            Err(BookError::OutOfMemory) => {}
-            ran => return told(ran, answer),
-        }
-        self.opens_again(b"", answer)?;
-        answer.clear();
-        match self.book.as_mut() {
-            Some(book) => told(run_out(book, self.pass, handler), answer),
-            None => Err(Bad::Memory),
-        }
+        self.keeps(Book::reopen(self.roomy, handlers, keeper, &stood), answer)
     }
 
     fn acts(&mut self, name: &[u8], line: &[u8], answer: &mut Vec<u8>) -> Result<(), Bad> {
@@ -139,13 +106,19 @@ impl<'a> Books<'a> {
             return Err(Bad::Command);
         };
         match name {
-            b"hear" => hears(book, alloc, pass, line, answer),
+            b"hear" => {
+                let (_, heard) = message(alloc, line)?;
+                put_replied(book.step(pass, Event::Hear(heard)), answer)
+            }
             b"begin" => begins(book, &mut self.out, pass, line, answer),
             b"finish" => finishes(book, &mut self.out, pass, answer),
             b"datagram" => answers(book, pass, line, answer),
-            b"idle" => idles(book, pass, line, answer),
+            b"run" => told(run_out(book, pass, handler(last(line)?)?), answer),
             b"commit" => told(book.commit(), answer),
-            b"word" => tells_word(book, handler(last(line)?)?, answer),
+            b"word" => match book.words(handler(last(line)?)?) {
+                Some(words) => tells(words.get(0).unwrap_or(0), answer),
+                None => tells("none", answer),
+            },
             b"history" => tells(book.history().len(), answer),
             b"entries" => tells_entries(book, answer),
             b"traffic" => tells_traffic(book, alloc, answer),
@@ -160,10 +133,7 @@ impl Subject for Books<'_> {
         match name {
             b"book" => self.opens(self.heap, line, answer),
             b"roomy" => self.opens(self.roomy, line, answer),
-            b"again" => self.opens_again(line, answer),
-            b"stands" => self.reopens(false, answer),
-            b"fresh" => self.reopens(true, answer),
-            b"run" => self.runs(line, answer),
+            b"again" | b"stands" | b"fresh" => self.reopens(name, line, answer),
             b"pass" => {
                 self.pass = number(last(line)?)?;
                 tells("ok", answer)
@@ -172,13 +142,12 @@ impl Subject for Books<'_> {
         }
     }
 
-    // A history only grows, so its length and its last entry tell whether it has changed.
+    // A history only grows, so its length tells whether it has changed.
     fn shows(&self, text: &mut Vec<u8>) -> Result<(), Bad> {
         let Some(book) = &self.book else {
             return Ok(());
         };
         tells(book.history().len(), text)?;
-        tells_last(book, text)?;
         for handler in self.numbers.as_slice() {
             write!(text, " {:?}", book.words(*handler))?;
         }
@@ -188,27 +157,7 @@ impl Subject for Books<'_> {
 
 // How many calls a keeper takes.
 fn calls(line: &[u8]) -> Result<u64, Bad> {
-    let Some((word, rest)) = next_word(line) else {
-        return Ok(u64::MAX);
-    };
-    if !is(word, "calls") {
-        return Err(Bad::Words);
-    }
-    Ok(u64::from(number(last(rest)?)?))
-}
-
-fn hears(
-    book: &mut HeapBook<'_>,
-    alloc: Global,
-    pass: u32,
-    line: &[u8],
-    answer: &mut Vec<u8>,
-) -> Result<(), Bad> {
-    let (_, message) = message(alloc, line)?;
-    match book.step(pass, Event::Hear(message)) {
-        Ok(reply) => put_reply(&reply, answer),
-        Err(error) => tells(error, answer),
-    }
+    Ok(u64::from(setting(line, "calls", u32::MAX)?))
 }
 
 fn begins(
@@ -247,20 +196,6 @@ fn finishes(
     }
 }
 
-// Begins so often, with nothing that can run.
-fn idles(book: &mut HeapBook<'_>, pass: u32, line: &[u8], answer: &mut Vec<u8>) -> Result<(), Bad> {
-    let (times, line) = first(line)?;
-    let handler = handler(last(line)?)?;
-    for _ in 0..number(times)? {
-        match book.begin(pass, handler) {
-            Ok(None) => {}
-            Ok(Some(_)) => return tells("an entry", answer),
-            Err(error) => return tells(error, answer),
-        }
-    }
-    tells("none", answer)
-}
-
 fn answers(
     book: &mut HeapBook<'_>,
     pass: u32,
@@ -278,7 +213,7 @@ fn answers(
     let mut out = [0; BUFFER_LEN];
     match answer_datagram(book, pass, datagram, &mut out) {
         Ok(Answered::Reply(len, note)) => {
-            tells(note, answer)?;
+            write!(answer, "{note}, ")?;
             put_frame(out.get(..len).unwrap_or(&[]), answer)
         }
         Ok(Answered::Silent(note)) => tells(note, answer),
@@ -287,29 +222,13 @@ fn answers(
     }
 }
 
-// Adds the digits of a reply's frame, and its message.
-fn put_frame(frame: &[u8], answer: &mut Vec<u8>) -> Result<(), Bad> {
-    answer.push(b' ')?;
-    for byte in frame {
-        write!(answer, "{byte:02x}")?;
-    }
-    if let Ok((_, message)) = decode(frame) {
-        answer.push(b' ')?;
-        put_message(Some(message), answer)?;
-    }
-    Ok(())
-}
-
-fn tells_word(book: &HeapBook<'_>, handler: HandlerId, answer: &mut Vec<u8>) -> Result<(), Bad> {
-    let Some(words) = book.words(handler) else {
-        return tells("none", answer);
-    };
-    tells(words.get(0).unwrap_or(0), answer)
-}
-
 fn put_entry(entry: &(u32, Event, Reply), answer: &mut Vec<u8>) -> Result<(), Bad> {
     write!(answer, "{} ", entry.0)?;
-    put_event(&entry.1, answer)?;
+    match &entry.1 {
+        Event::Hear(message) => put_message(Some(*message), answer)?,
+        Event::Begin(handler) => write!(answer, "begin {handler}")?,
+        Event::Finish(handler) => write!(answer, "finish {handler}")?,
+    }
     answer.write_all(b": ")?;
     put_reply(&entry.2, answer)
 }
@@ -326,19 +245,6 @@ fn tells_entries(book: &HeapBook<'_>, answer: &mut Vec<u8>) -> Result<(), Bad> {
         }
     }
     Ok(())
-}
-
-// Adds the last entry.
-fn tells_last(book: &HeapBook<'_>, text: &mut Vec<u8>) -> Result<(), Bad> {
-    let mut reader = book.history().reader();
-    let mut last = None;
-    for _ in 0..book.history().len() {
-        last = reader.next_entry();
-    }
-    match last {
-        Some(entry) => put_entry(&entry, text),
-        None => Ok(()),
-    }
 }
 
 fn tells_traffic(book: &HeapBook<'_>, alloc: Global, answer: &mut Vec<u8>) -> Result<(), Bad> {

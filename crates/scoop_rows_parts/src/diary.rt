@@ -1,4 +1,4 @@
-//! A diary that keeps all steps, and counts.
+//! A diary that keeps all steps, and refuses sends.
 
 ghost use Rattle.std.specs.Prelude.{◌<◌, ⊤, Some};
 
@@ -7,20 +7,16 @@ use scoop_driver::{Command, Diary, Received, StepList};
 use scoop_message::OutOfMemory;
 use std::alloc::Allocator;
 
-/// Keeps all steps, counts sent messages and answers, and refuses the sends of every turn after a number of them.
+/// Keeps all steps, and refuses the sends of every turn after a number of them.
 #[derive(Drop)]
-pub struct Counting<A: Allocator> {
+pub struct Sparing<A: Allocator> {
     /// The steps.
     pub list: StepList<A>,
     /// Turns whose sends aren't refused yet.
     pub turns: u32,
-    /// Messages that were due before the sends.
-    pub sends: u32,
-    /// Answers that it was asked to get ready for.
-    pub answers: u32,
 }
 
-impl<A: Allocator> Diary<A> for Counting<A> {
+impl<A: Allocator> Diary<A> for Sparing<A> {
     ghost steps = { λ d. Some d.list.steps };
 
     ghost has_room = { λ d. 0 < d.list.room };
@@ -33,23 +29,15 @@ impl<A: Allocator> Diary<A> for Counting<A> {
         <StepList<A> as Diary<A>>::make_room(&mut self.list)
     }
 
-    fn before_sends(&mut self, client: &Client<A>) -> Result<(), OutOfMemory> {
+    fn before_sends(&mut self, _client: &Client<A>) -> Result<(), OutOfMemory> {
         let Some(left) = self.turns.checked_sub(1) else {
             return Err(OutOfMemory);
         };
         self.turns = left;
-        let mut sends = self.sends;
-        for handler in client.handlers() {
-            if client.due(*handler).is_some() {
-                sends = sends.saturating_add(1);
-            }
-        }
-        self.sends = sends;
         Ok(())
     }
 
     fn before_answer(&mut self) -> Result<(), OutOfMemory> {
-        self.answers = self.answers.saturating_add(1);
         Ok(())
     }
 

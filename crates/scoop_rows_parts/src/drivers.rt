@@ -1,42 +1,36 @@
 //! Rows about drivers: a client over its link to a node.
 //!
-//! - `accounts N` makes a book of accounts 1 to N; `hear MESSAGE` gives it a message. `driver PLAN` and `roomy PLAN` begin
+//! - `accounts N..` makes a book of these accounts; `hear MESSAGE` gives it a message. `driver PLAN` and `roomy PLAN` begin
 //!   client 7, which knows these accounts and whose link leads to the book; `roomy` takes memory that is never refused.
-//!   PLAN is made of `turns N` (of a call), `batch N`, `fail N` (the call of the link that fails), `lose N` and `until N`
-//!   (sends that are lost), `strays N` (datagrams that come first and are no frames) and `keeps N` (turns whose sends the
-//!   diary allows). It takes a call with no turns if PLAN doesn't say.
+//!   PLAN is made of `turns N` (of a call; none if PLAN doesn't say), `batch N`, `keeps N` (turns whose sends the diary
+//!   allows), and what the link does ([`crate::wire`]).
 //! - `turn`, `reserve HANDLER..`, `unless N HANDLER..` (which ends the wait when it is asked the Nth time), `log HANDLER
-//!   ENTRY [TIMES]`, `end` and `giveup` answer the result, and then the client's phase.
-//! - `when TRIES HANDLER LEAST HANDLER ENTRY` waits until the first handler's balance is at least so much, and logs the
-//!   entry. `all`, `reads` and `calls` wait for several parts ([`crate::waiting`]).
-//! - `due HANDLER`, `sent` (the last datagram), `linked` (calls and faults of the link), `counted` (the sends and answers
-//!   that the diary saw), `settle`, `steps` and `traffic`. `replay` answers the phase of a client that makes the diary's
-//!   steps, and what is due to handler 1 then.
+//!   ENTRY [times N]`, `end`, `giveup` and `when` ([`crate::waiting`]) answer the result, and then the client's phase.
+//! - `due HANDLER`, `sent` (the last datagram), `linked` (calls and faults of the link) and `traffic` (what the diary's
+//!   steps hear and send).
 
-use crate::diary::Counting;
-use crate::handlers::{list, numbers, objects};
-use crate::plan::{Plan, read_plan};
-use crate::printing::{handler, message, put_message, put_moves, put_note, put_reply, tells};
-use crate::waiting::{call, waits, waits_all};
+use crate::diary::Sparing;
+use crate::handlers::{list, numbers, objects, setting};
+use crate::printing::{
+    handler, message, put_frame, put_message, put_moves, put_note, put_replied, tells, told,
+};
+use crate::waiting::waits;
 use crate::wire::Wire;
 use scoop_book::{Book, Event};
 use scoop_classes::DemoClass;
-use scoop_client::{Client, ClientError};
-use scoop_demo::tell_frame;
-use scoop_driver::{Driver, DriverError, HandlerList, Interrupt, Received, Step, StepList};
+use scoop_client::Client;
+use scoop_driver::{Driver, HandlerList, Interrupt, StepList};
 use scoop_keeper::MemoryKeeper;
-use scoop_message::{ClientId, Entry, HandlerId, Message};
+use scoop_link::Link;
+use scoop_message::{ClientId, Entry};
 use scoop_model::WorldNote;
 use scoop_netloop::LoopLink;
 use scoop_object::Table;
-use scoop_reserve::ReserveError;
 use scoop_row_player::words::{entry, first, last, number};
 use scoop_row_player::{Bad, Heap, Subject};
-use scoop_weaver::{Party, make_step};
+use scoop_weaver::Party;
 use std::alloc::{Allocator, Global};
 use std::io::Write;
-
-const ONE: HandlerId = HandlerId(1);
 
 const SEVEN: ClientId = ClientId(7);
 
@@ -44,7 +38,7 @@ const SEVEN: ClientId = ClientId(7);
 const MAX_BATCH: u8 = 4;
 
 /// A driver of a row.
-pub type HeapDriver<'a> = Driver<Wire, Counting<Heap<'a>>, Heap<'a>>;
+pub type HeapDriver<'a> = Driver<Wire, Sparing<Heap<'a>>, Heap<'a>>;
 
 /// A driver, or the node that it is to reach.
 #[derive(Drop)]
@@ -113,27 +107,28 @@ impl<'a> Drivers<'a> {
     }
 
     fn hears(&mut self, line: &[u8], answer: &mut Vec<u8>) -> Result<(), Bad> {
-        let (_, message) = message(self.alloc, line)?;
+        let (_, heard) = message(self.alloc, line)?;
         let Some(book) = self.book.as_mut() else {
             return Err(Bad::Command);
         };
-        match book.step(0, Event::Hear(message)) {
-            Ok(reply) => put_reply(&reply, answer),
-            Err(error) => tells(error, answer),
-        }
+        put_replied(book.step(0, Event::Hear(heard)), answer)
     }
 
     fn begins(&mut self, heap: Heap<'a>, line: &[u8], answer: &mut Vec<u8>) -> Result<(), Bad> {
-        let plan = read_plan(line)?;
-        self.batch = plan.batch;
-        let Some(client) = begin(heap, &self.numbers, plan.batch) else {
+        self.batch = u8::try_from(setting(line, "batch", 1)?).unwrap_or(u8::MAX);
+        let turns = u64::from(setting(line, "turns", 0)?);
+        let diary = Sparing {
+            list: StepList::new(heap),
+            turns: setting(line, "keeps", u32::MAX)?,
+        };
+        let Some(client) = begin(heap, &self.numbers, self.batch) else {
             return tells("out of memory", answer);
         };
         let Some(book) = self.book.take() else {
             return Err(Bad::Command);
         };
-        let link = Wire::new(LoopLink::new(self.alloc, book, 0), plan);
-        self.driver = Some(Driver::with_diary(client, link, plan.turns, diary(heap, plan)));
+        let link = Wire::new(LoopLink::new(self.alloc, book, 0), line)?;
+        self.driver = Some(Driver::with_diary(client, link, turns, diary));
         tells("ok", answer)
     }
 
@@ -143,31 +138,25 @@ impl<'a> Drivers<'a> {
         };
         match name {
             b"turn" => takes_turn(driver, answer)?,
-            b"reserve" => reserves(driver, line, answer)?,
+            b"reserve" => {
+                let handlers = numbers(line)?;
+                told(driver.reserve(handlers.as_slice()), answer)?;
+            }
             b"unless" => reserves_unless(driver, line, answer)?,
             b"log" => logs(driver, line, answer)?,
             b"end" => told(driver.end(), answer)?,
             b"giveup" => told(driver.give_up(), answer)?,
             b"when" => waits(driver, line, answer)?,
-            b"all" | b"reads" | b"calls" => waits_all(driver, name, line, answer)?,
-            b"settle" => return crate::printing::told(driver.settle(), answer),
-            _ => return reads(driver, name, line, answer),
+            b"due" => return put_message(driver.due(handler(last(line)?)?), answer),
+            b"sent" => return put_frame(driver.link().last(), answer),
+            b"linked" => {
+                let link = driver.link();
+                write!(answer, "{} {}", link.calls(), link.faults())?;
+                return Ok(());
+            }
+            _ => return Err(Bad::Command),
         }
         put_phase(driver, answer)
-    }
-
-    fn replays(&self, answer: &mut Vec<u8>) -> Result<(), Bad> {
-        let Some(driver) = &self.driver else {
-            return Err(Bad::Command);
-        };
-        let Some(mut client) = begin(self.alloc, &self.numbers, self.batch) else {
-            return Err(Bad::Memory);
-        };
-        for step in driver.diary().list.steps() {
-            make_step(&mut client, step)?;
-        }
-        write!(answer, "{:?} ", client.phase())?;
-        put_message(client.due(ONE), answer)
     }
 
     fn tells_traffic(&self, answer: &mut Vec<u8>) -> Result<(), Bad> {
@@ -190,7 +179,6 @@ impl Subject for Drivers<'_> {
             b"hear" => self.hears(line, answer),
             b"driver" => self.begins(self.heap, line, answer),
             b"roomy" => self.begins(self.roomy, line, answer),
-            b"replay" => self.replays(answer),
             b"traffic" => self.tells_traffic(answer),
             _ => self.acts(name, line, answer),
         }
@@ -203,18 +191,13 @@ impl Subject for Drivers<'_> {
         for handler in self.numbers.as_slice() {
             put_message(driver.due(*handler), text)?;
         }
-        tells_steps(driver, text)?;
-        tells(driver.link().calls(), text)?;
+        write!(
+            text,
+            " {} {}",
+            driver.diary().list.steps().len(),
+            driver.link().calls()
+        )?;
         put_phase(driver, text)
-    }
-}
-
-fn diary(heap: Heap<'_>, plan: Plan) -> Counting<Heap<'_>> {
-    Counting {
-        list: StepList::new(heap),
-        turns: plan.keeps,
-        sends: 0,
-        answers: 0,
     }
 }
 
@@ -226,35 +209,12 @@ fn put_phase(driver: &HeapDriver<'_>, answer: &mut Vec<u8>) -> Result<(), Bad> {
     Ok(())
 }
 
-/// Adds `ok` or the refusal.
-pub fn told<T: Drop>(done: Result<T, DriverError>, answer: &mut Vec<u8>) -> Result<(), Bad> {
-    match done {
-        Ok(_) => tells("ok", answer),
-        Err(error) => tells_refusal(error, answer),
-    }
-}
-
-/// Adds the refusal of a call.
-pub fn tells_refusal(error: DriverError, answer: &mut Vec<u8>) -> Result<(), Bad> {
-    match error {
-        DriverError::Client(ClientError::Reserve(ReserveError::OutOfMemory)) => {
-            tells("out of memory", answer)
-        }
-        _ => tells(error, answer),
-    }
-}
-
 fn takes_turn(driver: &mut HeapDriver<'_>, answer: &mut Vec<u8>) -> Result<(), Bad> {
     match driver.turn() {
         Ok(Some(note)) => put_note(WorldNote::Client(note), answer),
         Ok(None) => tells("none", answer),
-        Err(error) => tells_refusal(error, answer),
+        Err(error) => tells(error, answer),
     }
-}
-
-fn reserves(driver: &mut HeapDriver<'_>, line: &[u8], answer: &mut Vec<u8>) -> Result<(), Bad> {
-    let handlers = numbers(line)?;
-    told(driver.reserve(handlers.as_slice()), answer)
 }
 
 // Answers how often the interrupt was asked, too.
@@ -271,12 +231,13 @@ fn reserves_unless(
     };
     match driver.reserve_unless(handlers.as_slice(), &mut interrupt) {
         Ok(runs) => tells(runs, answer)?,
-        Err(error) => tells_refusal(error, answer)?,
+        Err(error) => tells(error, answer)?,
     }
     write!(answer, " {}", interrupt.asked)?;
     Ok(())
 }
 
+// Logs a query, or a call so often.
 fn logs(driver: &mut HeapDriver<'_>, line: &[u8], answer: &mut Vec<u8>) -> Result<(), Bad> {
     let (at, line) = first(line)?;
     let at = handler(at)?;
@@ -284,88 +245,16 @@ fn logs(driver: &mut HeapDriver<'_>, line: &[u8], answer: &mut Vec<u8>) -> Resul
     match entry(word)? {
         Entry::Query(request) => match driver.query(at, request) {
             Ok(value) => tells(value, answer),
-            Err(error) => tells_refusal(error, answer),
+            Err(error) => tells(error, answer),
         },
-        _ => calls(driver, at, word, times(line)?, answer),
-    }
-}
-
-// Logs a call so often.
-fn calls(
-    driver: &mut HeapDriver<'_>,
-    at: HandlerId,
-    word: &[u8],
-    times: u32,
-    answer: &mut Vec<u8>,
-) -> Result<(), Bad> {
-    for _ in 0..times {
-        if let Err(error) = driver.call(at, call(word)?) {
-            return tells_refusal(error, answer);
+        Entry::Call(request) => {
+            for _ in 1..setting(line, "times", 1)? {
+                if let Err(error) = driver.call(at, request) {
+                    return tells(error, answer);
+                }
+            }
+            told(driver.call(at, request), answer)
         }
+        Entry::End => Err(Bad::Words),
     }
-    tells("ok", answer)
-}
-
-fn times(line: &[u8]) -> Result<u32, Bad> {
-    if line.is_empty() {
-        return Ok(1);
-    }
-    number(last(line)?)
-}
-
-fn reads(
-    driver: &HeapDriver<'_>,
-    name: &[u8],
-    line: &[u8],
-    answer: &mut Vec<u8>,
-) -> Result<(), Bad> {
-    match name {
-        b"due" => put_message(driver.due(handler(last(line)?)?), answer),
-        b"sent" => {
-            tell_frame(driver.link().last(), answer)?;
-            let _end_of_line = answer.pop();
-            Ok(())
-        }
-        b"linked" => {
-            write!(
-                answer,
-                "{} {}",
-                driver.link().calls(),
-                scoop_link::Link::faults(driver.link())
-            )?;
-            Ok(())
-        }
-        b"counted" => {
-            write!(
-                answer,
-                "{} {}",
-                driver.diary().sends,
-                driver.diary().answers
-            )?;
-            Ok(())
-        }
-        b"steps" => tells_steps(driver, answer),
-        _ => Err(Bad::Command),
-    }
-}
-
-fn step_name(step: &Step) -> &'static str {
-    match step {
-        Step::Gave(_) => "gave",
-        Step::Turned(Received::Nothing) => "nothing",
-        Step::Turned(Received::Frame(_, _)) => "frame",
-        Step::Turned(Received::NoFrame(_)) => "stray",
-        Step::Turned(Received::Fault) => "fault",
-        Step::Broke(_) => "broke",
-    }
-}
-
-// Adds the kind of each step.
-fn tells_steps(driver: &HeapDriver<'_>, answer: &mut Vec<u8>) -> Result<(), Bad> {
-    let mut gap = "";
-    for step in driver.diary().list.steps() {
-        write!(answer, "{gap}{}", step_name(step))?;
-        gap = " ";
-    }
-    Ok(())
 }

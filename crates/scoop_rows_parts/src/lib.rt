@@ -1,14 +1,12 @@
 //! Rows about the parts of nodes and clients: books, drivers, orders of moves.
 //!
-//! [`Parts`] has the areas `books`, `drivers`, `paintings` and `weaves`. Each area's module says its commands.
+//! [`Parts`] has the areas `books`, `drivers` and `weaves`. Each area's module says its commands.
 #![tactic(auto)]
 
 mod books;
 mod diary;
 mod drivers;
 pub mod handlers;
-mod painting;
-mod plan;
 pub mod printing;
 mod waiting;
 mod weaves;
@@ -16,7 +14,6 @@ mod wire;
 
 use books::Books;
 use drivers::Drivers;
-use painting::Paintings;
 use scoop_refusing::Refusing;
 use scoop_row_player::{Areas, Bad, Case, Heap, Sheet, play_rows};
 use weaves::Weaves;
@@ -38,7 +35,6 @@ impl Areas for Parts {
         match area {
             "books" => play_rows(case, heap, &mut Books::new(alloc, heap, &roomy)?, sheet)?,
             "drivers" => play_rows(case, heap, &mut Drivers::new(alloc, heap, &roomy)?, sheet)?,
-            "paintings" => play_rows(case, heap, &mut Paintings { alloc }, sheet)?,
             "weaves" => play_rows(case, heap, &mut Weaves::new(alloc, heap), sheet)?,
             _ => return Ok(false),
         }

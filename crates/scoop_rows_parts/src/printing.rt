@@ -4,10 +4,9 @@ ghost use Rattle.std.specs.Prelude.{IfOk};
 ghost use Rattle.scoop_message.specs.Message.{Fits};
 ghost use Rattle.scoop_frame.specs.Version.{Carries};
 
-use scoop_book::{Event, Reply};
-use scoop_demo::{print_message, print_note, read_message};
+use scoop_book::Reply;
+use scoop_demo::{print_message, print_note, read_message, tell_frame};
 use scoop_frame::Version;
-use scoop_handler::Heard;
 use scoop_message::{HandlerId, Message};
 use scoop_model::WorldNote;
 use scoop_row_player::Bad;
@@ -59,6 +58,13 @@ pub fn put_message(message: Option<Message>, answer: &mut Vec<u8>) -> Result<(),
     Ok(())
 }
 
+/// Adds the message of a datagram in words, with its version if that isn't the first.
+pub fn put_frame(datagram: &[u8], answer: &mut Vec<u8>) -> Result<(), Bad> {
+    tell_frame(datagram, answer)?;
+    let _end_of_line = answer.pop();
+    Ok(())
+}
+
 /// Adds a note, as `scoop world` prints it.
 pub fn put_note(note: WorldNote, answer: &mut Vec<u8>) -> Result<(), Bad> {
     print_note(&note, None, answer)?;
@@ -66,20 +72,17 @@ pub fn put_note(note: WorldNote, answer: &mut Vec<u8>) -> Result<(), Bad> {
     Ok(())
 }
 
-// Adds a handler's note and its reply.
-fn put_heard(heard: &Heard, answer: &mut Vec<u8>) -> Result<(), Bad> {
-    put_note(WorldNote::Handler(heard.note, None), answer)?;
-    if let Some(reply) = heard.reply {
-        answer.write_all(b", ")?;
-        put_message(Some(reply), answer)?;
-    }
-    Ok(())
-}
-
-/// Adds the reply to an event.
+/// Adds the reply to an event: a handler's note and its message, or the entry that left or ran.
 pub fn put_reply(reply: &Reply, answer: &mut Vec<u8>) -> Result<(), Bad> {
     match reply {
-        Reply::Heard(heard) => put_heard(heard, answer),
+        Reply::Heard(heard) => {
+            write!(answer, "{}", heard.note)?;
+            if let Some(reply) = heard.reply {
+                answer.write_all(b", ")?;
+                put_message(Some(reply), answer)?;
+            }
+            Ok(())
+        }
         Reply::Began(None) => tells("none", answer),
         Reply::Began(Some((block, number))) => put_note(WorldNote::Began(*block, *number), answer),
         Reply::Finished(ran) => {
@@ -91,14 +94,15 @@ pub fn put_reply(reply: &Reply, answer: &mut Vec<u8>) -> Result<(), Bad> {
     }
 }
 
-/// Adds an event.
-pub fn put_event(event: &Event, answer: &mut Vec<u8>) -> Result<(), Bad> {
-    match event {
-        Event::Hear(message) => put_message(Some(*message), answer)?,
-        Event::Begin(handler) => write!(answer, "begin {handler}")?,
-        Event::Finish(handler) => write!(answer, "finish {handler}")?,
+/// Adds the reply to an event, or the refusal.
+pub fn put_replied<E: Display + Drop>(
+    done: Result<Reply, E>,
+    answer: &mut Vec<u8>,
+) -> Result<(), Bad> {
+    match done {
+        Ok(reply) => put_reply(&reply, answer),
+        Err(error) => tells(error, answer),
     }
-    Ok(())
 }
 
 /// Adds what a move hears and sends.

@@ -1,20 +1,16 @@
 //! Waits of drivers, over handler 1.
 //!
-//! - `when TRIES HANDLER LEAST HANDLER ENTRY` ([`crate::drivers`]).
-//! - `all TRIES PART..` waits for parts, each of which is `HANDLER:OP:TEST:NUMBER`: the handler's answer to the operation
-//!   with argument 1 is `least`, `most` or `is` the number. `reads TRIES AMOUNT PART..` has a body, which reads the balance
-//!   before and after a deposit. `calls TRIES HANDLER PART..` has a body of two deposits, the second at this handler. All
-//!   answer the result, the answers of the body, and the sum of the numbers of failed tries at which it paused.
+//! - `when TRIES AMOUNT HANDLER PART..` waits for parts, each of which is `HANDLER ENTRY TEST NUMBER`: the handler's answer
+//!   to the query is `least`, `most` or `is` the number. The body reads the balance of handler 1, deposits the amount
+//!   there, and reads the balance of the handler. Answers the result, both balances, and the sum of the numbers of failed
+//!   tries at which it paused.
 
-ghost use Rattle.std.specs.Prelude.{◌≤◌};
-
-use crate::drivers::{HeapDriver, tells_refusal};
+use crate::drivers::HeapDriver;
 use crate::printing::{handler, tells};
-use scoop_driver::{BodyEntry, Condition, ConditionPart, DriverError, Pause, Test};
-use scoop_lines::{decimal, decimal_u16, is, next_word};
+use scoop_driver::{BodyEntry, ConditionPart, Pause, Test};
 use scoop_message::{Answer, Args, Entry, HandlerId, Request};
 use scoop_row_player::Bad;
-use scoop_row_player::words::{entry, first, last, number};
+use scoop_row_player::words::{entry, first, number};
 use std::alloc::Global;
 use std::io::Write;
 
@@ -45,159 +41,68 @@ fn request(op: u16, argument: u64) -> Result<Request, Bad> {
     }
 }
 
-/// The request of a call.
-pub fn call(word: &[u8]) -> Result<Request, Bad> {
-    match entry(word)? {
-        Entry::Call(request) => Ok(request),
-        _ => Err(Bad::Words),
-    }
-}
-
-/// Waits for one condition.
-pub fn waits(driver: &mut HeapDriver<'_>, line: &[u8], answer: &mut Vec<u8>) -> Result<(), Bad> {
-    let (tries, line) = first(line)?;
-    let (asked, line) = first(line)?;
-    let (least, line) = first(line)?;
+// The first part of a line, and what follows it.
+fn part(line: &[u8]) -> Result<(ConditionPart, &[u8]), Bad> {
     let (at, line) = first(line)?;
-    let condition = Condition {
-        handler: handler(asked)?,
-        request: request(BALANCE, 0)?,
-        least: u64::from(number(least)?),
+    let (asked, line) = first(line)?;
+    let (test, line) = first(line)?;
+    let (value, line) = first(line)?;
+    let value = u64::from(number(value)?);
+    let Entry::Query(query) = entry(asked)? else {
+        return Err(Bad::Words);
     };
-    let body = [(handler(at)?, call(last(line)?)?)];
-    let tries = number(tries)?.max(1);
-    told(driver.when(&[ONE], condition, &body, tries), answer)
-}
-
-fn told(done: Result<u32, DriverError>, answer: &mut Vec<u8>) -> Result<(), Bad> {
-    match done {
-        Ok(block) => tells(block, answer),
-        Err(error) => tells_refusal(error, answer),
-    }
-}
-
-fn test(name: &[u8], value: u64) -> Result<Test, Bad> {
-    match name {
-        b"least" => Ok(Test::Least(value)),
-        b"most" => Ok(Test::Most(value)),
-        b"is" => Ok(Test::Is(value)),
-        _ => Err(Bad::Words),
-    }
-}
-
-// The next part of a word, up to a colon.
-fn field<'w>(word: &mut &'w [u8]) -> &'w [u8] {
-    let all = *word;
-    match all.iter().position(|byte| *byte == b':') {
-        Some(place) => {
-            *word = &all[place + 1..];
-            &all[..place]
-        }
-        None => {
-            *word = &[];
-            all
-        }
-    }
-}
-
-fn part(word: &[u8]) -> Result<ConditionPart, Bad> {
-    let mut rest = word;
-    let handler = handler(field(&mut rest))?;
-    let op = decimal_u16(field(&mut rest)).ok_or(Bad::Number)?;
-    let name = field(&mut rest);
-    let value = decimal(rest).ok_or(Bad::Number)?;
-    Ok(ConditionPart {
-        handler,
-        request: request(op, 1)?,
-        test: test(name, value)?,
-    })
+    let test = match test {
+        b"least" => Test::Least(value),
+        b"most" => Test::Most(value),
+        b"is" => Test::Is(value),
+        _ => return Err(Bad::Words),
+    };
+    let at = handler(at)?;
+    Ok((
+        ConditionPart {
+            handler: at,
+            request: query,
+            test,
+        },
+        line,
+    ))
 }
 
 fn parts(alloc: Global, line: &[u8]) -> Result<Vec<ConditionPart>, Bad> {
-    let mut parts = Vec::new(alloc);
+    let mut all = Vec::new(alloc);
     let mut rest = line;
     for _ in 0..line.len() {
-        let Some((word, behind)) = next_word(rest) else {
+        if rest.is_empty() {
             break;
-        };
-        let part = part(word)?;
-        parts.push(part)?;
+        }
+        let (next, behind) = part(rest)?;
+        all.push(next)?;
         rest = behind;
     }
-    Ok(parts)
+    Ok(all)
 }
 
 /// Waits for a condition of several parts.
-pub fn waits_all(
-    driver: &mut HeapDriver<'_>,
-    name: &[u8],
-    line: &[u8],
-    answer: &mut Vec<u8>,
-) -> Result<(), Bad> {
+pub fn waits(driver: &mut HeapDriver<'_>, line: &[u8], answer: &mut Vec<u8>) -> Result<(), Bad> {
     let (tries, line) = first(line)?;
-    let tries = number(tries)?.max(1);
-    let mut sum = Sum(0);
-    if is(name, "all") {
-        let parts = parts(*answer.allocator(), line)?;
-        told(
-            driver.when_all(&[ONE], &parts, &[], &mut [], tries, &mut sum),
-            answer,
-        )?;
-    } else {
-        let (value, line) = first(line)?;
-        let (value, parts) = (number(value)?, parts(*answer.allocator(), line)?);
-        if is(name, "reads") {
-            reads(driver, tries, value, &parts, &mut sum, answer)?;
-        } else {
-            calls(driver, tries, HandlerId(value), &parts, &mut sum, answer)?;
-        }
-    }
-    write!(answer, " pauses {}", sum.0)?;
-    Ok(())
-}
-
-fn reads(
-    driver: &mut HeapDriver<'_>,
-    tries: u32,
-    amount: u32,
-    parts: &[ConditionPart],
-    sum: &mut Sum,
-    answer: &mut Vec<u8>,
-) -> Result<(), Bad>
-    requires { 1 ≤ tries }
-{
+    let (amount, line) = first(line)?;
+    let (at, line) = first(line)?;
+    let condition = parts(*answer.allocator(), line)?;
     let body = [
         BodyEntry::Query(ONE, request(BALANCE, 0)?),
-        BodyEntry::Call(ONE, request(DEPOSIT, u64::from(amount))?),
-        BodyEntry::Query(ONE, request(BALANCE, 0)?),
+        BodyEntry::Call(ONE, request(DEPOSIT, u64::from(number(amount)?))?),
+        BodyEntry::Query(handler(at)?, request(BALANCE, 0)?),
     ];
+    let tries = number(tries)?;
+    if tries < 1 {
+        return Err(Bad::Number);
+    }
     let mut answers = [Answer::Refused; 2];
-    told(
-        driver.when_all(&[ONE], parts, &body, &mut answers, tries, sum),
-        answer,
-    )?;
-    for value in answers {
-        write!(answer, " {value}")?;
+    let mut sum = Sum(0);
+    match driver.when_all(&[ONE], &condition, &body, &mut answers, tries, &mut sum) {
+        Ok(block) => tells(block, answer)?,
+        Err(error) => tells(error, answer)?,
     }
+    write!(answer, " {} {} pauses {}", answers[0], answers[1], sum.0)?;
     Ok(())
-}
-
-fn calls(
-    driver: &mut HeapDriver<'_>,
-    tries: u32,
-    at: HandlerId,
-    parts: &[ConditionPart],
-    sum: &mut Sum,
-    answer: &mut Vec<u8>,
-) -> Result<(), Bad>
-    requires { 1 ≤ tries }
-{
-    let body = [
-        BodyEntry::Call(ONE, request(DEPOSIT, 1)?),
-        BodyEntry::Call(at, request(DEPOSIT, 1)?),
-    ];
-    told(
-        driver.when_all(&[ONE], parts, &body, &mut [], tries, sum),
-        answer,
-    )
 }

@@ -1,7 +1,8 @@
 //! Rows about orders of the moves of several parties.
 //!
-//! - `hears MESSAGE`, `sends MESSAGE`, `answers MESSAGE / MESSAGE` and `silent` add a move. `party` makes a party of the
-//!   moves since the last one. `anew` adds the last party's moves to those of the one before, which began anew.
+//! - `move HEARD / SENT` adds a move that hears and sends these messages, of which each may be `none`. `party` makes a
+//!   party of the moves since the last one. `anew` adds the last party's moves to those of the one before, which began
+//!   anew.
 //! - `weave` answers an order, a line for each move with the place of its party, or why there is none.
 //! - `moves` answers the moves of the last party.
 
@@ -33,10 +34,11 @@ impl<'a> Weaves<'a> {
         }
     }
 
-    fn gathers(&mut self, traffic: Traffic, answer: &mut Vec<u8>) -> Result<(), Bad> {
+    fn gathers(&mut self, line: &[u8], answer: &mut Vec<u8>) -> Result<(), Bad> {
         // Names a type that is held here, for the prover.
         let _part: Option<Message> = None;
-        match self.moves.push(traffic) {
+        let next = traffic(self.alloc, line)?;
+        match self.moves.push(next) {
             Ok(()) => tells("ok", answer),
             Err(_) => tells("out of memory", answer),
         }
@@ -80,6 +82,7 @@ impl Subject for Weaves<'_> {
     fn does(&mut self, command: &[u8], answer: &mut Vec<u8>) -> Result<(), Bad> {
         let (name, line) = first(command)?;
         match name {
+            b"move" => self.gathers(line, answer),
             b"party" => self.makes_party(answer),
             b"anew" => self.begins_anew(answer),
             b"weave" => self.weaves(answer),
@@ -87,7 +90,7 @@ impl Subject for Weaves<'_> {
                 Some(party) => put_moves(party, answer),
                 None => Err(Bad::Command),
             },
-            _ => self.gathers(traffic(self.alloc, name, line)?, answer),
+            _ => Err(Bad::Command),
         }
     }
 
@@ -104,49 +107,35 @@ impl Subject for Weaves<'_> {
 }
 
 // The move that a line writes.
-fn traffic(alloc: Global, name: &[u8], line: &[u8]) -> Result<Traffic, Bad> {
-    let (heard, sent) = match name {
-        b"silent" => (None, None),
-        b"hears" => (Some(line), None),
-        b"sends" => (None, Some(line)),
-        b"answers" => parted(line)?,
-        _ => return Err(Bad::Command),
-    };
-    Ok(Traffic {
-        heard: written(alloc, heard)?,
-        sent: written(alloc, sent)?,
-    })
-}
-
-// The lines before and after ` / `.
-fn parted(line: &[u8]) -> Result<(Option<&[u8]>, Option<&[u8]>), Bad> {
+fn traffic(alloc: Global, line: &[u8]) -> Result<Traffic, Bad> {
     let Ok(text) = str::from_utf8(line) else {
         return Err(Bad::Words);
     };
-    match text.split_once(" / ") {
-        Some((heard, sent)) => Ok((Some(heard.as_bytes()), Some(sent.as_bytes()))),
-        None => Err(Bad::Words),
-    }
+    let Some((heard, sent)) = text.split_once(" / ") else {
+        return Err(Bad::Words);
+    };
+    Ok(Traffic {
+        heard: written(alloc, heard.as_bytes())?,
+        sent: written(alloc, sent.as_bytes())?,
+    })
 }
 
-fn written(alloc: Global, line: Option<&[u8]>) -> Result<Option<Message>, Bad> {
-    let Some(line) = line else {
+// The message that a text writes, or none.
+fn written(alloc: Global, text: &[u8]) -> Result<Option<Message>, Bad> {
+    if text.ends_with(b"none") {
         return Ok(None);
-    };
-    let (_, message) = message(alloc, line)?;
-    Ok(Some(message))
+    }
+    let (_, heard) = message(alloc, text)?;
+    Ok(Some(heard))
 }
 
 // Adds a line for each move, with the place of its party.
 fn put_order(order: &[(usize, Traffic)], answer: &mut Vec<u8>) -> Result<(), Bad> {
-    let mut first = true;
+    let mut end = "";
     for (party, traffic) in order {
-        if !first {
-            answer.push(b'\n')?;
-        }
-        first = false;
-        write!(answer, "{party} ")?;
+        write!(answer, "{end}{party} ")?;
         put_move(traffic, answer)?;
+        end = "\n";
     }
     Ok(())
 }

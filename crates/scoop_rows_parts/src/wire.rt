@@ -1,20 +1,28 @@
 //! A link to a book that answers at once, with faults that a row plans.
+//!
+//! - `fail N` is the call of the link that fails. `lose N` and `until N` are the first and the last send that is lost.
+//!   `strays N` datagrams that are no frames come first.
 
 ghost use Rattle.std.specs.Prelude.{◌≡◌, ◌+◌, None, IsTrue, IsFalse};
 
-use crate::plan::Plan;
+use crate::handlers::setting;
 use scoop_keeper::MemoryKeeper;
 use scoop_link::{Datagram, Link, LinkFault, Party};
 use scoop_message::limits::BUFFER_LEN;
 use scoop_netloop::LoopLink;
 use scoop_object::Table;
+use scoop_row_player::Bad;
 
 /// A link over another one. A planned call of it fails, and it loses planned sends. It keeps the last datagram that was
 /// sent.
 #[derive(Drop)]
 pub struct Wire {
     node: LoopLink<Table, MemoryKeeper>,
-    plan: Plan,
+    // The call that fails, counted from 1; 0 if none does.
+    fail: u32,
+    lose: u32,
+    until: u32,
+    strays: u32,
     calls: u32,
     sends: u32,
     faults: u64,
@@ -22,15 +30,19 @@ pub struct Wire {
 }
 
 impl Wire {
-    pub fn new(node: LoopLink<Table, MemoryKeeper>, plan: Plan) -> Wire {
-        Wire {
+    /// A link with the faults that a line plans.
+    pub fn new(node: LoopLink<Table, MemoryKeeper>, line: &[u8]) -> Result<Wire, Bad> {
+        Ok(Wire {
             node,
-            plan,
+            fail: setting(line, "fail", 0)?,
+            lose: setting(line, "lose", 0)?,
+            until: setting(line, "until", 0)?,
+            strays: setting(line, "strays", 0)?,
             calls: 0,
             sends: 0,
             faults: 0,
             last: None,
-        }
+        })
     }
 
     /// How often it was called.
@@ -52,15 +64,11 @@ impl Wire {
         ensures none { IsFalse result → self.new.faults ≡ self.old.faults }
     {
         self.calls = self.calls.saturating_add(1);
-        if self.calls != self.plan.fail || self.faults == u64::MAX {
+        if self.calls != self.fail || self.faults == u64::MAX {
             return false;
         }
         self.faults += 1;
         true
-    }
-
-    fn loses(&self) -> bool {
-        self.plan.lose <= self.sends && self.sends <= self.plan.until
     }
 }
 
@@ -75,7 +83,7 @@ impl Link for Wire {
         }
         self.sends = self.sends.saturating_add(1);
         self.last = Some(Datagram::of(bytes));
-        if self.loses() {
+        if self.lose <= self.sends && self.sends <= self.until {
             return Ok(());
         }
         // It never fails.
@@ -87,8 +95,8 @@ impl Link for Wire {
         if self.fails() {
             return Err(LinkFault);
         }
-        if self.plan.strays > 0 {
-            self.plan.strays -= 1;
+        if self.strays > 0 {
+            self.strays -= 1;
             return Ok(Some(Datagram::of(&[5, 5, 5]).write_to(buffer)));
         }
         match self.node.receive(buffer) {
