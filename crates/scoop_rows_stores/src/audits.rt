@@ -1,6 +1,7 @@
 //! Rows about audits of journals.
 //!
-//! - `system FILE` reads the system's file.
+//! The system's file is `audit-system.toml`.
+//!
 //! - `journal FILE` adds a journal with the lines of a file, and `journal` an empty one.
 //! - `text TEXT` adds a text to the last journal, in which `\n` stands for a newline.
 //! - `change FIRST LAST TEXT` puts a text in the place of lines, counted from 1.
@@ -16,14 +17,15 @@ use scoop_lines::{is, is_blank, two_words};
 use scoop_row_player::words::{first, number};
 use scoop_row_player::{Bad, Subject};
 use scoop_system::System;
+use std::fs;
 use std::io::Write;
-use std::str;
 
-/// A system, and journals of its parties.
+const SYSTEM: &str = "audit-system.toml";
+
+/// Journals of parties of the system.
 #[derive(Drop)]
 pub struct Audits<'a> {
     rt: &'a HostRuntime,
-    system: Option<System>,
     journals: Vec<Vec<u8>>,
 }
 
@@ -31,36 +33,15 @@ impl<'a> Audits<'a> {
     pub fn new(rt: &'a HostRuntime) -> Audits<'a> {
         Audits {
             rt,
-            system: None,
             journals: Vec::new(rt.alloc()),
-        }
-    }
-
-    fn reads(&mut self, name: &[u8], line: &[u8]) -> Result<(), Bad> {
-        let mut text = Vec::new(self.rt.alloc());
-        if !is_blank(line) {
-            files(self.rt, b"read", line, &mut text)?;
-        }
-        if is(name, "journal") {
-            self.journals.push(text)?;
-            return Ok(());
-        }
-        let Ok(text) = str::from_utf8(&text) else {
-            return Err(Bad::Words);
-        };
-        match System::read(self.rt.alloc(), text) {
-            Ok(system) => {
-                self.system = Some(system);
-                Ok(())
-            }
-            Err(_) => Err(Bad::Words),
         }
     }
 
     fn audits(&self, name: &[u8], line: &[u8], answer: &mut Vec<u8>) -> Result<(), Bad> {
         let alloc = self.rt.alloc();
-        let Some(system) = &self.system else {
-            return Err(Bad::Command);
+        let text = fs::read_to_string(self.rt, SYSTEM)?;
+        let Ok(system) = System::read(alloc, text.as_str()) else {
+            return Err(Bad::Words);
         };
         let mut journals = Vec::new(alloc);
         for text in &self.journals {
@@ -69,10 +50,10 @@ impl<'a> Audits<'a> {
             })?;
         }
         let is_charted = is(name, "chart");
-        match audit(alloc, system, &journals, is_charted) {
+        match audit(alloc, &system, &journals, is_charted) {
             Ok(run) => {
                 if is_charted {
-                    return draws(system, &run, line, answer);
+                    return draws(&system, &run, line, answer);
                 }
                 print_explained(alloc, &run, true, answer)?;
                 answer.pop();
@@ -87,7 +68,13 @@ impl Subject for Audits<'_> {
     fn does(&mut self, command: &[u8], answer: &mut Vec<u8>) -> Result<(), Bad> {
         let (name, line) = first(command)?;
         match name {
-            b"system" | b"journal" => self.reads(name, line)?,
+            b"journal" => {
+                let mut text = Vec::new(self.rt.alloc());
+                if !is_blank(line) {
+                    files(self.rt, b"read", line, &mut text)?;
+                }
+                self.journals.push(text)?;
+            }
             b"text" | b"change" => match self.journals.last_mut() {
                 Some(journal) => edits(journal, name, line)?,
                 None => return Err(Bad::Command),

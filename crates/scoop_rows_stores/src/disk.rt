@@ -54,7 +54,6 @@ pub fn files(rt: &HostRuntime, name: &[u8], line: &[u8], answer: &mut Vec<u8>) -
     }
 }
 
-/// Adds `ok` or `refused`.
-pub fn done(value: io::Result<()>, answer: &mut Vec<u8>) -> Result<(), Bad> {
+fn done(value: io::Result<()>, answer: &mut Vec<u8>) -> Result<(), Bad> {
     says(if value.is_ok() { "ok" } else { "refused" }, answer)
 }

@@ -6,18 +6,17 @@
 //!   anything. `close` closes what is open. A store whose name is lost is closed as `lost`.
 //! - The commands of any keeper. `times COUNT COMMAND` gives it one of them that often, up to the first answer but `ok`.
 //! - `lost` answers whether the store counts as lost. `watch` watches over its name, and `named` answers whether it has it.
-//! - `mark HANDLER BLOCK` brings the text beside the store up to date with a mark, and answers whether it is. `replace TEXT`
-//!   puts another text in its place.
+//! - `mark HANDLER BLOCK` brings the text beside the store up to date with a mark, and answers whether it is.
 //! - `sleep MILLISECONDS`; `start`, and `stays TEXT`: whether the text beside the store is this one, or a second has gone by
 //!   since the start.
 //! - `append SYNC FILE TEXT` opens the journal of node 1 in a file and appends a line. With `syncs` as SYNC it waits for the
 //!   disk. `hold FILE` opens the journal and keeps it open.
 
-use crate::disk::{add_text, done, files, path};
+use crate::disk::{add_text, files, path};
 use crate::keeping::{keeps, says};
 use scoop_files::{
     FileError, FiledStore, NameWatch, NamedKeeper, StoreName, adopt_for, close_named, create_after,
-    replace_text, update_marks,
+    update_marks,
 };
 use scoop_journal::{Journal, JournalFile, Owner, read};
 use scoop_keeper::{FailingKeeper, MemoryKeeper};
@@ -209,7 +208,6 @@ fn does_beside(
     match name {
         b"append" => appends(rt, line, answer),
         b"mark" => marks(rt, line, answer),
-        b"replace" => replaces(rt, line, answer),
         b"sleep" => {
             let time = Duration::from_millis(u64::from(number(last(line)?)?));
             thread::sleep(rt, time);
@@ -244,13 +242,4 @@ fn marks(rt: &HostRuntime, line: &[u8], answer: &mut Vec<u8>) -> Result<(), Bad>
         block: block(mark)?,
     };
     says(update_marks(rt, TEXT, &[newest]), answer)
-}
-
-fn replaces(rt: &HostRuntime, line: &[u8], answer: &mut Vec<u8>) -> Result<(), Bad> {
-    let mut bytes = Vec::new(rt.alloc());
-    add_text(line, &mut bytes)?;
-    match str::from_utf8(&bytes) {
-        Ok(text) => done(replace_text(rt, TEXT, text), answer),
-        Err(_) => Err(Bad::Words),
-    }
 }

@@ -18,7 +18,8 @@ use sqlite::{Alter, Connection, Files, Options};
 use sqlite_disk::{Crash, Disk, Fuse, Memory};
 use std::alloc::Global;
 
-type Stopped = Fuse<Memory>;
+/// The log and the database file, in memory. Each stops after a number of calls.
+type Both = Files<Fuse<Memory>>;
 
 /// More calls than an opening and a call make.
 const MAX_CALLS: u64 = 400;
@@ -60,15 +61,11 @@ impl Stops {
 
     fn stops(&self, line: &[u8], answer: &mut Vec<u8>) -> Result<(), Bad> {
         let (part, commands) = first(line)?;
-        let options = if is(part, "log") {
-            Options::new(1)
-        } else {
+        let mut options = Options::new(1);
+        if !is(part, "log") {
             // a checkpoint where a transaction first writes to a log that isn't empty
-            Options {
-                checkpoint_frames: 1,
-                ..Options::new(1)
-            }
-        };
+            options.checkpoint_frames = 1;
+        }
         let trial = Trial {
             stops_log: !is(part, "file"),
             options,
@@ -77,7 +74,15 @@ impl Stops {
         };
         let mut found = Vec::new(*answer.allocator());
         let is_kept = stopped_after(&self.before, &trial, &mut found)?;
-        tells(&found, is_kept, answer)
+        for state in &found {
+            answer.extend_from_slice(state)?;
+            answer.push(b'\n')?;
+        }
+        answer.pop();
+        if !is_kept {
+            answer.extend_from_slice(b"\nnever stopped, never done, or lost")?;
+        }
+        Ok(())
     }
 }
 
@@ -100,7 +105,7 @@ impl Subject for Stops {
 }
 
 // A file with these bytes that takes this many calls.
-fn file(alloc: Global, bytes: &[u8], calls: u64) -> Result<Stopped, Bad> {
+fn file(alloc: Global, bytes: &[u8], calls: u64) -> Result<Fuse<Memory>, Bad> {
     let mut file = Memory::new(alloc);
     if file.write_at(0, bytes).is_ok() && file.sync().is_ok() {
         Ok(Fuse::new(file, calls))
@@ -109,18 +114,8 @@ fn file(alloc: Global, bytes: &[u8], calls: u64) -> Result<Stopped, Bad> {
     }
 }
 
-// Files with the same bytes, of which the log or the database takes this many calls.
-fn copy_of(
-    alloc: Global,
-    files: &Files<Stopped>,
-    stops_log: bool,
-    calls: u64,
-) -> Result<Files<Stopped>, Bad> {
-    let (log, db) = if stops_log {
-        (calls, u64::MAX)
-    } else {
-        (u64::MAX, calls)
-    };
+// Files with the same bytes that take this many calls.
+fn copy_of(alloc: Global, files: &Both, log: u64, db: u64) -> Result<Both, Bad> {
     Ok(Files {
         log: file(alloc, files.log.inner().bytes(), log)?,
         db: file(alloc, files.db.inner().bytes(), db)?,
@@ -129,17 +124,11 @@ fn copy_of(
 
 // Gives commands to the database in files, and adds their answers. The files after them, if they open, and none of the
 // commands finds the connection dropped.
-fn given(
-    alloc: Global,
-    files: Files<Stopped>,
-    options: Options,
-    commands: &[u8],
-    answers: &mut Vec<u8>,
-) -> Option<Files<Stopped>> {
+fn given(files: Both, options: Options, commands: &[u8], answers: &mut Vec<u8>) -> Option<Both> {
     if !files.may_be_used() {
         return None;
     }
-    match Connection::open_files(alloc, files, options) {
+    match Connection::open_files(*answers.allocator(), files, options) {
         Ok(connection) => match given_to(connection, commands, answers) {
             Some(medium) => Some(medium.close()),
             None => None,
@@ -172,15 +161,11 @@ fn gives<S: Subject>(subject: &mut S, commands: &[u8], answers: &mut Vec<u8>) ->
 }
 
 // Adds the state of the files to those that were found, if it is a new one. Returns whether it is the newest.
-fn finds(
-    alloc: Global,
-    files: &Files<Stopped>,
-    checks: &[u8],
-    found: &mut Vec<Vec<u8>>,
-) -> Result<bool, Bad> {
-    let copy = copy_of(alloc, files, true, u64::MAX)?;
+fn finds(files: &Both, checks: &[u8], found: &mut Vec<Vec<u8>>) -> Result<bool, Bad> {
+    let alloc = *found.allocator();
+    let copy = copy_of(alloc, files, u64::MAX, u64::MAX)?;
     let mut state = Vec::new(alloc);
-    if given(alloc, copy, Options::new(1), checks, &mut state).is_none() {
+    if given(copy, Options::new(1), checks, &mut state).is_none() {
         state.extend_from_slice(b" unopened")?;
     }
     for (place, known) in found.iter().enumerate() {
@@ -193,54 +178,46 @@ fn finds(
 }
 
 // The same of the files as they were written, and as a crash leaves them.
-fn finds_both(
-    alloc: Global,
-    mut files: Files<Stopped>,
-    checks: &[u8],
-    found: &mut Vec<Vec<u8>>,
-) -> Result<bool, Bad> {
-    let written = finds(alloc, &files, checks, found);
+fn finds_both(mut files: Both, checks: &[u8], found: &mut Vec<Vec<u8>>) -> Result<bool, Bad> {
+    let written = finds(&files, checks, found);
     files.log.crash();
     files.db.crash();
-    let left = finds(alloc, &files, checks, found);
+    let left = finds(&files, checks, found);
     Ok(written? && left?)
 }
 
 // Stops the trial after this number of calls, and adds the states that it leaves.
 fn stopped_at(
-    alloc: Global,
-    files: &Files<Stopped>,
+    files: &Both,
     trial: &Trial<'_>,
     calls: u64,
     found: &mut Vec<Vec<u8>>,
 ) -> Result<Ended, Bad> {
-    let copy = copy_of(alloc, files, trial.stops_log, calls)?;
+    let alloc = *found.allocator();
+    let copy = if trial.stops_log {
+        copy_of(alloc, files, calls, u64::MAX)?
+    } else {
+        copy_of(alloc, files, u64::MAX, calls)?
+    };
     let mut answers = Vec::new(alloc);
-    match given(alloc, copy, trial.options, trial.commands, &mut answers) {
-        Some(left) => {
-            let is_newest = finds_both(alloc, left, trial.checks, found)?;
-            if answers.ends_with(b"Refused") {
-                Ok(Ended::Refused)
-            } else {
-                Ok(Ended::Done(is_newest))
-            }
-        }
-        None => Ok(Ended::Before),
+    let Some(left) = given(copy, trial.options, trial.commands, &mut answers) else {
+        return Ok(Ended::Before);
+    };
+    let is_newest = finds_both(left, trial.checks, found)?;
+    if answers.ends_with(b"Refused") {
+        Ok(Ended::Refused)
+    } else {
+        Ok(Ended::Done(is_newest))
     }
 }
 
 // Stops the trial at each call in turn, up to where it is done. Returns whether it was stopped before, and what it does is
 // kept.
-fn stopped_in_turn(
-    alloc: Global,
-    files: &Files<Stopped>,
-    trial: &Trial<'_>,
-    found: &mut Vec<Vec<u8>>,
-) -> Result<bool, Bad> {
-    finds(alloc, files, trial.checks, found)?;
+fn stopped(files: &Both, trial: &Trial<'_>, found: &mut Vec<Vec<u8>>) -> Result<bool, Bad> {
+    finds(files, trial.checks, found)?;
     let mut is_stopped = false;
     for calls in 0..MAX_CALLS {
-        match stopped_at(alloc, files, trial, calls, found)? {
+        match stopped_at(files, trial, calls, found)? {
             Ended::Before => {}
             Ended::Refused => is_stopped = true,
             Ended::Done(is_newest) => return Ok(is_stopped && is_newest),
@@ -257,25 +234,11 @@ fn stopped_after(before: &[u8], trial: &Trial<'_>, found: &mut Vec<Vec<u8>>) -> 
         db: file(alloc, &[], u64::MAX)?,
     };
     if before.is_empty() {
-        return stopped_in_turn(alloc, &blank, trial, found);
+        return stopped(&blank, trial, found);
     }
     let mut answers = Vec::new(alloc);
-    match given(alloc, blank, Options::new(1), before, &mut answers) {
-        Some(files) => stopped_in_turn(alloc, &files, trial, found),
+    match given(blank, Options::new(1), before, &mut answers) {
+        Some(files) => stopped(&files, trial, found),
         None => Err(Bad::Words),
     }
-}
-
-// Adds the states. It is wrong if the call was never stopped or never done, or what it did isn't the newest of them.
-fn tells(found: &[Vec<u8>], is_kept: bool, answer: &mut Vec<u8>) -> Result<(), Bad> {
-    for (place, state) in found.iter().enumerate() {
-        if place > 0 {
-            answer.push(b'\n')?;
-        }
-        answer.extend_from_slice(state)?;
-    }
-    if !is_kept {
-        answer.extend_from_slice(b"\nnever stopped, never done, or lost")?;
-    }
-    Ok(())
 }
