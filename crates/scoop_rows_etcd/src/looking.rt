@@ -2,7 +2,7 @@
 
 use crate::keeping::tell_word;
 use crate::scripted::LentEtcd;
-use crate::telling::{tell, tell_bytes};
+use crate::telling::{tell, tell_bytes, tell_whether};
 use crate::txns::{after_space, read_bytes};
 use scoop_etcd::{EtcdError, Owner};
 use scoop_etcd_stores::{
@@ -38,21 +38,11 @@ fn tell_listed<T: Debug + Drop>(
     }
 }
 
-// The handler's state, and before it whether there is one.
-fn tell_state(
-    etcd: &mut LentEtcd<'_>,
-    of: &str,
-    line: &[u8],
-    answer: &mut Vec<u8>,
-) -> Result<(), Bad> {
-    let alloc = *answer.allocator();
-    let handler = HandlerId(number(last(line)?)?);
-    match has_state(alloc, etcd, of, handler) {
-        Ok(true) => tell("stored", answer)?,
-        Ok(false) => {}
-        Err(error) => tell(error, answer)?,
+fn tell_has(has: Result<bool, EtcdError>, answer: &mut Vec<u8>) -> Result<(), Bad> {
+    match has {
+        Ok(has) => tell_whether(has, answer),
+        Err(error) => tell(error, answer),
     }
-    tell_word(state_under(alloc, etcd, of, handler), answer)
 }
 
 fn tell_text(
@@ -98,7 +88,14 @@ pub fn looks(
         b"handlers" => tell_listed(handlers_in(alloc, etcd, of), answer),
         b"clients" => tell_listed(clients_in(alloc, etcd, of), answer),
         b"owners" => tell_listed(owners_in(alloc, etcd, of), answer),
-        b"state" => tell_state(etcd, of, line, answer),
+        b"has" => tell_has(
+            has_state(alloc, etcd, of, HandlerId(number(last(line)?)?)),
+            answer,
+        ),
+        b"state" => tell_word(
+            state_under(alloc, etcd, of, HandlerId(number(last(line)?)?)),
+            answer,
+        ),
         b"text" => tell_text(etcd, of, line, answer),
         _ => writes(etcd, of, line, answer),
     }

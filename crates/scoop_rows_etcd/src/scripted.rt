@@ -27,7 +27,7 @@ pub struct ScriptedEtcd {
     alloc: Global,
     revision: u64,
     pairs: Vec<Pair>,
-    /// The fates of the next transactions, the last one first. All after them are answered.
+    /// The fates of the next transactions. All after them are answered.
     pub script: Vec<Event>,
     /// Why every range fails, if it does.
     pub failing: Option<EtcdError>,
@@ -164,7 +164,11 @@ impl ScriptedEtcd {
 
     pub fn transact(&mut self, txn: &Txn) -> Result<Outcome, EtcdError> {
         self.transactions = self.transactions.wrapping_add(1);
-        let event = self.script.pop().unwrap_or(Event::Answered);
+        let event = if self.script.is_empty() {
+            Event::Answered
+        } else {
+            self.script.remove(0)
+        };
         match event {
             Event::Fails(error) => return Err(error),
             Event::TakenOver => self.other(OWNER, b"another")?,

@@ -1,24 +1,24 @@
 //! Rows of stores in an etcd. An OWNER is `node N` or `client C`, and a FATE is `answered`, `answer-lost`, `taken-over`, `late`
 //! or an ERROR: `unreachable`, `no-space`, `refused`, `bad-answer`, `out-of-memory`.
 //!
-//! - `script FATE..` sets the fates of the next transactions, and `failing ERROR` that of every range.
+//! - `script FATE` adds the fate of a next transaction, and `failing ERROR` sets that of every range.
 //! - `other KEY VALUE` puts a value, as another program does. `rival` is another program that takes over node 1's store `shop`.
 //! - `range ..` and `txn ..` ask the etcd. `calls` answers how many transactions and how many ranges were asked.
 //! - `create NAME OWNER` and `open NAME OWNER` begin a program's store.
 //! - `put H WORD`, `load H`, `next C`, `commit`, `confirm`, `finish` and `hear greeted|known|dropped` are calls of its keeper.
 //! - `noted` answers why the keeper refused last. `fault TEXT` answers the status of a program that ends with the last fault,
 //!   and whether its advice has the text.
-//! - `handlers NAME`, `clients NAME`, `owners NAME`, `state NAME H`, `text NAME OWNER` and `write NAME OWNER TEXT` look without
-//!   a store.
+//! - `handlers NAME`, `clients NAME`, `owners NAME`, `has NAME H`, `state NAME H`, `text NAME OWNER` and `write NAME OWNER TEXT`
+//!   look without a store.
 
 use crate::keeping::keeps;
 use crate::looking::{looks, read_owner};
 use crate::scripted::{Event, LentEtcd, ScriptedEtcd};
 use crate::telling::{tell, tell_done, tell_outcome, tell_pairs, tell_whether};
 use crate::txns::{after_space, read_bytes, read_range, read_txn};
-use scoop_etcd::{Etcd, EtcdError, EtcdStore, Owner};
+use scoop_etcd::{EtcdError, EtcdStore, Owner};
 use scoop_etcd_stores::{EtcdFault, Fate, FatefulKeeper};
-use scoop_lines::{is, next_word};
+use scoop_lines::is;
 use scoop_row_player::words::{first, last};
 use scoop_row_player::{Bad, Subject};
 use std::cell::RefCell;
@@ -48,20 +48,6 @@ fn read_event(word: &[u8]) -> Result<Event, Bad> {
     }
 }
 
-// Sets the fates of a line, the last one first.
-fn sets_script(etcd: &mut ScriptedEtcd, line: &[u8]) -> Result<(), Bad> {
-    let mut rest = line;
-    for _ in 0..line.len() {
-        let Some((word, behind)) = next_word(rest) else {
-            break;
-        };
-        etcd.script.push(read_event(word)?)?;
-        rest = behind;
-    }
-    etcd.script.reverse();
-    Ok(())
-}
-
 // Changes the etcd, or counts its calls.
 fn scripts(
     etcd: &mut ScriptedEtcd,
@@ -71,7 +57,7 @@ fn scripts(
 ) -> Result<(), Bad> {
     let alloc = *answer.allocator();
     match name {
-        b"script" => sets_script(etcd, line)?,
+        b"script" => etcd.script.push(read_event(last(line)?)?)?,
         b"failing" => match read_event(last(line)?)? {
             Event::Fails(error) => etcd.failing = Some(error),
             _ => return Err(Bad::Words),
@@ -166,7 +152,7 @@ impl Subject for Stores<'_> {
             b"create" | b"open" => self.opens(name, line, answer),
             b"rival" => rivals(self.etcd, answer),
             b"noted" | b"fault" => self.notes(name, line, answer),
-            b"handlers" | b"clients" | b"owners" | b"state" | b"text" | b"write" => {
+            b"handlers" | b"clients" | b"owners" | b"has" | b"state" | b"text" | b"write" => {
                 looks(&mut LentEtcd(self.etcd), name, line, answer)
             }
             _ => match &mut self.keeper {
