@@ -2,9 +2,9 @@
 //! or an ERROR: `unreachable`, `no-space`, `refused`, `bad-answer`, `out-of-memory`.
 //!
 //! - `script FATE` adds the fate of a next transaction, and `failing ERROR` sets that of every range.
-//! - `other KEY VALUE` puts a value, as another program does. `rival` is another program that takes over node 1's store `shop`.
+//! - `other KEY VALUE` puts a value, as another program does.
 //! - `range ..` and `txn ..` ask the etcd. `calls` answers how many transactions and how many ranges were asked.
-//! - `create NAME OWNER` and `open NAME OWNER` begin a program's store.
+//! - `create NAME OWNER` and `open NAME OWNER` begin a program's store. `rival NAME OWNER` opens it as another program.
 //! - `put H WORD`, `load H`, `next C`, `commit`, `confirm`, `finish` and `hear greeted|known|dropped` are calls of its keeper.
 //! - `noted` answers why the keeper refused last. `fault TEXT` answers the status of a program that ends with the last fault,
 //!   and whether its advice has the text.
@@ -14,9 +14,9 @@
 use crate::keeping::keeps;
 use crate::looking::{looks, read_owner};
 use crate::scripted::{Event, LentEtcd, ScriptedEtcd};
-use crate::telling::{tell, tell_done, tell_outcome, tell_pairs, tell_whether};
+use crate::telling::{tell, tell_outcome, tell_pairs, tell_whether};
 use crate::txns::{after_space, read_bytes, read_range, read_txn};
-use scoop_etcd::{EtcdError, EtcdStore, Owner};
+use scoop_etcd::{EtcdError, EtcdStore};
 use scoop_etcd_stores::{EtcdFault, Fate, FatefulKeeper};
 use scoop_lines::is;
 use scoop_row_player::words::{first, last};
@@ -99,11 +99,14 @@ impl<'a> Stores<'a> {
         let etcd = LentEtcd(self.etcd);
         let opened = match name {
             b"create" => EtcdStore::create(alloc, etcd, of, owner, [7; 16]),
-            _ => EtcdStore::open(alloc, etcd, of, owner, [8; 16]),
+            b"open" => EtcdStore::open(alloc, etcd, of, owner, [8; 16]),
+            _ => EtcdStore::open(alloc, etcd, of, owner, [9; 16]),
         };
         match opened {
             Ok(store) => {
-                self.keeper = Some(FatefulKeeper::new(store, self.fate));
+                if !is(name, "rival") {
+                    self.keeper = Some(FatefulKeeper::new(store, self.fate));
+                }
                 tell("ok", answer)
             }
             Err(error) => {
@@ -132,13 +135,6 @@ impl<'a> Stores<'a> {
     }
 }
 
-// Another program takes the store over.
-fn rivals(etcd: &RefCell<ScriptedEtcd>, answer: &mut Vec<u8>) -> Result<(), Bad> {
-    let alloc = *answer.allocator();
-    let opened = EtcdStore::open(alloc, LentEtcd(etcd), "shop", Owner::Node(1), [9; 16]);
-    tell_done(opened, answer)
-}
-
 impl Subject for Stores<'_> {
     fn does(&mut self, command: &[u8], answer: &mut Vec<u8>) -> Result<(), Bad> {
         let (name, line) = first(command)?;
@@ -149,8 +145,7 @@ impl Subject for Stores<'_> {
                     Err(_) => Err(Bad::Memory),
                 }
             }
-            b"create" | b"open" => self.opens(name, line, answer),
-            b"rival" => rivals(self.etcd, answer),
+            b"create" | b"open" | b"rival" => self.opens(name, line, answer),
             b"noted" | b"fault" => self.notes(name, line, answer),
             b"handlers" | b"clients" | b"owners" | b"has" | b"state" | b"text" | b"write" => {
                 looks(&mut LentEtcd(self.etcd), name, line, answer)

@@ -3,14 +3,13 @@
 //! - `image HANDLER IMAGE / ENTRIES` reads both blobs. The state that they are has to be written as the same bytes.
 //! - `old HANDLER BYTES` reads an image of version 1, and answers the blobs of version 2.
 //! - The commands of any keeper.
-//! - `from CLIENT INC` begins anew, with this incarnation of the client.
 //! - `fails CALLS` takes the keeper from under the one for tests, and lets a new one pass on this number of calls.
 
 use crate::bytes::{add_bytes, put_blobs, put_state, read_blobs};
-use crate::keeping::{done, keeps, says};
-use scoop_keeper::{FailingKeeper, KeeperError, MemoryKeeper};
-use scoop_lines::{decimal, two_words};
-use scoop_message::{ClientId, HandlerId};
+use crate::keeping::{keeps, says};
+use scoop_keeper::{FailingKeeper, MemoryKeeper};
+use scoop_lines::decimal;
+use scoop_message::HandlerId;
 use scoop_record::{read_image, read_image_with_entries};
 use scoop_row_player::words::{first, last, number};
 use scoop_row_player::{Bad, Heap, Subject};
@@ -37,18 +36,6 @@ impl<'a> Keepers<'a> {
         self.keeper = FailingKeeper::new(keeper, calls);
         says("ok", answer)
     }
-
-    fn begin(&mut self, line: &[u8], answer: &mut Vec<u8>) -> Result<(), Bad> {
-        let (client, inc) = two_words(line).ok_or(Bad::Words)?;
-        let keeper = MemoryKeeper::new(self.heap);
-        match keeper.with_incarnation(ClientId(number(client)?), number(inc)?) {
-            Ok(keeper) => {
-                self.keeper = FailingKeeper::new(keeper, u64::MAX);
-                says("ok", answer)
-            }
-            Err(_) => done(Err(KeeperError::OutOfMemory), answer),
-        }
-    }
 }
 
 impl Subject for Keepers<'_> {
@@ -57,7 +44,6 @@ impl Subject for Keepers<'_> {
         match name {
             b"image" => reads(self.heap, line, answer),
             b"old" => reads_old(self.heap, line, answer),
-            b"from" => self.begin(line, answer),
             b"fails" => self.limit(decimal(last(line)?).ok_or(Bad::Number)?, answer),
             _ => keeps(self.heap, &mut self.keeper, name, line, answer),
         }
