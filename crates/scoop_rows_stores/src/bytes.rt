@@ -58,8 +58,11 @@ fn add_part(word: &[u8], out: &mut Vec<u8>) -> Result<(), Bad> {
         Some(digits) => (decimal(front).ok_or(Bad::Number)?, digits),
         None => (1, front),
     };
+    let Ok(count) = u8::try_from(count) else {
+        return Err(Bad::Number);
+    };
     for place in 0..count {
-        add_digits(digits, (place as u8).wrapping_add(1), out)?;
+        add_digits(digits, place + 1, out)?;
     }
     Ok(())
 }
