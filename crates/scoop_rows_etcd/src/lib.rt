@@ -3,10 +3,7 @@
 
 mod examples;
 mod keeping;
-mod lent;
 mod looking;
-mod memory;
-mod places;
 mod scripted;
 mod stores;
 mod telling;
@@ -16,7 +13,6 @@ mod wire;
 pub use examples::{
     absent_keys, both_are_found, both_are_put, nothing_is_put, others_write, two_callers,
 };
-use places::Places;
 use scoop_etcd_stores::Fate;
 use scoop_row_player::{Areas, Bad, Case, Heap, Sheet, play_rows};
 use scripted::ScriptedEtcd;
@@ -40,8 +36,10 @@ impl Areas for EtcdAreas {
     ) -> Result<bool, Bad> {
         match area {
             "etcd" => play_stores(case, heap, sheet)?,
-            "wire" => play_rows(case, heap, &mut Wire::new(sheet.alloc()), sheet)?,
-            "places" => play_rows(case, heap, &mut Places, sheet)?,
+            "wire" | "places" => {
+                let came = Vec::new(sheet.alloc());
+                play_rows(case, heap, &mut Wire { came }, sheet)?;
+            }
             _ => return Ok(false),
         }
         Ok(true)

@@ -1,8 +1,8 @@
 //! Rows of looks into an etcd, without a store.
 
-use crate::keeping::word_of;
-use crate::lent::LentEtcd;
-use crate::telling::{tell, tell_bytes, tell_found};
+use crate::keeping::tell_word;
+use crate::scripted::LentEtcd;
+use crate::telling::{tell, tell_bytes, tell_whether};
 use crate::txns::{after_space, read_bytes};
 use scoop_etcd::{EtcdError, Owner};
 use scoop_etcd_stores::{
@@ -11,80 +11,38 @@ use scoop_etcd_stores::{
 use scoop_message::{ClientId, HandlerId};
 use scoop_row_player::Bad;
 use scoop_row_player::words::{first, last, number};
+use std::fmt::Debug;
 use std::io::Write;
 
 /// The owner at the beginning of a line, and what follows it.
 pub fn read_owner(line: &[u8]) -> Result<(Owner, &[u8]), Bad> {
     let (kind, line) = first(line)?;
     let (word, rest) = first(line)?;
-    let number = number(word)?;
     match kind {
-        b"node" => Ok((Owner::Node(number), rest)),
-        b"client" => Ok((Owner::Client(ClientId(number)), rest)),
+        b"node" => Ok((Owner::Node(number(word)?), rest)),
+        b"client" => Ok((Owner::Client(ClientId(number(word)?)), rest)),
         _ => Err(Bad::Words),
     }
 }
 
-fn tell_handlers(
-    found: Result<Vec<HandlerId>, EtcdError>,
+fn tell_listed<T: Debug + Drop>(
+    found: Result<Vec<T>, EtcdError>,
     answer: &mut Vec<u8>,
 ) -> Result<(), Bad> {
-    let handlers = match found {
-        Ok(handlers) => handlers,
-        Err(error) => return tell(error, answer),
-    };
-    write!(answer, "{}:", handlers.len())?;
-    for handler in &handlers {
-        tell(*handler, answer)?;
-    }
-    Ok(())
-}
-
-fn tell_clients(
-    found: Result<Vec<(ClientId, u32)>, EtcdError>,
-    answer: &mut Vec<u8>,
-) -> Result<(), Bad> {
-    let clients = match found {
-        Ok(clients) => clients,
-        Err(error) => return tell(error, answer),
-    };
-    write!(answer, "{}:", clients.len())?;
-    for (client, inc) in &clients {
-        write!(answer, " {client}.{inc}")?;
-    }
-    Ok(())
-}
-
-fn tell_owners(found: Result<Vec<Owner>, EtcdError>, answer: &mut Vec<u8>) -> Result<(), Bad> {
-    let owners = match found {
-        Ok(owners) => owners,
-        Err(error) => return tell(error, answer),
-    };
-    write!(answer, "{}:", owners.len())?;
-    for owner in &owners {
-        match owner {
-            Owner::Node(number) => write!(answer, " node {number}")?,
-            Owner::Client(client) => write!(answer, " client {client}")?,
+    match found {
+        Ok(listed) => {
+            write!(answer, "{listed:?}")?;
+            Ok(())
         }
+        Err(error) => tell(error, answer),
     }
-    Ok(())
 }
 
-// The handler's state, and before it whether there is one.
-fn tell_state(
-    etcd: &mut LentEtcd<'_>,
-    of: &str,
-    line: &[u8],
-    answer: &mut Vec<u8>,
-) -> Result<(), Bad> {
-    let alloc = *answer.allocator();
-    let handler = HandlerId(number(last(line)?)?);
-    match has_state(alloc, etcd, of, handler) {
-        Ok(true) => tell("stored", answer)?,
-        Ok(false) => {}
-        Err(error) => tell(error, answer)?,
+fn tell_has(has: Result<bool, EtcdError>, answer: &mut Vec<u8>) -> Result<(), Bad> {
+    match has {
+        Ok(has) => tell_whether(has, answer),
+        Err(error) => tell(error, answer),
     }
-    tell_found(word_of(state_under(alloc, etcd, of, handler)), answer)
 }
 
 fn tell_text(
@@ -127,10 +85,17 @@ pub fn looks(
         return Err(Bad::Words);
     };
     match name {
-        b"handlers" => tell_handlers(handlers_in(alloc, etcd, of), answer),
-        b"clients" => tell_clients(clients_in(alloc, etcd, of), answer),
-        b"owners" => tell_owners(owners_in(alloc, etcd, of), answer),
-        b"state" => tell_state(etcd, of, line, answer),
+        b"handlers" => tell_listed(handlers_in(alloc, etcd, of), answer),
+        b"clients" => tell_listed(clients_in(alloc, etcd, of), answer),
+        b"owners" => tell_listed(owners_in(alloc, etcd, of), answer),
+        b"has" => tell_has(
+            has_state(alloc, etcd, of, HandlerId(number(last(line)?)?)),
+            answer,
+        ),
+        b"state" => tell_word(
+            state_under(alloc, etcd, of, HandlerId(number(last(line)?)?)),
+            answer,
+        ),
         b"text" => tell_text(etcd, of, line, answer),
         _ => writes(etcd, of, line, answer),
     }

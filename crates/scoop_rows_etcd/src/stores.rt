@@ -1,29 +1,26 @@
 //! Rows of stores in an etcd. An OWNER is `node N` or `client C`, and a FATE is `answered`, `answer-lost`, `taken-over`, `late`
 //! or an ERROR: `unreachable`, `no-space`, `refused`, `bad-answer`, `out-of-memory`.
 //!
-//! - `script FATE..` sets the fates of the next transactions, and `failing ERROR` that of every range.
-//! - `other KEY VALUE` puts a value, as another program does. `rival` is another program that takes over node 1's store `shop`.
+//! - `script FATE` adds the fate of a next transaction, and `failing ERROR` sets that of every range.
+//! - `other KEY VALUE` puts a value, as another program does.
 //! - `range ..` and `txn ..` ask the etcd. `calls` answers how many transactions and how many ranges were asked.
-//! - `create NAME OWNER` and `open NAME OWNER` begin a program's store.
+//! - `create NAME OWNER` and `open NAME OWNER` begin a program's store. `rival NAME OWNER` opens it as another program.
 //! - `put H WORD`, `load H`, `next C`, `commit`, `confirm`, `finish` and `hear greeted|known|dropped` are calls of its keeper.
-//!   `puts N` and `loads N` are for handlers 1 to N, of which each has ten times its number.
 //! - `noted` answers why the keeper refused last. `fault TEXT` answers the status of a program that ends with the last fault,
 //!   and whether its advice has the text.
-//! - `handlers NAME`, `clients NAME`, `owners NAME`, `state NAME H`, `text NAME OWNER` and `write NAME OWNER TEXT` look without
-//!   a store.
+//! - `handlers NAME`, `clients NAME`, `owners NAME`, `has NAME H`, `state NAME H`, `text NAME OWNER` and `write NAME OWNER TEXT`
+//!   look without a store.
 
 use crate::keeping::keeps;
-use crate::lent::LentEtcd;
 use crate::looking::{looks, read_owner};
-use crate::scripted::{Event, ScriptedEtcd};
-use crate::telling::{tell, tell_done, tell_outcome, tell_pairs, tell_whether};
+use crate::scripted::{Event, LentEtcd, ScriptedEtcd};
+use crate::telling::{tell, tell_outcome, tell_pairs, tell_whether};
 use crate::txns::{after_space, read_bytes, read_range, read_txn};
-use scoop_etcd::{Etcd, EtcdError, EtcdStore, OpenError, Owner};
+use scoop_etcd::{EtcdError, EtcdStore};
 use scoop_etcd_stores::{EtcdFault, Fate, FatefulKeeper};
-use scoop_lines::{is, next_word};
-use scoop_row_player::words::first;
+use scoop_lines::is;
+use scoop_row_player::words::{first, last};
 use scoop_row_player::{Bad, Subject};
-use std::alloc::Global;
 use std::cell::RefCell;
 
 /// A program's store in an etcd, if it has one.
@@ -36,40 +33,19 @@ pub struct Stores<'a> {
     fault: Option<EtcdFault>,
 }
 
-fn read_error(word: &[u8]) -> Result<EtcdError, Bad> {
-    match word {
-        b"unreachable" => Ok(EtcdError::Unreachable),
-        b"no-space" => Ok(EtcdError::NoSpace),
-        b"refused" => Ok(EtcdError::Refused),
-        b"bad-answer" => Ok(EtcdError::BadAnswer),
-        b"out-of-memory" => Ok(EtcdError::OutOfMemory),
-        _ => Err(Bad::Words),
-    }
-}
-
 fn read_event(word: &[u8]) -> Result<Event, Bad> {
     match word {
         b"answered" => Ok(Event::Answered),
         b"answer-lost" => Ok(Event::AnswerLost),
         b"taken-over" => Ok(Event::TakenOver),
         b"late" => Ok(Event::Late),
-        _ => Ok(Event::Fails(read_error(word)?)),
+        b"unreachable" => Ok(Event::Fails(EtcdError::Unreachable)),
+        b"no-space" => Ok(Event::Fails(EtcdError::NoSpace)),
+        b"refused" => Ok(Event::Fails(EtcdError::Refused)),
+        b"bad-answer" => Ok(Event::Fails(EtcdError::BadAnswer)),
+        b"out-of-memory" => Ok(Event::Fails(EtcdError::OutOfMemory)),
+        _ => Err(Bad::Words),
     }
-}
-
-// The fates of a line, the last one first.
-fn read_script(alloc: Global, line: &[u8]) -> Result<Vec<Event>, Bad> {
-    let mut script = Vec::new(alloc);
-    let mut rest = line;
-    for _ in 0..line.len() {
-        let Some((word, behind)) = next_word(rest) else {
-            break;
-        };
-        script.push(read_event(word)?)?;
-        rest = behind;
-    }
-    script.reverse();
-    Ok(script)
 }
 
 // Changes the etcd, or counts its calls.
@@ -81,12 +57,15 @@ fn scripts(
 ) -> Result<(), Bad> {
     let alloc = *answer.allocator();
     match name {
-        b"script" => etcd.script = read_script(alloc, line)?,
-        b"failing" => etcd.failing = Some(read_error(first(line)?.0)?),
+        b"script" => etcd.script.push(read_event(last(line)?)?)?,
+        b"failing" => match read_event(last(line)?)? {
+            Event::Fails(error) => etcd.failing = Some(error),
+            _ => return Err(Bad::Words),
+        },
         b"other" => {
             let (key, rest) = first(line)?;
             let value = read_bytes(alloc, after_space(rest))?;
-            return tell_done(etcd.put(&read_bytes(alloc, key)?, &value), answer);
+            etcd.other(&read_bytes(alloc, key)?, &value)?;
         }
         b"range" => return tell_pairs(etcd.range(&read_range(alloc, line)?), answer),
         b"txn" => return tell_outcome(etcd.transact(&read_txn(alloc, line)?), answer),
@@ -110,24 +89,6 @@ impl<'a> Stores<'a> {
     }
 
     // Begins a store, in place of the one before.
-    fn begin(
-        &mut self,
-        opened: Result<EtcdStore<LentEtcd<'a>>, OpenError>,
-        answer: &mut Vec<u8>,
-    ) -> Result<(), Bad> {
-        match opened {
-            Ok(store) => {
-                self.keeper = Some(FatefulKeeper::new(store, self.fate));
-                tell("ok", answer)
-            }
-            Err(error) => {
-                let fault = EtcdFault::from(error);
-                self.fault = Some(fault);
-                tell(fault, answer)
-            }
-        }
-    }
-
     fn opens(&mut self, name: &[u8], line: &[u8], answer: &mut Vec<u8>) -> Result<(), Bad> {
         let alloc = *answer.allocator();
         let (word, line) = first(line)?;
@@ -138,9 +99,22 @@ impl<'a> Stores<'a> {
         let etcd = LentEtcd(self.etcd);
         let opened = match name {
             b"create" => EtcdStore::create(alloc, etcd, of, owner, [7; 16]),
-            _ => EtcdStore::open(alloc, etcd, of, owner, [8; 16]),
+            b"open" => EtcdStore::open(alloc, etcd, of, owner, [8; 16]),
+            _ => EtcdStore::open(alloc, etcd, of, owner, [9; 16]),
         };
-        self.begin(opened, answer)
+        match opened {
+            Ok(store) => {
+                if !is(name, "rival") {
+                    self.keeper = Some(FatefulKeeper::new(store, self.fate));
+                }
+                tell("ok", answer)
+            }
+            Err(error) => {
+                let fault = EtcdFault::from(error);
+                self.fault = Some(fault);
+                tell(fault, answer)
+            }
+        }
     }
 
     fn notes(&mut self, name: &[u8], line: &[u8], answer: &mut Vec<u8>) -> Result<(), Bad> {
@@ -161,13 +135,6 @@ impl<'a> Stores<'a> {
     }
 }
 
-// Another program takes the store over.
-fn rivals(etcd: &RefCell<ScriptedEtcd>, answer: &mut Vec<u8>) -> Result<(), Bad> {
-    let alloc = *answer.allocator();
-    let opened = EtcdStore::open(alloc, LentEtcd(etcd), "shop", Owner::Node(1), [9; 16]);
-    tell_done(opened, answer)
-}
-
 impl Subject for Stores<'_> {
     fn does(&mut self, command: &[u8], answer: &mut Vec<u8>) -> Result<(), Bad> {
         let (name, line) = first(command)?;
@@ -178,10 +145,9 @@ impl Subject for Stores<'_> {
                     Err(_) => Err(Bad::Memory),
                 }
             }
-            b"create" | b"open" => self.opens(name, line, answer),
-            b"rival" => rivals(self.etcd, answer),
+            b"create" | b"open" | b"rival" => self.opens(name, line, answer),
             b"noted" | b"fault" => self.notes(name, line, answer),
-            b"handlers" | b"clients" | b"owners" | b"state" | b"text" | b"write" => {
+            b"handlers" | b"clients" | b"owners" | b"has" | b"state" | b"text" | b"write" => {
                 looks(&mut LentEtcd(self.etcd), name, line, answer)
             }
             _ => match &mut self.keeper {

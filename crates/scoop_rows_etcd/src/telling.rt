@@ -25,18 +25,6 @@ pub fn tell_done<T: Drop, E: Display + Drop>(
     }
 }
 
-/// Adds the value, `none` or the error.
-pub fn tell_found<T: Display + Drop, E: Display + Drop>(
-    found: Result<Option<T>, E>,
-    answer: &mut Vec<u8>,
-) -> Result<(), Bad> {
-    match found {
-        Ok(Some(value)) => tell(value, answer),
-        Ok(None) => tell("none", answer),
-        Err(error) => tell(error, answer),
-    }
-}
-
 /// Adds `yes` or `no`.
 pub fn tell_whether(holds: bool, answer: &mut Vec<u8>) -> Result<(), Bad> {
     tell(if holds { "yes" } else { "no" }, answer)
@@ -81,14 +69,12 @@ pub fn tell_outcome<E: Display + Drop>(
 ) -> Result<(), Bad> {
     match outcome {
         Ok(outcome) => {
-            tell(
-                if outcome.succeeded {
-                    "made"
-                } else {
-                    "not made"
-                },
-                answer,
-            )?;
+            let made = if outcome.succeeded {
+                "made"
+            } else {
+                "not made"
+            };
+            tell(made, answer)?;
             tell(outcome.revision, answer)
         }
         Err(error) => tell(error, answer),

@@ -17,29 +17,22 @@ fn digit(byte: u8) -> Result<u8, Bad> {
     }
 }
 
-// Adds the byte of an escape, and returns what follows it.
-fn add_escaped<'t>(text: &'t [u8], bytes: &mut Vec<u8>) -> Result<&'t [u8], Bad> {
-    match text {
-        [b'x', high, low, rest @ ..] => {
-            bytes.push(digit(*high)? << 4 | digit(*low)?)?;
-            Ok(rest)
-        }
-        _ => Err(Bad::Words),
-    }
-}
-
 /// The bytes that a text stands for.
 pub fn read_bytes(alloc: Global, text: &[u8]) -> Result<Vec<u8>, Bad> {
     let mut bytes = Vec::new(alloc);
-    let mut is_first = true;
-    for part in text.split(|byte| *byte == b'\\') {
-        let plain = if is_first {
-            part
-        } else {
-            add_escaped(part, &mut bytes)?
-        };
-        bytes.extend_from_slice(plain)?;
-        is_first = false;
+    let mut rest = text;
+    for _ in 0..text.len() {
+        match rest {
+            [b'\\', b'x', high, low, behind @ ..] => {
+                bytes.push(digit(*high)? << 4 | digit(*low)?)?;
+                rest = behind;
+            }
+            [byte, behind @ ..] => {
+                bytes.push(*byte)?;
+                rest = behind;
+            }
+            [] => break,
+        }
     }
     Ok(bytes)
 }
@@ -64,26 +57,15 @@ pub fn read_range(alloc: Global, line: &[u8]) -> Result<Range, Bad> {
 }
 
 // Adds a part of a transaction.
-fn add_part(
-    alloc: Global,
-    kind: &[u8],
-    key: Vec<u8>,
-    word: &[u8],
-    txn: &mut Txn,
-) -> Result<(), Bad> {
+fn add_part(kind: &[u8], key: Vec<u8>, word: &[u8], txn: &mut Txn) -> Result<(), Bad> {
+    let value = read_bytes(*key.allocator(), word)?;
     match kind {
         b"at" => {
             let revision = decimal(word).ok_or(Bad::Number)?;
             txn.compares.push(Compare::Revision(key, revision))?;
         }
-        b"has" => {
-            let value = read_bytes(alloc, word)?;
-            txn.compares.push(Compare::Value(key, value))?;
-        }
-        b"put" => {
-            let value = read_bytes(alloc, word)?;
-            txn.puts.push(Put { key, value })?;
-        }
+        b"has" => txn.compares.push(Compare::Value(key, value))?,
+        b"put" => txn.puts.push(Put { key, value })?,
         _ => return Err(Bad::Words),
     }
     Ok(())
@@ -102,7 +84,7 @@ pub fn read_txn(alloc: Global, line: &[u8]) -> Result<Txn, Bad> {
         };
         let (key, line) = first(line)?;
         let (word, line) = first(line)?;
-        add_part(alloc, kind, read_bytes(alloc, key)?, word, &mut txn)?;
+        add_part(kind, read_bytes(alloc, key)?, word, &mut txn)?;
         rest = line;
     }
     Err(Bad::Words)

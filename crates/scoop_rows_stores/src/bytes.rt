@@ -4,44 +4,32 @@
 
 use scoop_handler::HandlerState;
 use scoop_lines::{decimal, is, next_word};
-use scoop_message::{HandlerId, OutOfMemory};
-use scoop_record::{ReadError, image, pending_row, read_image};
+use scoop_message::HandlerId;
+use scoop_record::{image, pending_row};
 use scoop_row_player::Bad;
 use scoop_row_player::words::{first, number};
 use std::alloc::{Allocator, Global};
 use std::io::Write;
 
-/// The two blobs of a handler's row in a store, as `IMAGE / ENTRIES`.
+/// The two blobs of a handler's row in a store.
 #[derive(Drop)]
 pub struct Blobs {
+    pub handler: HandlerId,
     pub image: Vec<u8>,
     pub pending: Vec<u8>,
 }
 
-impl Blobs {
-    pub fn new(alloc: Global) -> Blobs {
-        Blobs {
-            image: Vec::new(alloc),
-            pending: Vec::new(alloc),
-        }
-    }
-
-    /// Reads both, after the number of their handler.
-    pub fn read(&mut self, line: &[u8]) -> Result<HandlerId, Bad> {
-        let (handler, line) = first(line)?;
-        let rest = add_bytes(line, &mut self.image)?;
-        add_bytes(rest, &mut self.pending)?;
-        Ok(HandlerId(number(handler)?))
-    }
-
-    /// The handler's state of these blobs.
-    pub fn state<A: Allocator + Copy>(
-        &self,
-        alloc: A,
-        handler: HandlerId,
-    ) -> Result<HandlerState<A>, ReadError> {
-        read_image(alloc, handler, &self.image, &self.pending)
-    }
+/// Reads `HANDLER IMAGE / ENTRIES`.
+pub fn read_blobs(alloc: Global, line: &[u8]) -> Result<Blobs, Bad> {
+    let (handler, line) = first(line)?;
+    let mut blobs = Blobs {
+        handler: HandlerId(number(handler)?),
+        image: Vec::new(alloc),
+        pending: Vec::new(alloc),
+    };
+    let rest = add_bytes(line, &mut blobs.image)?;
+    add_bytes(rest, &mut blobs.pending)?;
+    Ok(blobs)
 }
 
 /// Adds the bytes of a line up to a `/`. Returns the rest of the line.
@@ -55,23 +43,25 @@ pub fn add_bytes<'l>(line: &'l [u8], out: &mut Vec<u8>) -> Result<&'l [u8], Bad>
         if is(word, "/") {
             break;
         }
-        add_part(word, out)?;
+        if !is(word, "-") {
+            add_part(word, out)?;
+        }
     }
     Ok(rest)
 }
 
 // Adds a part, as often as it says.
 fn add_part(word: &[u8], out: &mut Vec<u8>) -> Result<(), Bad> {
-    if is(word, "-") {
-        return Ok(());
-    }
     let mut parts = word.splitn(2, |byte| *byte == b'*');
     let front = parts.next().unwrap_or(&[]);
-    let Some(digits) = parts.next() else {
-        return add_digits(front, 1, out);
+    let (count, digits) = match parts.next() {
+        Some(digits) => (decimal(front).ok_or(Bad::Number)?, digits),
+        None => (1, front),
     };
-    let count = decimal(front).ok_or(Bad::Number)?;
-    for place in 0..u8::try_from(count).map_err(|_| Bad::Number)? {
+    let Ok(count) = u8::try_from(count) else {
+        return Err(Bad::Number);
+    };
+    for place in 0..count {
         add_digits(digits, place + 1, out)?;
     }
     Ok(())
@@ -109,25 +99,24 @@ pub fn put_bytes(bytes: &[u8], answer: &mut Vec<u8>) -> Result<(), Bad> {
     Ok(())
 }
 
+/// Writes `IMAGE / ENTRIES`.
+pub fn put_blobs(image: &[u8], pending: &[u8], answer: &mut Vec<u8>) -> Result<(), Bad> {
+    put_bytes(image, answer)?;
+    answer.extend_from_slice(b" / ")?;
+    put_bytes(pending, answer)
+}
+
 /// Writes the state as a store has it: `IMAGE / ENTRIES`.
 pub fn put_state<A: Allocator + Copy>(
     alloc: A,
     state: &HandlerState<A>,
     answer: &mut Vec<u8>,
 ) -> Result<(), Bad> {
-    let Ok((image, pending)) = written(alloc, state) else {
-        answer.extend_from_slice(b"out of memory")?;
-        return Ok(());
-    };
-    put_bytes(&image, answer)?;
-    answer.extend_from_slice(b" / ")?;
-    put_bytes(&pending, answer)
-}
-
-/// Both blobs that are written for the state.
-pub fn written<A: Allocator + Copy>(
-    alloc: A,
-    state: &HandlerState<A>,
-) -> Result<(Vec<u8, A>, Vec<u8, A>), OutOfMemory> {
-    Ok((image(alloc, state)?, pending_row(alloc, state)?))
+    match (image(alloc, state), pending_row(alloc, state)) {
+        (Ok(image), Ok(pending)) => put_blobs(&image, &pending, answer),
+        _ => {
+            answer.extend_from_slice(b"out of memory")?;
+            Ok(())
+        }
+    }
 }

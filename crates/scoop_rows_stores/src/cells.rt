@@ -26,24 +26,21 @@ pub fn answers<K: Keeper<Global>>(
         Ok(mut book) => {
             let ended = answer_run(&mut book, Some(ONE), line, answer);
             *kept = Some(book.into_keeper());
-            match ended {
-                Ok(()) => without_end(answer),
-                Err(error) => says(error, answer),
+            if let Err(error) = ended {
+                return says(error, answer);
             }
+            answer.pop();
+            Ok(())
         }
         Err(error) => says(error, answer),
     }
 }
 
-// Takes the newline from the end.
-fn without_end(answer: &mut Vec<u8>) -> Result<(), Bad> {
-    answer.pop();
-    Ok(())
-}
-
 // The class, and an object of it that holds 0.
 fn cell(alloc: Global) -> Result<(Class, Table), Bad> {
-    let words = Words::of(&[0]).map_err(|_| Bad::Memory)?;
+    let Ok(words) = Words::of(&[0]) else {
+        return Err(Bad::Memory);
+    };
     let class = DemoClass::Cell.class(alloc)?;
     match Table::new(DemoClass::Cell.class(alloc)?, words) {
         Ok(table) => Ok((class, table)),

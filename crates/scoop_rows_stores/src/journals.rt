@@ -3,24 +3,24 @@
 //! - `line TEXT` reads a line, which has to be written back as the same text. The answer is `ok` or its fault.
 //! - `keep STORAGE CALLS WRITES HANDLER IMAGE / ENTRIES` begins a life of node 1 with handler 1. Its keeper has the state of
 //!   these blobs in memory, passes on this number of calls, and stands for one in this storage (`file` or `memory`). The
-//!   journal takes this number of writes.
-//! - `share ANSWERS WRITES HANDLER IMAGE / ENTRIES` does so over a record that another program may take over. The keeper says
-//!   this number of times that it owns the record.
-//! - `hear NOTE FRAME FRAME` tells the keeper what a handler heard, its reply, and the note: `Greeted`, `Known`, ..
+//!   journal takes this number of writes. A `shared` record is one that another program may take over: its keeper says this
+//!   number of times that it owns the record.
+//! - `hear NOTE FRAME FRAME` tells the keeper what a handler heard, its reply, and the note, `Greeted` or `Known`.
 //! - `ran HANDLER` tells it that an entry has run.
 //! - The commands of any keeper.
 //! - `end` takes the keeper from under the journal, and `drop` drops it.
 //! - `text` answers what was written, and empties it.
 
-use crate::bytes::Blobs;
+use crate::bytes::read_blobs;
 use crate::keeping::{done, keeps, says};
 use crate::paper::{Owning, Paper};
 use scoop_handler::{Heard, Note};
 use scoop_journal::{Line, read, write};
 use scoop_journal_keeper::{JournaledKeeper, SharedJournaledKeeper, Storage};
 use scoop_keeper::{FailingKeeper, Keeper, MemoryKeeper};
-use scoop_lines::decimal;
+use scoop_lines::{decimal, is};
 use scoop_message::HandlerId;
+use scoop_record::read_image;
 use scoop_row_player::words::{first, last, number};
 use scoop_row_player::{Bad, Subject};
 use std::alloc::Global;
@@ -48,31 +48,29 @@ impl<'a> Journals<'a> {
     }
 
     fn begins(&mut self, line: &[u8], answer: &mut Vec<u8>) -> Result<(), Bad> {
+        let alloc = *answer.allocator();
         let (storage, line) = first(line)?;
         let (calls, line) = first(line)?;
         let (writes, line) = first(line)?;
-        let calls = decimal(calls).ok_or(Bad::Number)?;
-        let paper = paper(self.text, writes)?;
-        let storage = storage_of(storage)?;
-        let alloc = *answer.allocator();
-        let handlers = Vec::from_slice(alloc, &[HandlerId(1)])?;
-        let keeper = FailingKeeper::new(filled(alloc, line)?, calls);
-        self.alone = Some(JournaledKeeper::new(alloc, keeper, storage, paper, 1, handlers));
-        says("ok", answer)
-    }
-
-    fn shares(&mut self, line: &[u8], answer: &mut Vec<u8>) -> Result<(), Bad> {
-        let (answers, line) = first(line)?;
-        let (writes, line) = first(line)?;
-        let left = decimal(answers).ok_or(Bad::Number)?;
-        let paper = paper(self.text, writes)?;
-        let alloc = *answer.allocator();
-        let handlers = Vec::from_slice(alloc, &[HandlerId(1)])?;
-        let keeper = Owning {
-            keeper: filled(alloc, line)?,
-            left,
+        let left = decimal(calls).ok_or(Bad::Number)?;
+        let paper = Paper {
+            text: self.text,
+            left: decimal(writes).ok_or(Bad::Number)?,
         };
-        self.shared = Some(SharedJournaledKeeper::new(alloc, keeper, paper, 1, handlers));
+        let handlers = Vec::from_slice(alloc, &[HandlerId(1)])?;
+        let keeper = filled(alloc, line)?;
+        if is(storage, "shared") {
+            let keeper = Owning { keeper, left };
+            self.shared = Some(SharedJournaledKeeper::new(alloc, keeper, paper, 1, handlers));
+        } else {
+            let storage = if is(storage, "file") {
+                Storage::File
+            } else {
+                Storage::Memory
+            };
+            let keeper = FailingKeeper::new(keeper, left);
+            self.alone = Some(JournaledKeeper::new(alloc, keeper, storage, paper, 1, handlers));
+        }
         says("ok", answer)
     }
 
@@ -115,7 +113,6 @@ impl Subject for Journals<'_> {
         match name {
             b"line" => reads_line(line, answer),
             b"keep" => self.begins(line, answer),
-            b"share" => self.shares(line, answer),
             b"end" => self.ends(answer),
             b"drop" => {
                 self.alone = None;
@@ -133,27 +130,11 @@ impl Subject for Journals<'_> {
     }
 }
 
-fn storage_of(word: &[u8]) -> Result<Storage, Bad> {
-    match word {
-        b"file" => Ok(Storage::File),
-        b"memory" => Ok(Storage::Memory),
-        _ => Err(Bad::Words),
-    }
-}
-
-fn paper<'a>(text: &'a RefCell<Vec<u8>>, writes: &[u8]) -> Result<Paper<'a>, Bad> {
-    Ok(Paper {
-        text,
-        left: decimal(writes).ok_or(Bad::Number)?,
-    })
-}
-
 // A keeper that has the state of these blobs.
 fn filled(alloc: Global, line: &[u8]) -> Result<MemoryKeeper, Bad> {
+    let blobs = read_blobs(alloc, line)?;
     let mut keeper = MemoryKeeper::new(alloc);
-    let mut blobs = Blobs::new(alloc);
-    let handler = blobs.read(line)?;
-    match blobs.state(alloc, handler) {
+    match read_image(alloc, blobs.handler, &blobs.image, &blobs.pending) {
         Ok(state) => match keeper.put_handler(&state) {
             Ok(()) => Ok(keeper),
             Err(_) => Err(Bad::Memory),
@@ -180,7 +161,11 @@ fn tells<K: Keeper<Global>>(
 
 fn hears<K: Keeper<Global>>(keeper: &mut K, line: &[u8], answer: &mut Vec<u8>) -> Result<(), Bad> {
     let (word, frames) = first(line)?;
-    let note = note(word)?;
+    let note = if is(word, "Greeted") {
+        Note::Greeted
+    } else {
+        Note::Known
+    };
     let mut text = Vec::new(*answer.allocator());
     text.extend_from_slice(b"hear")?;
     text.extend_from_slice(frames)?;
@@ -192,35 +177,21 @@ fn hears<K: Keeper<Global>>(keeper: &mut K, line: &[u8], answer: &mut Vec<u8>) -
     }
 }
 
-fn note(word: &[u8]) -> Result<Note, Bad> {
-    match word {
-        b"Greeted" => Ok(Note::Greeted),
-        b"Known" => Ok(Note::Known),
-        _ => Err(Bad::Words),
-    }
-}
-
 // Reads a line of a journal, and writes it back. The text begins after one space.
 fn reads_line(line: &[u8], answer: &mut Vec<u8>) -> Result<(), Bad> {
     let text = line.get(1..).unwrap_or(&[]);
-    match read(text) {
-        Ok(read) => {
-            let mut out = Vec::new(*answer.allocator());
-            write_back(&read, &mut out)?;
-            if out.pop() == Some(b'\n') && out.as_slice() == text {
-                says("ok", answer)
-            } else {
-                says("written as another text", answer)
-            }
-        }
-        Err(fault) => says(fault, answer),
+    let read = match read(text) {
+        Ok(read) => read,
+        Err(fault) => return says(fault, answer),
+    };
+    if !read.fits() {
+        return says("a line that doesn't fit", answer);
     }
-}
-
-fn write_back(line: &Line<'_>, out: &mut Vec<u8>) -> Result<(), Bad> {
-    if !line.fits() {
-        return Err(Bad::Words);
+    let mut out = Vec::new(*answer.allocator());
+    write(&read, &mut out)?;
+    if out.pop() == Some(b'\n') && out.as_slice() == text {
+        return says("ok", answer);
     }
-    write(line, out)?;
+    answer.extend_from_slice(&out)?;
     Ok(())
 }

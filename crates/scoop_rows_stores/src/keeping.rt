@@ -7,9 +7,10 @@
 //!
 //! A refusal is the answer of each.
 
-use crate::bytes::{Blobs, put_state};
+use crate::bytes::{put_state, read_blobs};
 use scoop_keeper::{Keeper, KeeperError};
 use scoop_message::{ClientId, HandlerId};
+use scoop_record::read_image;
 use scoop_row_player::Bad;
 use scoop_row_player::words::{last, number};
 use std::alloc::Allocator;
@@ -25,10 +26,10 @@ pub fn keeps<A: Allocator + Copy, K: Keeper<A>>(
     answer: &mut Vec<u8>,
 ) -> Result<(), Bad> {
     match name {
-        b"next" => {
-            let client = ClientId(number(last(line)?)?);
-            told(keeper.next_incarnation(client), answer)
-        }
+        b"next" => match keeper.next_incarnation(ClientId(number(last(line)?)?)) {
+            Ok(inc) => says(inc, answer),
+            Err(error) => done(Err(error), answer),
+        },
         b"put" => puts(alloc, keeper, line, answer),
         b"load" => loads(alloc, keeper, HandlerId(number(last(line)?)?), answer),
         b"commit" => done(keeper.commit(), answer),
@@ -42,9 +43,8 @@ fn puts<A: Allocator + Copy, K: Keeper<A>>(
     line: &[u8],
     answer: &mut Vec<u8>,
 ) -> Result<(), Bad> {
-    let mut blobs = Blobs::new(*answer.allocator());
-    let handler = blobs.read(line)?;
-    match blobs.state(alloc, handler) {
+    let blobs = read_blobs(*answer.allocator(), line)?;
+    match read_image(alloc, blobs.handler, &blobs.image, &blobs.pending) {
         Ok(state) => done(keeper.put_handler(&state), answer),
         Err(error) => says(error, answer),
     }
@@ -59,7 +59,7 @@ fn loads<A: Allocator + Copy, K: Keeper<A>>(
     match keeper.load_handler(handler) {
         Ok(Some(state)) => put_state(alloc, &state, answer),
         Ok(None) => says("none", answer),
-        Err(error) => refuses(error, answer),
+        Err(error) => done(Err(error), answer),
     }
 }
 
@@ -69,24 +69,11 @@ pub fn says<T: Display + Drop>(value: T, answer: &mut Vec<u8>) -> Result<(), Bad
     Ok(())
 }
 
-fn told<T: Display + Drop>(value: Result<T, KeeperError>, answer: &mut Vec<u8>) -> Result<(), Bad> {
-    match value {
-        Ok(value) => says(value, answer),
-        Err(error) => refuses(error, answer),
-    }
-}
-
 /// Adds `ok`, or the refusal.
 pub fn done(value: Result<(), KeeperError>, answer: &mut Vec<u8>) -> Result<(), Bad> {
     match value {
         Ok(()) => says("ok", answer),
-        Err(error) => refuses(error, answer),
-    }
-}
-
-fn refuses(error: KeeperError, answer: &mut Vec<u8>) -> Result<(), Bad> {
-    match error {
-        KeeperError::OutOfMemory => says("out of memory", answer),
-        error => says(error, answer),
+        Err(KeeperError::OutOfMemory) => says("out of memory", answer),
+        Err(error) => says(error, answer),
     }
 }

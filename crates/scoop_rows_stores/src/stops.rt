@@ -2,8 +2,8 @@
 //!
 //! Each command takes commands of the area `stores`, which `;` separates.
 //!
-//! - `before COMMANDS` adds to those that prepare the files.
-//! - `check COMMANDS` adds to those whose answers are the state of the files.
+//! - `before COMMANDS` are those that prepare the files.
+//! - `check COMMANDS` are those whose answers are the state of the files.
 //! - `stop PART COMMANDS` opens the files and gives these, once for each call of a part at which the disk stops, up to where
 //!   the last one isn't refused. After each, the state is read from the files as they were written, and as a crash leaves
 //!   them without unsynced bytes. The answer is each state that was found, once, the one before any stop first. The parts
@@ -11,32 +11,44 @@
 
 use crate::keeping::says;
 use crate::stores::Stores;
+use scoop_lines::is;
 use scoop_row_player::words::first;
 use scoop_row_player::{Bad, Subject};
-use sqlite::{Alter, Connection, FileStore, Files, Options};
+use sqlite::{Alter, Connection, Files, Options};
 use sqlite_disk::{Crash, Disk, Fuse, Memory};
 use std::alloc::Global;
 
-type Stopped = Fuse<Memory>;
-
-type Stoppable = FileStore<Stopped>;
+/// The log and the database file, in memory. Each stops after a number of calls.
+type Both = Files<Fuse<Memory>>;
 
 /// More calls than an opening and a call make.
 const MAX_CALLS: u64 = 400;
-
-/// The calls at which the disk is stopped.
-#[derive(Clone, Copy)]
-enum Part {
-    Log,
-    Checkpoint,
-    File,
-}
 
 /// The commands before a stop, and those after it.
 #[derive(Drop)]
 pub struct Stops {
     before: Vec<u8>,
     checks: Vec<u8>,
+}
+
+// What is stopped, and how its states are read.
+#[derive(Drop)]
+struct Trial<'l> {
+    stops_log: bool,
+    options: Options,
+    commands: &'l [u8],
+    checks: &'l [u8],
+}
+
+// How a trial ended.
+#[derive(Drop)]
+enum Ended {
+    // The disk stopped before the last command.
+    Before,
+    // The last command was refused.
+    Refused,
+    // It wasn't; and whether the newest state is found in the files.
+    Done(bool),
 }
 
 impl Stops {
@@ -46,17 +58,44 @@ impl Stops {
             checks: Vec::new(alloc),
         }
     }
+
+    fn stops(&self, line: &[u8], answer: &mut Vec<u8>) -> Result<(), Bad> {
+        let (part, commands) = first(line)?;
+        let mut options = Options::new(1);
+        if !is(part, "log") {
+            // a checkpoint where a transaction first writes to a log that isn't empty
+            options.checkpoint_frames = 1;
+        }
+        let trial = Trial {
+            stops_log: !is(part, "file"),
+            options,
+            commands,
+            checks: self.checks.as_slice(),
+        };
+        let mut found = Vec::new(*answer.allocator());
+        let is_kept = stopped_after(&self.before, &trial, &mut found)?;
+        for state in &found {
+            answer.extend_from_slice(state)?;
+            answer.push(b'\n')?;
+        }
+        answer.pop();
+        if !is_kept {
+            answer.extend_from_slice(b"\nnever stopped, never done, or lost")?;
+        }
+        Ok(())
+    }
 }
 
 impl Subject for Stops {
     fn does(&mut self, command: &[u8], answer: &mut Vec<u8>) -> Result<(), Bad> {
         let (name, line) = first(command)?;
         match name {
-            b"before" => adds(&mut self.before, line, answer),
-            b"check" => adds(&mut self.checks, line, answer),
-            b"stop" => stop_each(&self.before, &self.checks, line, answer),
-            _ => Err(Bad::Command),
+            b"before" => self.before.extend_from_slice(line)?,
+            b"check" => self.checks.extend_from_slice(line)?,
+            b"stop" => return self.stops(line, answer),
+            _ => return Err(Bad::Command),
         }
+        says("ok", answer)
     }
 
     // The files are made anew for each stop.
@@ -65,16 +104,8 @@ impl Subject for Stops {
     }
 }
 
-fn adds(commands: &mut Vec<u8>, line: &[u8], answer: &mut Vec<u8>) -> Result<(), Bad> {
-    if !commands.is_empty() {
-        commands.push(b';')?;
-    }
-    commands.extend_from_slice(line)?;
-    says("ok", answer)
-}
-
 // A file with these bytes that takes this many calls.
-fn file(alloc: Global, bytes: &[u8], calls: u64) -> Result<Stopped, Bad> {
+fn file(alloc: Global, bytes: &[u8], calls: u64) -> Result<Fuse<Memory>, Bad> {
     let mut file = Memory::new(alloc);
     if file.write_at(0, bytes).is_ok() && file.sync().is_ok() {
         Ok(Fuse::new(file, calls))
@@ -83,71 +114,27 @@ fn file(alloc: Global, bytes: &[u8], calls: u64) -> Result<Stopped, Bad> {
     }
 }
 
-fn blank(alloc: Global) -> Result<Files<Stopped>, Bad> {
-    Ok(Files {
-        log: file(alloc, &[], u64::MAX)?,
-        db: file(alloc, &[], u64::MAX)?,
-    })
-}
-
-// Files with the same bytes, of which that part takes this many calls.
-fn copy_of(
-    alloc: Global,
-    files: &Files<Stopped>,
-    part: Part,
-    calls: u64,
-) -> Result<Files<Stopped>, Bad> {
-    let (log, db) = match part {
-        Part::Log | Part::Checkpoint => (calls, u64::MAX),
-        Part::File => (u64::MAX, calls),
-    };
+// Files with the same bytes that take this many calls.
+fn copy_of(alloc: Global, files: &Both, log: u64, db: u64) -> Result<Both, Bad> {
     Ok(Files {
         log: file(alloc, files.log.inner().bytes(), log)?,
         db: file(alloc, files.db.inner().bytes(), db)?,
     })
 }
 
-// With a checkpoint where a transaction first writes to a log that isn't empty, or with none.
-fn options_of(part: Part) -> Options {
-    match part {
-        Part::Log => Options::new(1),
-        Part::Checkpoint | Part::File => Options {
-            checkpoint_frames: 1,
-            ..Options::new(1)
-        },
-    }
-}
-
-// A function that names the files' type does one thing alone, and takes nothing apart.
-fn connected(
-    alloc: Global,
-    files: Files<Stopped>,
-    options: Options,
-) -> Option<Connection<Stoppable>> {
+// Gives commands to the database in files, and adds their answers. The files after them, if they open, and none of the
+// commands finds the connection dropped.
+fn given(files: Both, options: Options, commands: &[u8], answers: &mut Vec<u8>) -> Option<Both> {
     if !files.may_be_used() {
         return None;
     }
-    match Connection::open_files(alloc, files, options) {
-        Ok(connection) => Some(connection),
+    match Connection::open_files(*answers.allocator(), files, options) {
+        Ok(connection) => match given_to(connection, commands, answers) {
+            Some(medium) => Some(medium.close()),
+            None => None,
+        },
         Err(_) => None,
     }
-}
-
-fn left_by(medium: Stoppable) -> Files<Stopped> {
-    medium.close()
-}
-
-// Gives commands to the database in files, and adds their answers. The files after them, if they open, and none of the
-// commands finds the connection dropped.
-fn given(
-    alloc: Global,
-    files: Files<Stopped>,
-    options: Options,
-    commands: &[u8],
-    answers: &mut Vec<u8>,
-) -> Option<Files<Stopped>> {
-    let connection = connected(alloc, files, options)?;
-    Some(left_by(given_to(connection, commands, answers)?))
 }
 
 fn given_to<S: Alter + Drop>(
@@ -174,21 +161,13 @@ fn gives<S: Subject>(subject: &mut S, commands: &[u8], answers: &mut Vec<u8>) ->
 }
 
 // Adds the state of the files to those that were found, if it is a new one. Returns whether it is the newest.
-fn finds(
-    alloc: Global,
-    files: &Files<Stopped>,
-    checks: &[u8],
-    found: &mut Vec<Vec<u8>>,
-) -> Result<bool, Bad> {
-    let copy = copy_of(alloc, files, Part::Log, u64::MAX)?;
+fn finds(files: &Both, checks: &[u8], found: &mut Vec<Vec<u8>>) -> Result<bool, Bad> {
+    let alloc = *found.allocator();
+    let copy = copy_of(alloc, files, u64::MAX, u64::MAX)?;
     let mut state = Vec::new(alloc);
-    if given(alloc, copy, Options::new(1), checks, &mut state).is_none() {
+    if given(copy, Options::new(1), checks, &mut state).is_none() {
         state.extend_from_slice(b" unopened")?;
     }
-    adds_state(state, found)
-}
-
-fn adds_state(state: Vec<u8>, found: &mut Vec<Vec<u8>>) -> Result<bool, Bad> {
     for (place, known) in found.iter().enumerate() {
         if known.as_slice() == state.as_slice() {
             return Ok(place.saturating_add(1) == found.len());
@@ -199,73 +178,46 @@ fn adds_state(state: Vec<u8>, found: &mut Vec<Vec<u8>>) -> Result<bool, Bad> {
 }
 
 // The same of the files as they were written, and as a crash leaves them.
-fn finds_both(
-    alloc: Global,
-    mut files: Files<Stopped>,
-    checks: &[u8],
-    found: &mut Vec<Vec<u8>>,
-) -> Result<bool, Bad> {
-    let written = finds(alloc, &files, checks, found);
+fn finds_both(mut files: Both, checks: &[u8], found: &mut Vec<Vec<u8>>) -> Result<bool, Bad> {
+    let written = finds(&files, checks, found);
     files.log.crash();
     files.db.crash();
-    let left = finds(alloc, &files, checks, found);
+    let left = finds(&files, checks, found);
     Ok(written? && left?)
-}
-
-/// What is stopped, and how its states are read.
-#[derive(Clone, Copy)]
-struct Trial<'l> {
-    part: Part,
-    commands: &'l [u8],
-    checks: &'l [u8],
-}
-
-/// How a trial ended.
-#[derive(Clone, Copy)]
-enum Ended {
-    /// The disk stopped before the last command.
-    Before,
-    /// The last command was refused.
-    Refused,
-    /// It wasn't; and whether the newest state is found in the files.
-    Done(bool),
 }
 
 // Stops the trial after this number of calls, and adds the states that it leaves.
 fn stopped_at(
-    alloc: Global,
-    files: &Files<Stopped>,
-    trial: Trial<'_>,
+    files: &Both,
+    trial: &Trial<'_>,
     calls: u64,
     found: &mut Vec<Vec<u8>>,
 ) -> Result<Ended, Bad> {
-    let copy = copy_of(alloc, files, trial.part, calls)?;
+    let alloc = *found.allocator();
+    let copy = if trial.stops_log {
+        copy_of(alloc, files, calls, u64::MAX)?
+    } else {
+        copy_of(alloc, files, u64::MAX, calls)?
+    };
     let mut answers = Vec::new(alloc);
-    let options = options_of(trial.part);
-    match given(alloc, copy, options, trial.commands, &mut answers) {
-        Some(left) => {
-            let is_newest = finds_both(alloc, left, trial.checks, found)?;
-            if answers.ends_with(b"Refused") {
-                Ok(Ended::Refused)
-            } else {
-                Ok(Ended::Done(is_newest))
-            }
-        }
-        None => Ok(Ended::Before),
+    let Some(left) = given(copy, trial.options, trial.commands, &mut answers) else {
+        return Ok(Ended::Before);
+    };
+    let is_newest = finds_both(left, trial.checks, found)?;
+    if answers.ends_with(b"Refused") {
+        Ok(Ended::Refused)
+    } else {
+        Ok(Ended::Done(is_newest))
     }
 }
 
 // Stops the trial at each call in turn, up to where it is done. Returns whether it was stopped before, and what it does is
 // kept.
-fn stopped_in_turn(
-    alloc: Global,
-    files: &Files<Stopped>,
-    trial: Trial<'_>,
-    found: &mut Vec<Vec<u8>>,
-) -> Result<bool, Bad> {
+fn stopped(files: &Both, trial: &Trial<'_>, found: &mut Vec<Vec<u8>>) -> Result<bool, Bad> {
+    finds(files, trial.checks, found)?;
     let mut is_stopped = false;
     for calls in 0..MAX_CALLS {
-        match stopped_at(alloc, files, trial, calls, found)? {
+        match stopped_at(files, trial, calls, found)? {
             Ended::Before => {}
             Ended::Refused => is_stopped = true,
             Ended::Done(is_newest) => return Ok(is_stopped && is_newest),
@@ -274,61 +226,19 @@ fn stopped_in_turn(
     Ok(false)
 }
 
-fn stop_each(before: &[u8], checks: &[u8], line: &[u8], answer: &mut Vec<u8>) -> Result<(), Bad> {
-    let (part, commands) = first(line)?;
-    let trial = Trial {
-        part: part_of(part)?,
-        commands,
-        checks,
-    };
-    let mut found = Vec::new(*answer.allocator());
-    let kept = stops_over(before, trial, &mut found)?;
-    tells(&found, kept, answer)
-}
-
 // Prepares the files, and stops the trial over them.
-fn stops_over(before: &[u8], trial: Trial<'_>, found: &mut Vec<Vec<u8>>) -> Result<bool, Bad> {
+fn stopped_after(before: &[u8], trial: &Trial<'_>, found: &mut Vec<Vec<u8>>) -> Result<bool, Bad> {
     let alloc = *found.allocator();
-    let files = blank(alloc)?;
-    let mut answers = Vec::new(alloc);
+    let blank = Files {
+        log: file(alloc, &[], u64::MAX)?,
+        db: file(alloc, &[], u64::MAX)?,
+    };
     if before.is_empty() {
-        return stops_in(alloc, &files, trial, found);
+        return stopped(&blank, trial, found);
     }
-    match given(alloc, files, Options::new(1), before, &mut answers) {
-        Some(files) => stops_in(alloc, &files, trial, found),
+    let mut answers = Vec::new(alloc);
+    match given(blank, Options::new(1), before, &mut answers) {
+        Some(files) => stopped(&files, trial, found),
         None => Err(Bad::Words),
-    }
-}
-
-fn stops_in(
-    alloc: Global,
-    files: &Files<Stopped>,
-    trial: Trial<'_>,
-    found: &mut Vec<Vec<u8>>,
-) -> Result<bool, Bad> {
-    finds(alloc, files, trial.checks, found)?;
-    stopped_in_turn(alloc, files, trial, found)
-}
-
-// Adds the states. It is wrong if the call was never stopped or never done, or what it did isn't the newest of them.
-fn tells(found: &[Vec<u8>], is_kept: bool, answer: &mut Vec<u8>) -> Result<(), Bad> {
-    for (place, state) in found.iter().enumerate() {
-        if place > 0 {
-            answer.push(b'\n')?;
-        }
-        answer.extend_from_slice(state)?;
-    }
-    if !is_kept {
-        answer.extend_from_slice(b"\nnever stopped, never done, or lost")?;
-    }
-    Ok(())
-}
-
-fn part_of(word: &[u8]) -> Result<Part, Bad> {
-    match word {
-        b"log" => Ok(Part::Log),
-        b"checkpoint" => Ok(Part::Checkpoint),
-        b"file" => Ok(Part::File),
-        _ => Err(Bad::Words),
     }
 }

@@ -13,13 +13,12 @@
 use crate::bytes::put_bytes;
 use crate::cells::answers;
 use crate::keeping::{done, keeps, says};
-use scoop_keeper::KeeperError;
+use scoop_lines::is;
 use scoop_record::{GatheringStore, Store, adopt_tables, create_tables};
 use scoop_row_player::words::first;
 use scoop_row_player::{Bad, Subject};
 use sqlite::{Alter, Connection, Row};
 use sqlite_value::value::ValueRef;
-use std::alloc::Global;
 use std::str;
 
 /// A database: its connection, the store on it, or the keeper that gathers over that. One of them is there, until a
@@ -42,28 +41,60 @@ impl<S: Alter + Drop> Stores<S> {
 
     /// The medium of the database, unless a refusal dropped the connection.
     pub fn into_medium(mut self) -> Option<S> {
-        parts(&mut self.gathering, &mut self.store);
-        if let Some(store) = self.store.take() {
-            self.connection = Some(store.into_connection());
-        }
+        self.leave();
         match self.connection.take() {
             Some(connection) => Some(connection.into_store()),
             None => None,
         }
     }
 
-    fn keeps(&mut self, name: &[u8], line: &[u8], answer: &mut Vec<u8>) -> Result<(), Bad> {
-        let alloc = *answer.allocator();
-        if let Some(gathering) = &mut self.gathering {
-            return keeps(alloc, gathering, name, line, answer);
+    fn leave(&mut self) {
+        if let Some(gathering) = self.gathering.take() {
+            self.store = Some(gathering.into_inner());
         }
-        match &mut self.store {
-            Some(store) => keeps(alloc, store, name, line, answer),
+        if let Some(store) = self.store.take() {
+            self.connection = Some(store.into_connection());
+        }
+    }
+
+    fn opens(&mut self, name: &[u8], answer: &mut Vec<u8>) -> Result<(), Bad> {
+        let alloc = *answer.allocator();
+        let Some(connection) = self.connection.take() else {
+            return Err(Bad::Command);
+        };
+        let opened = if is(name, "create") {
+            Store::create(alloc, connection)
+        } else {
+            Store::adopt(alloc, connection)
+        };
+        match opened {
+            Ok(store) => {
+                self.store = Some(store);
+                says("ok", answer)
+            }
+            Err(error) => done(Err(error), answer),
+        }
+    }
+
+    fn gathers(&mut self, answer: &mut Vec<u8>) -> Result<(), Bad> {
+        match self.store.take() {
+            Some(store) => {
+                self.gathering = Some(GatheringStore::new(*answer.allocator(), store));
+                says("ok", answer)
+            }
             None => Err(Bad::Command),
         }
     }
 
-    fn queries(&mut self, name: &[u8], line: &[u8], answer: &mut Vec<u8>) -> Result<(), Bad> {
+    // Gives a command to what is there.
+    fn gives(&mut self, name: &[u8], line: &[u8], answer: &mut Vec<u8>) -> Result<(), Bad> {
+        let alloc = *answer.allocator();
+        if let Some(gathering) = &mut self.gathering {
+            return keeps(alloc, gathering, name, line, answer);
+        }
+        if let Some(store) = &mut self.store {
+            return keeps(alloc, store, name, line, answer);
+        }
         match &mut self.connection {
             Some(connection) => queries(connection, name, line, answer),
             None => Err(Bad::Command),
@@ -75,16 +106,14 @@ impl<S: Alter + Drop> Subject for Stores<S> {
     fn does(&mut self, command: &[u8], answer: &mut Vec<u8>) -> Result<(), Bad> {
         let (name, line) = first(command)?;
         match name {
-            b"create" => creates(&mut self.connection, &mut self.store, answer),
-            b"adopt" => adopts(&mut self.connection, &mut self.store, answer),
-            b"gather" => gathers(&mut self.store, &mut self.gathering, answer),
+            b"create" | b"adopt" => self.opens(name, answer),
+            b"gather" => self.gathers(answer),
             b"leave" => {
-                parts(&mut self.gathering, &mut self.store);
-                leaves(&mut self.store, &mut self.connection, answer)
+                self.leave();
+                says("ok", answer)
             }
             b"answer" => answers(&mut self.store, line, answer),
-            b"next" | b"put" | b"load" | b"commit" => self.keeps(name, line, answer),
-            _ => self.queries(name, line, answer),
+            _ => self.gives(name, line, answer),
         }
     }
 
@@ -94,138 +123,44 @@ impl<S: Alter + Drop> Subject for Stores<S> {
     }
 }
 
-fn creates<S: Alter + Drop>(
-    connection: &mut Option<Connection<S>>,
-    store: &mut Option<Store<S>>,
-    answer: &mut Vec<u8>,
-) -> Result<(), Bad> {
-    match connection.take() {
-        Some(connection) => kept(
-            Store::create(*answer.allocator(), connection),
-            store,
-            answer,
-        ),
-        None => Err(Bad::Command),
-    }
-}
-
-fn adopts<S: Alter + Drop>(
-    connection: &mut Option<Connection<S>>,
-    store: &mut Option<Store<S>>,
-    answer: &mut Vec<u8>,
-) -> Result<(), Bad> {
-    match connection.take() {
-        Some(connection) => kept(Store::adopt(*answer.allocator(), connection), store, answer),
-        None => Err(Bad::Command),
-    }
-}
-
-fn kept<S: Alter + Drop>(
-    opened: Result<Store<S>, KeeperError>,
-    store: &mut Option<Store<S>>,
-    answer: &mut Vec<u8>,
-) -> Result<(), Bad> {
-    match opened {
-        Ok(opened) => {
-            *store = Some(opened);
-            says("ok", answer)
-        }
-        Err(error) => done(Err(error), answer),
-    }
-}
-
-fn gathers<S: Alter + Drop>(
-    store: &mut Option<Store<S>>,
-    gathering: &mut Option<GatheringStore<S>>,
-    answer: &mut Vec<u8>,
-) -> Result<(), Bad> {
-    match store.take() {
-        Some(store) => {
-            *gathering = Some(GatheringStore::new(*answer.allocator(), store));
-            says("ok", answer)
-        }
-        None => Err(Bad::Command),
-    }
-}
-
-fn parts<S: Alter + Drop>(gathering: &mut Option<GatheringStore<S>>, store: &mut Option<Store<S>>) {
-    if let Some(gathering) = gathering.take() {
-        *store = Some(gathering.into_inner());
-    }
-}
-
-fn leaves<S: Alter + Drop>(
-    store: &mut Option<Store<S>>,
-    connection: &mut Option<Connection<S>>,
-    answer: &mut Vec<u8>,
-) -> Result<(), Bad> {
-    match store.take() {
-        Some(store) => {
-            *connection = Some(store.into_connection());
-            says("ok", answer)
-        }
-        None => Err(Bad::Command),
-    }
-}
-
 fn queries<S: Alter>(
     connection: &mut Connection<S>,
     name: &[u8],
     line: &[u8],
     answer: &mut Vec<u8>,
 ) -> Result<(), Bad> {
-    let text = str::from_utf8(line).map_err(|_| Bad::Words)?;
+    let Ok(text) = str::from_utf8(line) else {
+        return Err(Bad::Words);
+    };
     match name {
         b"make" => done(create_tables(connection), answer),
         b"take" => done(adopt_tables(*answer.allocator(), connection), answer),
-        b"run" => runs(connection, text, answer),
-        b"find" => finds(connection, text, answer),
+        b"run" => match connection.execute(text, &[]) {
+            Ok(_) => says("ok", answer),
+            Err(_) => says("refused", answer),
+        },
+        b"find" => match connection.query_all(text, &[]) {
+            Ok(rows) => put_rows(&rows, answer),
+            Err(_) => says("refused", answer),
+        },
         _ => Err(Bad::Command),
     }
 }
 
-fn runs<S: Alter>(
-    connection: &mut Connection<S>,
-    text: &str,
-    answer: &mut Vec<u8>,
-) -> Result<(), Bad> {
-    match connection.execute(text, &[]) {
-        Ok(_) => says("ok", answer),
-        Err(_) => says("refused", answer),
-    }
-}
-
-fn finds<S: Alter>(
-    connection: &mut Connection<S>,
-    text: &str,
-    answer: &mut Vec<u8>,
-) -> Result<(), Bad> {
-    match connection.query_all(text, &[]) {
-        Ok(rows) => put_rows(&rows, answer),
-        Err(_) => says("refused", answer),
-    }
-}
-
 fn put_rows(rows: &[Row], answer: &mut Vec<u8>) -> Result<(), Bad> {
-    if rows.is_empty() {
-        return says("none", answer);
-    }
     for (place, row) in rows.iter().enumerate() {
         if place > 0 {
             answer.push(b'\n')?;
         }
-        put_row(row, answer)?;
-    }
-    Ok(())
-}
-
-fn put_row(row: &Row, answer: &mut Vec<u8>) -> Result<(), Bad> {
-    for column in 0..row.column_count() {
-        if column > 0 {
-            answer.push(b'|')?;
+        for column in 0..row.column_count() {
+            if column > 0 {
+                answer.push(b'|')?;
+            }
+            match row.get_ref(column) {
+                Ok(value) => put_value(value, answer)?,
+                Err(_) => return Err(Bad::Words),
+            }
         }
-        let value = row.get_ref(column).map_err(|_| Bad::Words)?;
-        put_value(value, answer)?;
     }
     Ok(())
 }
@@ -238,7 +173,6 @@ fn put_value(value: ValueRef<'_>, answer: &mut Vec<u8>) -> Result<(), Bad> {
             answer.extend_from_slice(text)?;
             Ok(())
         }
-        ValueRef::Null => says("null", answer),
-        ValueRef::Real(_) => Err(Bad::Words),
+        _ => Err(Bad::Words),
     }
 }
