@@ -15,18 +15,22 @@
 //! - `send handler|client N BYTES`, `receive`, `flush` and `faults` are calls of the link.
 //! - `other COMMAND` is a call of the pair's second end. `times N COMMAND` gives the command N times, and answers once if all
 //!   answers are the same.
-//! - `sent I` and `count` ask the tape, `refused` the count of a layer. `changed H` counts a state of handler H.
+//! - `sent I` and `count` ask the tape, `refused` the count of a layer.
+//! - `put H` stores a state of handler H through the keeper that counts, and `stored H` asks whether it has one.
 
 use crate::bytes::{numbers, put_bytes, read_bytes, tells, told};
 use crate::layers::{Layers, Steps, Tape, tape_of};
 use crate::seals::system_key;
 use scoop_admission::{AdmittingLink, BudgetLink, NoReport};
+use scoop_handler::HandlerState;
+use scoop_keeper::{Keeper, MemoryKeeper};
 use scoop_lines::{decimal, is};
 use scoop_link::{Datagram, HoldingLink, Link, PacedLink, Party, Script, ScriptLink};
 use scoop_message::limits::BUFFER_LEN;
-use scoop_message::{ClientId, HandlerId, OutOfMemory};
+use scoop_message::{ClientId, HandlerId, OutOfMemory, Words};
 use scoop_pacing::MeasuredLink;
-use scoop_recall::{Changes, RecallingLink};
+use scoop_queue::QueueOfQueues;
+use scoop_recall::{Changes, CountingKeeper, RecallingLink};
 use scoop_row_player::words::{first, last, number};
 use scoop_row_player::{Bad, Heap, Subject};
 use scoop_seal::SealedLink;
@@ -38,11 +42,12 @@ const MAX_SENT: usize = 1_000;
 
 const CLIENTS: [ClientId; 2] = [ClientId(7), ClientId(8)];
 
-/// The link of a case, and what its tape will be fed.
+/// The link of a case, what its tape will be fed, and a keeper that counts.
 #[derive(Drop)]
 pub(crate) struct Links<'a> {
     heap: Heap<'a>,
     changes: &'a Changes,
+    keeper: CountingKeeper<'a, MemoryKeeper>,
     fed: Vec<Datagram>,
     link: Layers<'a>,
 }
@@ -52,6 +57,7 @@ impl<'a> Links<'a> {
         Links {
             heap,
             changes,
+            keeper: CountingKeeper::new(MemoryKeeper::new(alloc), changes),
             fed: Vec::new(alloc),
             link: Layers::Nothing,
         }
@@ -175,6 +181,17 @@ impl<'a> Links<'a> {
         put_sent(tape, number(last(line)?)? as usize, answer)
     }
 
+    fn stores(&mut self, name: &[u8], handler: HandlerId, answer: &mut Vec<u8>) -> Result<(), Bad> {
+        if is(name, "put") {
+            let state = fresh(*answer.allocator(), handler)?;
+            return told(self.keeper.put_handler(&state), answer);
+        }
+        match self.keeper.load_handler(handler) {
+            Ok(found) => tells(found.is_some(), answer),
+            Err(error) => tells(error, answer),
+        }
+    }
+
     // A command that is given once.
     fn one(&mut self, command: &[u8], answer: &mut Vec<u8>) -> Result<(), Bad> {
         let (name, line) = first(command)?;
@@ -188,10 +205,7 @@ impl<'a> Links<'a> {
             b"other" => self.calls_other(line, answer),
             b"sent" | b"count" => self.asks(name, line, answer),
             b"refused" => tells(self.link.refused(), answer),
-            b"changed" => {
-                self.changes.count(HandlerId(number(last(line)?)?));
-                tells("ok", answer)
-            }
+            b"put" | b"stored" => self.stores(name, HandlerId(number(last(line)?)?), answer),
             b"pair" => self.pairs(line, answer),
             b"sealed" => self.seals(line, answer),
             b"tape"
@@ -226,6 +240,13 @@ impl Subject for Links<'_> {
         }
         Ok(())
     }
+}
+
+// The state of a handler as it opens, with one word.
+fn fresh(alloc: Global, handler: HandlerId) -> Result<HandlerState, Bad> {
+    let words = Words::of(&[5]).map_err(|_| Bad::Number)?;
+    let queues = QueueOfQueues::new(alloc);
+    HandlerState::of(alloc, handler, words, None, &[], queues).map_err(|_| Bad::Memory)
 }
 
 fn call<L: Link>(link: &mut L, name: &[u8], line: &[u8], answer: &mut Vec<u8>) -> Result<(), Bad> {
