@@ -1,20 +1,22 @@
-//! Rows about classes, and objects that are tables of them. The module `class_words` has the words of a class's rows.
+//! Rows about classes and objects. The module `class_words` has the words of a class's rows.
 //!
 //! - `class WORDS ROW..` makes the case's class, which is named `own`, or answers why the rows make none.
-//! - `run CLASS WORD.. : OP ARG..` makes an object with these words, and answers its answer to a request and its new words.
-//! - `restore CLASS WORD.. : WORD..` gives an object new words, and answers `ok` or the refusal, and its words then.
+//! - `same CLASS` answers whether it is the same as this class.
+//! - `run CLASS WORD.. : OP ARG..` makes a table with these words, and answers its answer to a request and its new words.
+//! - `restore CLASS WORD.. : WORD..` gives a table new words, and answers `ok` or the refusal, and its words then.
+//! - `run box CLASS ..` and `restore box CLASS ..` do so with an object of the demo class's own type, in a box.
 //!
 //! CLASS is the name of a demo class, or `own`.
 
 use crate::bytes::{numbers, tells, told};
 use crate::class_words::{rows, small};
-use scoop_classes::demo_class;
+use scoop_classes::{AccountObject, CellObject, CounterObject, ExchangeObject, demo_class};
 use scoop_lines::is;
 use scoop_message::{Args, OutOfMemory, Request, Words};
-use scoop_object::{Behaviour, Class, Table};
-use scoop_row_player::words::first;
+use scoop_object::{Behaviour, Boxed, Class, Object, Table};
+use scoop_row_player::words::{first, last};
 use scoop_row_player::{Bad, Heap, Subject};
-use std::alloc::{Allocator, Global};
+use std::alloc::Global;
 use std::io::Write;
 
 /// The class of a case.
@@ -52,10 +54,21 @@ impl<'a> Objects<'a> {
         }
     }
 
+    fn compares(&self, line: &[u8], answer: &mut Vec<u8>) -> Result<(), Bad> {
+        let own = self.class.as_ref().ok_or(Bad::Words)?;
+        match self.class_named(last(line)?) {
+            Ok(found) => tells(own.same(&found.ok_or(Bad::Words)?), answer),
+            Err(error) => tells(error, answer),
+        }
+    }
+
     // Makes the object that a line describes before its colon, and has it do what the rest says.
     fn acts(&self, name: &[u8], line: &[u8], answer: &mut Vec<u8>) -> Result<(), Bad> {
         let (object, act) = halves(line)?;
         let (class, words) = first(object)?;
+        if is(class, "box") {
+            return acts_boxed(words, name, act, answer);
+        }
         let words = words_of(*answer.allocator(), words)?;
         let class = match self.class_named(class) {
             Ok(found) => found.ok_or(Bad::Words)?,
@@ -73,6 +86,7 @@ impl Subject for Objects<'_> {
         let (name, line) = first(command)?;
         match name {
             b"class" => self.makes(line, answer),
+            b"same" => self.compares(line, answer),
             b"run" | b"restore" => self.acts(name, line, answer),
             _ => Err(Bad::Command),
         }
@@ -86,20 +100,35 @@ impl Subject for Objects<'_> {
     }
 }
 
-fn act_on<A: Allocator>(
-    table: &mut Table<A>,
+// Makes an object of a demo class's own type, in a box, and has it do what a line says.
+fn acts_boxed(object: &[u8], name: &[u8], line: &[u8], answer: &mut Vec<u8>) -> Result<(), Bad> {
+    let alloc = *answer.allocator();
+    let (class, words) = first(object)?;
+    let words = numbers(alloc, words)?;
+    let object: Box<dyn Object + Send> = match (class, words.as_slice()) {
+        (b"cell", [word]) => Box::new(alloc, CellObject::new(*word))?,
+        (b"counter", [word]) => Box::new(alloc, CounterObject::new(*word))?,
+        (b"account", [word]) => Box::new(alloc, AccountObject::new(*word))?,
+        (b"exchange", [held, before]) => Box::new(alloc, ExchangeObject::new(*held, *before))?,
+        _ => return Err(Bad::Words),
+    };
+    act_on(&mut Boxed::new(object), name, line, answer)
+}
+
+fn act_on<B: Behaviour>(
+    object: &mut B,
     name: &[u8],
     line: &[u8],
     answer: &mut Vec<u8>,
 ) -> Result<(), Bad> {
     let alloc = *answer.allocator();
     if is(name, "run") {
-        tells(table.apply(&request(alloc, line)?), answer)?;
+        tells(object.apply(&request(alloc, line)?), answer)?;
     } else {
-        told(table.restore(words_of(alloc, line)?), answer)?;
+        told(object.restore(words_of(alloc, line)?), answer)?;
     }
     answer.extend_from_slice(b" :")?;
-    for word in table.words().as_slice() {
+    for word in object.words().as_slice() {
         write!(answer, " {word}")?;
     }
     Ok(())

@@ -12,9 +12,6 @@ use scoop_row_player::{Bad, Subject};
 use scoop_seal::{Key, hmac};
 use std::alloc::Global;
 
-/// The number of a key's digits. The end of a line follows them in its text.
-const DIGITS: usize = 64;
-
 /// Codes and keys have no state.
 #[derive(Drop)]
 pub(crate) struct Seals;
@@ -25,7 +22,7 @@ impl Subject for Seals {
         match name {
             b"code" => codes(line, answer),
             b"key" => reads(line.strip_prefix(b" ").unwrap_or(line), answer),
-            b"system" => tells_key(&system_key(line)?, answer),
+            b"system" => tells_text(&system_key(line)?.to_text(), answer),
             _ => Err(Bad::Command),
         }
     }
@@ -49,7 +46,7 @@ fn codes(line: &[u8], answer: &mut Vec<u8>) -> Result<(), Bad> {
 fn reads(text: &[u8], answer: &mut Vec<u8>) -> Result<(), Bad> {
     let text = read_text(*answer.allocator(), text)?;
     match Key::read(text.as_slice()) {
-        Ok(key) => tells_key(&key, answer),
+        Ok(key) => tells_text(&key.to_text(), answer),
         Err(error) => tells(error, answer),
     }
 }
@@ -71,8 +68,9 @@ fn read_text(alloc: Global, text: &[u8]) -> Result<Vec<u8>, Bad> {
     Ok(bytes)
 }
 
-fn tells_key(key: &Key, answer: &mut Vec<u8>) -> Result<(), Bad> {
-    answer.extend_from_slice(&key.to_text()[..DIGITS])?;
+// Writes the text of a key, without the end of a line at its end.
+fn tells_text(text: &[u8], answer: &mut Vec<u8>) -> Result<(), Bad> {
+    answer.extend_from_slice(text.strip_suffix(b"\n").unwrap_or(text))?;
     Ok(())
 }
 

@@ -5,7 +5,7 @@
 //! - `client NUMBER TURNS KIND LINES` runs the client with these lines, each of which takes at most this many turns. The kind
 //!   is `script`, `strict` or `typed`. It answers the client's output and its error, if there is one. `cut NUMBER TURNS KIND`
 //!   runs `client --cut`.
-//! - `progress` answers the progress that came with the error. `notes WORDS` and `journal WORDS` answer whether the notes or the
+//! - `progress` answers the progress that came with the error, and `status` its exit status. `notes WORDS` and `journal WORDS` answer whether the notes or the
 //!   journal have these words, and `writes` how many writes the journal took.
 
 use crate::text::{has, read_text, tells, without_last};
@@ -38,6 +38,7 @@ pub struct Sessions {
     written: Written,
     notes: Vec<u8>,
     progress: Progress,
+    status: u8,
 }
 
 // A writer that counts its writes, and fails after a number of them.
@@ -81,6 +82,7 @@ impl Sessions {
             written: Written::new(alloc, u32::MAX),
             notes: Vec::new(alloc),
             progress: Progress::new(),
+            status: 0,
         }
     }
 
@@ -100,6 +102,7 @@ impl Sessions {
             b"notes" => has(&self.notes, line, answer),
             b"journal" => has(&self.written.text, line, answer),
             b"progress" => tells(self.progress, answer),
+            b"status" => tells(self.status, answer),
             b"writes" => tells(self.written.writes, answer),
             _ => Err(Bad::Command),
         }
@@ -129,6 +132,7 @@ impl Sessions {
             Ok(()) => ends(Ok(()), answer),
             Err(stop) => {
                 self.progress = stop.progress;
+                self.status = stop.error.status();
                 ends(Err(stop.error), answer)
             }
         }

@@ -4,16 +4,17 @@
 //! - `print` answers the system as `scoop check` prints it.
 //! - `line TEXT` answers what the line asks a client, or its fault. `script CLIENT TEXT` answers `right`, or the faults of the
 //!   script.
+//! - `serve EXECUTORS HISTORY TURNS` answers `ok`, or which setting of a node is out of its range.
 //!
 //! [`crate::sessions`] has the other commands.
 
 use crate::sessions::Sessions;
-use crate::text::{read_text, tells, without_last};
+use crate::text::{numbers, read_text, tells, without_last};
 use crate::text_lines::TextLines;
 use scoop_message::ClientId;
 use scoop_row_player::words::{first, number};
 use scoop_row_player::{Bad, Subject};
-use scoop_runtime::check_script;
+use scoop_runtime::{Serving, check_script};
 use scoop_system::{ClientLine, LineFaultIn, System, print_system, read_line};
 use std::alloc::Global;
 use std::io;
@@ -73,6 +74,7 @@ impl Subject for Systems {
                 self.text.clear();
                 Ok(())
             }
+            b"serve" => serves(line, answer),
             b"print" | b"line" | b"script" | b"client" | b"cut" => match &self.system {
                 Some(system) => asks(system, &mut self.sessions, name, line, answer),
                 None => Err(Bad::Command),
@@ -83,6 +85,18 @@ impl Subject for Systems {
 
     fn shows(&self, _text: &mut Vec<u8>) -> Result<(), Bad> {
         Ok(())
+    }
+}
+
+// Takes the settings of a node.
+fn serves(line: &[u8], answer: &mut Vec<u8>) -> Result<(), Bad> {
+    let numbers = numbers(*answer.allocator(), line)?;
+    let [executors, history, turns] = numbers.as_slice() else {
+        return Err(Bad::Words);
+    };
+    match Serving::new(*executors as u32, *history as usize, *turns) {
+        Ok(_) => tells("ok", answer),
+        Err(range) => tells(range, answer),
     }
 }
 
