@@ -45,7 +45,12 @@ impl<'a, R: Wait + Clock> Watches<'a, R> {
         match name {
             b"log" => self.logs(line, &mut written)?,
             b"flood" => self.floods(line, &mut written)?,
-            _ => return self.shows_view(name, line, answer),
+            _ => {
+                return match self.view(*answer.allocator()) {
+                    Ok(view) => show_view(&view, name, line, answer),
+                    Err(bad) => Err(bad),
+                };
+            }
         }
         without_times(&written, answer)
     }
@@ -80,13 +85,6 @@ impl<'a, R: Wait + Clock> Watches<'a, R> {
         self.notes(&message, &heard)?;
         log.write_all(self.rt, self.watch, *end);
         Ok(())
-    }
-
-    fn shows_view(&self, name: &[u8], line: &[u8], answer: &mut Vec<u8>) -> Result<(), Bad> {
-        match self.view(*answer.allocator()) {
-            Ok(view) => show_view(&view, name, line, answer),
-            Err(bad) => Err(bad),
-        }
     }
 
     fn view(&self, alloc: Global) -> Result<NodeView<'_>, Bad> {

@@ -62,11 +62,8 @@ pub fn without_last(answer: &mut Vec<u8>) {
 /// Adds whether a text has the words that follow in a row.
 pub fn has(text: &[u8], words: &[u8], answer: &mut Vec<u8>) -> Result<(), Bad> {
     let wanted = read_text(*answer.allocator(), words)?;
-    let (Ok(text), Ok(wanted)) = (str::from_utf8(text), str::from_utf8(&wanted)) else {
-        return Err(Bad::Words);
-    };
-    if wanted.is_empty() {
-        return Err(Bad::Words);
+    match (str::from_utf8(text), str::from_utf8(&wanted)) {
+        (Ok(text), Ok(wanted)) if !wanted.is_empty() => tells(text.contains(wanted), answer),
+        _ => Err(Bad::Words),
     }
-    tells(text.contains(wanted), answer)
 }

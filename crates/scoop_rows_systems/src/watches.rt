@@ -6,11 +6,12 @@
 //! - `greeted MESSAGE` notes a message as a greeting of another handler.
 //! - `stranger CLIENT HANDLER` brings a message of an unknown client. `link G F ROOM N` brings G genuine and F forged
 //!   datagrams over a sealed link that has room for ROOM, and sends N times; it answers how many came and how many sends failed.
-//! - `says TEXT` writes a line of the node's output, and answers whether the node is open before the flush, and after it.
+//! - `says TEXT` writes a line of the node's output, and answers whether the node is open before the flush, whether after it,
+//!   and whether all of the text was passed on.
 //!
 //! [`crate::shown`] has the commands that show it.
 
-use crate::text::{numbers, tells, told};
+use crate::text::{numbers, read_text, tells, told};
 use scoop_admission::Strangers;
 use scoop_demo::read_message;
 use scoop_handler::{Handler, HandlerState, Heard, Note};
@@ -194,17 +195,24 @@ impl<'a, R: Wait + Clock> Watches<'a, R> {
         tells("ok", answer)
     }
 
-    // Writes a line of the node's output, and flushes it twice. Adds whether the node is open before that, and after it.
+    // Writes a line of the node's output. Adds whether the node is open before its flush, whether after it, and whether the
+    // line was passed on.
     fn outputs(&self, line: &[u8], answer: &mut Vec<u8>) -> Result<(), Bad> {
-        let mut written = Vec::new(*answer.allocator());
-        let mut output = WatchedOutput::new(&mut written, self.rt, self.watch);
-        output.write_all(line.strip_prefix(b" ").unwrap_or(line))?;
-        output.write_all(b"\n")?;
+        let alloc = *answer.allocator();
+        let (text, mut written) = (read_text(alloc, line)?, Vec::new(alloc));
+        self.flushes(text.as_slice(), &mut written, answer)?;
+        tells(written.as_slice() == text.as_slice(), answer)
+    }
+
+    // Writes a text, and flushes it twice.
+    fn flushes(&self, text: &[u8], written: &mut Vec<u8>, answer: &mut Vec<u8>) -> Result<(), Bad> {
+        let mut output = WatchedOutput::new(written, self.rt, self.watch);
+        output.write_all(text)?;
         let before = self.watch.tally(self.rt).is_open;
         output.flush()?;
         output.flush()?;
         let after = self.watch.tally(self.rt).is_open;
-        write!(answer, "{before} {after}")?;
+        write!(answer, "{before} {after} ")?;
         Ok(())
     }
 }
