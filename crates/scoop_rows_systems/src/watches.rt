@@ -14,7 +14,7 @@
 use crate::text::{numbers, read_text, tells, told};
 use scoop_admission::Strangers;
 use scoop_demo::read_message;
-use scoop_handler::{Handler, HandlerState, Heard, Note};
+use scoop_handler::{Handler, Heard, Note};
 use scoop_keeper::{FailingKeeper, Keeper, MemoryKeeper};
 use scoop_lines::is;
 use scoop_link::{Link, Party, TapeLink};
