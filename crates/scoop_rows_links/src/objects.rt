@@ -56,10 +56,11 @@ impl<'a> Objects<'a> {
 
     fn compares(&self, line: &[u8], answer: &mut Vec<u8>) -> Result<(), Bad> {
         let own = self.class.as_ref().ok_or(Bad::Words)?;
-        match self.class_named(last(line)?) {
-            Ok(found) => tells(own.same(&found.ok_or(Bad::Words)?), answer),
-            Err(error) => tells(error, answer),
-        }
+        let class = match self.class_named(last(line)?) {
+            Ok(found) => found.ok_or(Bad::Words)?,
+            Err(error) => return tells(error, answer),
+        };
+        tells(own.same(&class), answer)
     }
 
     // Makes the object that a line describes before its colon, and has it do what the rest says.

@@ -22,7 +22,10 @@ impl Subject for Seals {
         match name {
             b"code" => codes(line, answer),
             b"key" => reads(line.strip_prefix(b" ").unwrap_or(line), answer),
-            b"system" => tells_text(&system_key(line)?.to_text(), answer),
+            b"system" => {
+                let key = system_key(line)?;
+                tells_text(&key.to_text(), answer)
+            }
             _ => Err(Bad::Command),
         }
     }
