@@ -16,7 +16,7 @@ use scoop_watch::{LogLevel, Settings, Watch};
 use std::sync::Wait;
 use std::time::Clock;
 use systems::Systems;
-use watches::{Watches, node_of};
+use watches::Watches;
 
 /// The areas of this library. A watch waits for its locks, and a log reads the clock.
 #[derive(Clone, Copy)]
@@ -36,9 +36,10 @@ impl<'a, R: Wait + Clock> SystemAreas<'a, R> {
             shows_states: true,
         };
         let watch = Watch::new(alloc, settings);
-        let node = node_of(alloc)?;
-        let mut watches = Watches::new(alloc, self.rt, &watch, node);
-        play_rows(case, heap, &mut watches, sheet)
+        match Watches::new(alloc, self.rt, &watch) {
+            Ok(mut watches) => play_rows(case, heap, &mut watches, sheet),
+            Err(bad) => Err(bad),
+        }
     }
 }
 

@@ -59,7 +59,14 @@ impl<'a, R: Wait + Clock> Watches<'a, R> {
     fn logs(&self, line: &[u8], written: &mut Vec<u8>) -> Result<(), Bad> {
         let (level, times) = first(line)?;
         let times = numbers(*written.allocator(), times)?;
-        let mut log = Log::new(written, NODE, level_of(level)?);
+        let level = match level {
+            b"off" => LogLevel::Off,
+            b"warn" => LogLevel::Warn,
+            b"info" => LogLevel::Info,
+            b"debug" => LogLevel::Debug,
+            _ => return Err(Bad::Words),
+        };
+        let mut log = Log::new(written, NODE, level);
         for millis in times.as_slice() {
             log.write_all(self.rt, self.watch, *millis);
         }
@@ -72,7 +79,7 @@ impl<'a, R: Wait + Clock> Watches<'a, R> {
         let [rounds, each, millis, end] = numbers.as_slice() else {
             return Err(Bad::Words);
         };
-        let message = Message::Hello(self.node.handler.number(), ClientId(7), 1);
+        let message = Message::Hello(self.handler.number(), ClientId(7), 1);
         let note = Note::Dropped(Reason::Stale);
         let heard = Heard { reply: None, note };
         let mut log = Log::new(written, NODE, LogLevel::Debug);
@@ -88,12 +95,12 @@ impl<'a, R: Wait + Clock> Watches<'a, R> {
     }
 
     fn view(&self, alloc: Global) -> Result<NodeView<'_>, Bad> {
-        let place = self.node.system.nodes().first().ok_or(Bad::Words)?;
+        let place = self.system.nodes().first().ok_or(Bad::Words)?;
         let Ok(started) = Timestamp::from_second(STARTED) else {
             return Err(Bad::Number);
         };
         let about = About {
-            system: &self.node.system,
+            system: &self.system,
             place: *place,
             store: Some(STORE),
             is_sealed: true,
@@ -127,17 +134,6 @@ fn show_view(
         _ => return Err(Bad::Command),
     }
     has(&text, line, answer)
-}
-
-// The level of a log by its name.
-fn level_of(word: &[u8]) -> Result<LogLevel, Bad> {
-    match word {
-        b"off" => Ok(LogLevel::Off),
-        b"warn" => Ok(LogLevel::Warn),
-        b"info" => Ok(LogLevel::Info),
-        b"debug" => Ok(LogLevel::Debug),
-        _ => Err(Bad::Words),
-    }
 }
 
 // Adds the lines of a log without their times.

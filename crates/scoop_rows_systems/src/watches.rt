@@ -48,31 +48,14 @@ const CLIENT: Party = Party::Client(ClientId(7));
 // More datagrams than a row brings.
 const TAKEN: u32 = 1_000;
 
-/// A watch, and what it watches.
+/// A watch, and what it watches: a system, and the first handler of its file.
 #[derive(Drop)]
 pub struct Watches<'a, R> {
     pub(crate) rt: &'a R,
     pub(crate) watch: &'a Watch,
+    pub(crate) system: System,
+    pub(crate) handler: Handler<Table>,
     keeper: WatchedKeeper<'a, MemoryKeeper, R>,
-    pub(crate) node: Node,
-}
-
-/// A system, and the first handler of its file.
-#[derive(Drop)]
-pub struct Node {
-    pub system: System,
-    pub handler: Handler<Table>,
-}
-
-/// The node of the system.
-pub fn node_of(alloc: Global) -> Result<Node, Bad> {
-    let Ok(system) = System::read(alloc, SYSTEM) else {
-        return Err(Bad::Words);
-    };
-    match handler_of(alloc, &system) {
-        Ok(handler) => Ok(Node { system, handler }),
-        Err(bad) => Err(bad),
-    }
 }
 
 fn handler_of(alloc: Global, system: &System) -> Result<Handler<Table>, Bad> {
@@ -94,7 +77,7 @@ impl<R: Wait + Clock> Subject for Watches<'_, R> {
         match name {
             b"hear" | b"greeted" => self.hears(name, line, answer),
             b"run" => self.runs(answer),
-            b"put" => told(self.keeper.put_handler(self.node.handler.state()), answer),
+            b"put" => told(self.keeper.put_handler(self.handler.state()), answer),
             b"refuse" => self.refuses(answer),
             b"load" => self.loads(HandlerId(number(last(line)?)?), answer),
             b"shown" => self.compares(HandlerId(number(last(line)?)?), answer),
@@ -111,12 +94,19 @@ impl<R: Wait + Clock> Subject for Watches<'_, R> {
 }
 
 impl<'a, R: Wait + Clock> Watches<'a, R> {
-    pub fn new(alloc: Global, rt: &'a R, watch: &'a Watch, node: Node) -> Watches<'a, R> {
-        Watches {
-            rt,
-            watch,
-            keeper: WatchedKeeper::new(MemoryKeeper::new(alloc), rt, watch),
-            node,
+    pub fn new(alloc: Global, rt: &'a R, watch: &'a Watch) -> Result<Watches<'a, R>, Bad> {
+        let Ok(system) = System::read(alloc, SYSTEM) else {
+            return Err(Bad::Words);
+        };
+        match handler_of(alloc, &system) {
+            Ok(handler) => Ok(Watches {
+                rt,
+                watch,
+                system,
+                handler,
+                keeper: WatchedKeeper::new(MemoryKeeper::new(alloc), rt, watch),
+            }),
+            Err(bad) => Err(bad),
         }
     }
 
@@ -139,7 +129,7 @@ impl<'a, R: Wait + Clock> Watches<'a, R> {
             self.notes(&message, &Heard { reply: None, note })?;
             return tells("ok", answer);
         }
-        let Ok(heard) = self.node.handler.hear(&message) else {
+        let Ok(heard) = self.handler.hear(&message) else {
             return Err(Bad::Memory);
         };
         write!(answer, "{}", heard.note)?;
@@ -148,11 +138,11 @@ impl<'a, R: Wait + Clock> Watches<'a, R> {
 
     // Runs the handler's next entry, and adds its number.
     fn runs(&mut self, answer: &mut Vec<u8>) -> Result<(), Bad> {
-        let Some(ran) = self.node.handler.run() else {
+        let Some(ran) = self.handler.run() else {
             return tells("none", answer);
         };
         write!(answer, "{} {}", ran.block, ran.number)?;
-        match self.keeper.note_finished(self.node.handler.number()) {
+        match self.keeper.note_finished(self.handler.number()) {
             Ok(()) => Ok(()),
             Err(_) => Err(Bad::Memory),
         }
@@ -162,13 +152,13 @@ impl<'a, R: Wait + Clock> Watches<'a, R> {
     fn refuses(&self, answer: &mut Vec<u8>) -> Result<(), Bad> {
         let failing = FailingKeeper::new(MemoryKeeper::new(*answer.allocator()), 0);
         let mut watched = WatchedKeeper::new(failing, self.rt, self.watch);
-        told(watched.put_handler(self.node.handler.state()), answer)
+        told(watched.put_handler(self.handler.state()), answer)
     }
 
     // Loads a handler from a store that has the state.
     fn loads(&self, handler: HandlerId, answer: &mut Vec<u8>) -> Result<(), Bad> {
         let mut keeper = MemoryKeeper::new(*answer.allocator());
-        if let Err(error) = keeper.put_handler(self.node.handler.state()) {
+        if let Err(error) = keeper.put_handler(self.handler.state()) {
             return tells(error, answer);
         }
         let mut watched = WatchedKeeper::new(keeper, self.rt, self.watch);
@@ -181,7 +171,7 @@ impl<'a, R: Wait + Clock> Watches<'a, R> {
     // Compares what the watch shows with the handler's state.
     fn compares(&self, handler: HandlerId, answer: &mut Vec<u8>) -> Result<(), Bad> {
         match self.watch.state(self.rt, handler) {
-            Ok(Some(shown)) if shown.same(self.node.handler.state()) => tells("same", answer),
+            Ok(Some(shown)) if shown.same(self.handler.state()) => tells("same", answer),
             Ok(Some(_)) => tells("other", answer),
             Ok(None) => tells("none", answer),
             Err(_) => Err(Bad::Memory),
