@@ -1,36 +1,18 @@
 //! Classes in words. A row is `OP:TEST:WRITES:ANSWER`, as `2:a0<=w0:w0=w0+0-a0:w0`.
 //!
 //! A term is a number, `w0` for a word or `a0` for an argument. `-` stands for no test and no writes, and a comma stands
-//! between writes. `N*ROW` stands for N such rows.
+//! between writes.
 
-use crate::bytes::{counted, parted, push_times, words_in};
-use scoop_lines::{decimal, decimal_u16, decimal_u32, is};
-use scoop_object::{OpRow, Term, TooManyWrites, Write, Writes};
+use crate::bytes::words_in;
+use scoop_lines::{decimal, decimal_u16, is};
+use scoop_object::{OpRow, Term, Write, Writes};
 use scoop_row_player::Bad;
+use scoop_row_player::words::number;
 use std::alloc::Global;
 
-/// Why words make no rows.
-#[derive(Clone, Copy)]
-pub(crate) enum NoRows {
-    Bad(Bad),
-    TooManyWrites,
-}
-
-impl From<Bad> for NoRows {
-    fn from(bad: Bad) -> NoRows {
-        NoRows::Bad(bad)
-    }
-}
-
-impl From<TooManyWrites> for NoRows {
-    fn from(_: TooManyWrites) -> NoRows {
-        NoRows::TooManyWrites
-    }
-}
-
-fn small(digits: &[u8]) -> Result<u8, Bad> {
-    let number = decimal_u32(digits).ok_or(Bad::Number)?;
-    u8::try_from(number).map_err(|_| Bad::Number)
+/// The number of 8 bits that a word writes.
+pub(crate) fn small(digits: &[u8]) -> Result<u8, Bad> {
+    u8::try_from(number(digits)?).map_err(|_| Bad::Number)
 }
 
 fn term(word: &[u8]) -> Result<Term, Bad> {
@@ -43,9 +25,9 @@ fn term(word: &[u8]) -> Result<Term, Bad> {
 
 // The parts of a word before and after a byte.
 fn halves(word: &[u8], byte: u8) -> Result<(&[u8], &[u8]), Bad> {
-    match parted(word, byte) {
-        (first, Some(second)) => Ok((first, second)),
-        (_, None) => Err(Bad::Words),
+    match word.iter().position(|at| *at == byte) {
+        Some(place) => Ok((&word[..place], &word[place + 1..])),
+        None => Err(Bad::Words),
     }
 }
 
@@ -73,17 +55,17 @@ fn write(word: &[u8]) -> Result<Write, Bad> {
     })
 }
 
-fn writes(alloc: Global, word: &[u8]) -> Result<Writes, NoRows> {
+fn writes(alloc: Global, word: &[u8]) -> Result<Writes, Bad> {
     let mut all = Vec::new(alloc);
     if !is(word, "-") {
         for part in word.split(|byte| *byte == b',') {
-            all.push(write(part)?).map_err(|_| Bad::Memory)?;
+            all.push(write(part)?)?;
         }
     }
-    Ok(Writes::of(all.as_slice())?)
+    Writes::of(all.as_slice()).map_err(|_| Bad::Words)
 }
 
-fn row(alloc: Global, word: &[u8]) -> Result<OpRow, NoRows> {
+fn row(alloc: Global, word: &[u8]) -> Result<OpRow, Bad> {
     let (op, fields) = halves(word, b':')?;
     let (test_word, fields) = halves(fields, b':')?;
     let (writes_word, answer) = halves(fields, b':')?;
@@ -96,11 +78,10 @@ fn row(alloc: Global, word: &[u8]) -> Result<OpRow, NoRows> {
 }
 
 /// The rows that the words of a line write.
-pub(crate) fn rows(alloc: Global, line: &[u8]) -> Result<Vec<OpRow>, NoRows> {
+pub(crate) fn rows(alloc: Global, line: &[u8]) -> Result<Vec<OpRow>, Bad> {
     let mut rows = Vec::new(alloc);
     for word in words_in(alloc, line)?.as_slice() {
-        let (count, word) = counted(*word)?;
-        push_times(&mut rows, &row(alloc, word)?, count)?;
+        rows.push(row(alloc, *word)?)?;
     }
     Ok(rows)
 }

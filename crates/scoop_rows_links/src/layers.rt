@@ -1,4 +1,4 @@
-//! Links in layers over a tape, or over one end of a pair.
+//! Links in layers over a tape, and the two ends of a pair.
 
 use scoop_admission::{AdmittingLink, BudgetLink, NoReport};
 use scoop_link::{Datagram, HoldingLink, PacedLink, ScriptLink, TapeLink};
@@ -32,8 +32,6 @@ impl Times for Steps {
 
 pub(crate) type Tape<'a> = TapeLink<Heap<'a>>;
 
-pub(crate) type End<'a> = ScriptLink<Heap<'a>>;
-
 /// The link of a case.
 #[derive(Drop)]
 pub(crate) enum Layers<'a> {
@@ -46,8 +44,7 @@ pub(crate) enum Layers<'a> {
     Budget(BudgetLink<Tape<'a>, Steps, Heap<'a>>),
     Measured(MeasuredLink<Tape<'a>, Steps, Heap<'a>>),
     Recalling(RecallingLink<'a, Tape<'a>, Heap<'a>>),
-    End(End<'a>),
-    PacedEnd(PacedLink<End<'a>, Heap<'a>>),
+    Pair(ScriptLink<Heap<'a>>, ScriptLink<Heap<'a>>),
 }
 
 impl<'a> Layers<'a> {
@@ -62,7 +59,7 @@ impl<'a> Layers<'a> {
             Layers::Budget(link) => Some(link.inner()),
             Layers::Measured(link) => Some(link.inner()),
             Layers::Recalling(link) => Some(link.inner()),
-            Layers::Nothing | Layers::End(_) | Layers::PacedEnd(_) => None,
+            Layers::Nothing | Layers::Pair(..) => None,
         }
     }
 

@@ -1,32 +1,30 @@
-//! Rows about links. Bytes are in hex digits, where `N*DIGITS` stands for N of them.
+//! Rows about links. Bytes are in hex digits.
 //!
-//! A case first feeds the tape, and then makes its link. That is layers over a tape with room for ROOM sent datagrams, or an end
-//! of a pair whose lanes have this room.
+//! A case first has the datagrams that will come, by `feed BYTES`, and then makes its link. That is layers over a tape with room
+//! for ROOM sent datagrams, or a pair of ends whose lanes have this room.
 //!
-//! - `feed BYTES` is one datagram to come, `turned BYTES` one for each bit of the bytes, in which that bit is turned.
-//! - `tape ROOM`
+//! - `tape ROOM`, `recalling ROOM`
 //! - `holding ROOM` and `passing ROOM`: a holding link that holds, and one that doesn't
-//! - `paced ROOM PARTIES REPEATS`
-//! - `sealed ROOM KEY NAME LIFE`: with the key of the system of this name (`-`: none) and life
-//! - `admitting ROOM CLIENT..`, `budget ROOM STEP CLIENT..` and `measured ROOM STEP PARTIES`: each look at the clock is STEP
-//!   microseconds after the last one
-//! - `recalling ROOM`
-//! - `pair ROOM DROP DOUBLE FAIL [PARTIES REPEATS]`: an end with this script, rate-limited if both are given, and one without
+//! - `paced ROOM`: for two parties, with two repeats
+//! - `sealed ROOM NAME LIFE`: with the key of the system of this name (`-`: none) and life
+//! - `admitting ROOM`: for clients 7 and 8
+//! - `budget ROOM`: for clients 7 and 8, each look at the clock 400 microseconds after the last one
+//! - `measured ROOM`: for one party, each look at the clock 50 milliseconds after the last one
+//! - `pair ROOM DROP DOUBLE FAIL`: an end with this script, and one without
 //!
-//! - `send handler|client N BYTES`, `receive`, `flush` and `faults` are calls of the link. `send_up N` sends client 7 the bytes
-//!   from 1 to N, each as one datagram; `receive_all` receives until nothing comes.
+//! - `send handler|client N BYTES`, `receive`, `flush` and `faults` are calls of the link.
 //! - `other COMMAND` is a call of the pair's second end. `times N COMMAND` gives the command N times, and answers once if all
 //!   answers are the same.
-//! - `sent I`, `count`, `to_come` and `inner_faults` ask the tape, `refused` the count of a layer.
-//! - `changed H` counts a state of handler H. `put H` stores one through the keeper that counts; `stored H` asks it.
+//! - `sent I` and `count` ask the tape, `refused` the count of a layer.
+//! - `put H` stores a state of handler H through the keeper that counts, and `stored H` asks whether it has one.
 
-use crate::bytes::{put_bytes, read_bytes, take_number, take_size, tells, told, words_in};
-use crate::layers::{End, Layers, Steps, Tape, tape_of};
+use crate::bytes::{numbers, put_bytes, read_bytes, tells, told};
+use crate::layers::{Layers, Steps, Tape, tape_of};
 use crate::seals::system_key;
 use scoop_admission::{AdmittingLink, BudgetLink, NoReport};
 use scoop_handler::HandlerState;
 use scoop_keeper::{Keeper, MemoryKeeper};
-use scoop_lines::{is, next_word};
+use scoop_lines::{decimal, is};
 use scoop_link::{Datagram, HoldingLink, Link, PacedLink, Party, Script, ScriptLink};
 use scoop_message::limits::BUFFER_LEN;
 use scoop_message::{ClientId, HandlerId, OutOfMemory, Words};
@@ -39,33 +37,12 @@ use scoop_seal::SealedLink;
 use std::alloc::Global;
 use std::io::Write;
 
-/// More datagrams than a row receives.
-const MAX_RECEIVED: usize = 100;
 /// More datagrams than a tape sends.
 const MAX_SENT: usize = 1_000;
 
-const NONE: &[u8] = b"none";
+const CLIENTS: [ClientId; 2] = [ClientId(7), ClientId(8)];
 
-/// Why no link was made.
-#[derive(Clone, Copy)]
-enum NoLink {
-    Bad(Bad),
-    OutOfMemory,
-}
-
-impl From<Bad> for NoLink {
-    fn from(bad: Bad) -> NoLink {
-        NoLink::Bad(bad)
-    }
-}
-
-impl From<OutOfMemory> for NoLink {
-    fn from(_: OutOfMemory) -> NoLink {
-        NoLink::OutOfMemory
-    }
-}
-
-/// The link of a case, with the second end of its pair, and a keeper that counts.
+/// The link of a case, what its tape will be fed, and a keeper that counts.
 #[derive(Drop)]
 pub(crate) struct Links<'a> {
     heap: Heap<'a>,
@@ -73,7 +50,6 @@ pub(crate) struct Links<'a> {
     keeper: CountingKeeper<'a, MemoryKeeper>,
     fed: Vec<Datagram>,
     link: Layers<'a>,
-    other: Option<End<'a>>,
 }
 
 impl<'a> Links<'a> {
@@ -84,83 +60,72 @@ impl<'a> Links<'a> {
             keeper: CountingKeeper::new(MemoryKeeper::new(alloc), changes),
             fed: Vec::new(alloc),
             link: Layers::Nothing,
-            other: None,
         }
     }
 
-    fn tape(&self, room: usize) -> Result<Tape<'a>, OutOfMemory> {
-        tape_of(self.heap, room, self.fed.as_slice())
-    }
-
-    // Makes the layers of a name over a new tape.
-    fn layers(&self, alloc: Global, name: &[u8], line: &[u8]) -> Result<Layers<'a>, NoLink> {
-        let (room, line) = take_size(line)?;
-        match name {
-            b"tape" => Ok(Layers::Tape(self.tape(room)?)),
-            b"holding" => Ok(Layers::Holding(HoldingLink::new(alloc, self.tape(room)?, true))),
-            b"passing" => Ok(Layers::Holding(HoldingLink::new(alloc, self.tape(room)?, false))),
-            b"sealed" => {
-                let key = system_key(alloc, line)?;
-                Ok(Layers::Sealed(SealedLink::new(self.tape(room)?, key)))
-            }
-            b"recalling" => Ok(Layers::Recalling(RecallingLink::new(
-                self.heap,
-                self.tape(room)?,
-                self.changes,
-            )?)),
+    // Makes the layers of a name over a tape with this room.
+    fn layers(&self, name: &[u8], room: usize) -> Result<Layers<'a>, OutOfMemory> {
+        let (heap, alloc) = (self.heap, *self.fed.allocator());
+        let tape = tape_of(heap, room, self.fed.as_slice())?;
+        Ok(match name {
+            b"holding" => Layers::Holding(HoldingLink::new(alloc, tape, true)),
+            b"passing" => Layers::Holding(HoldingLink::new(alloc, tape, false)),
+            b"paced" => Layers::Paced(PacedLink::new(heap, tape, 2, 2)?),
             b"admitting" => {
-                let clients = clients(alloc, line)?;
-                Ok(Layers::Admitting(AdmittingLink::new(self.tape(room)?, clients, NoReport)))
+                let clients = Vec::from_slice(alloc, &CLIENTS)?;
+                Layers::Admitting(AdmittingLink::new(tape, clients, NoReport))
             }
-            b"paced" => {
-                let (parties, repeats) = read_pace(line)?;
-                Ok(Layers::Paced(PacedLink::new(self.heap, self.tape(room)?, parties, repeats)?))
+            b"budget" => Layers::Budget(BudgetLink::new(heap, tape, Steps::of(400), &CLIENTS)?),
+            b"measured" => {
+                Layers::Measured(MeasuredLink::new(heap, tape, Steps::of(50_000), 1, 0)?)
             }
-            b"budget" => self.budget(alloc, room, line),
-            b"measured" => self.measured(room, line),
-            _ => Err(NoLink::Bad(Bad::Command)),
-        }
-    }
-
-    fn budget(&self, alloc: Global, room: usize, line: &[u8]) -> Result<Layers<'a>, NoLink> {
-        let (step, line) = take_number(line)?;
-        let clients = clients(alloc, line)?;
-        let clock = Steps::of(step);
-        let tape = self.tape(room)?;
-        Ok(Layers::Budget(BudgetLink::new(self.heap, tape, clock, clients.as_slice())?))
-    }
-
-    fn measured(&self, room: usize, line: &[u8]) -> Result<Layers<'a>, NoLink> {
-        let (step, line) = take_number(line)?;
-        let (parties, _) = take_size(line)?;
-        let clock = Steps::of(step);
-        let tape = self.tape(room)?;
-        Ok(Layers::Measured(MeasuredLink::new(self.heap, tape, clock, parties, 0)?))
+            b"recalling" => Layers::Recalling(RecallingLink::new(heap, tape, self.changes)?),
+            _ => Layers::Tape(tape),
+        })
     }
 
     fn makes(&mut self, name: &[u8], line: &[u8], answer: &mut Vec<u8>) -> Result<(), Bad> {
-        match self.layers(*answer.allocator(), name, line) {
-            Ok(link) => {
-                self.link = link;
-                tells("ok", answer)
-            }
-            Err(NoLink::OutOfMemory) => tells(OutOfMemory, answer),
-            Err(NoLink::Bad(bad)) => Err(bad),
-        }
+        let room = decimal(last(line)?).ok_or(Bad::Number)?;
+        let made = self.layers(name, room as usize);
+        self.takes(made, answer)
     }
 
-    // Makes two ends: the first with the script of the line, and rate-limited if the line says how.
-    fn ends(&mut self, line: &[u8], answer: &mut Vec<u8>) -> Result<(), Bad> {
-        let (room, line) = take_size(line)?;
-        let (script, line) = take_script(line)?;
-        let pace = match next_word(line) {
-            Some(_) => Some(read_pace(line)?),
-            None => None,
+    fn seals(&mut self, line: &[u8], answer: &mut Vec<u8>) -> Result<(), Bad> {
+        let (room, line) = first(line)?;
+        let key = system_key(line)?;
+        let made = match tape_of(self.heap, number(room)? as usize, self.fed.as_slice()) {
+            Ok(tape) => Ok(Layers::Sealed(SealedLink::new(tape, key))),
+            Err(error) => Err(error),
         };
-        match ends_of(self.heap, room, script, pace) {
-            Ok((link, other)) => {
+        self.takes(made, answer)
+    }
+
+    // Makes two ends, the first one with the script of the line.
+    fn pairs(&mut self, line: &[u8], answer: &mut Vec<u8>) -> Result<(), Bad> {
+        let numbers = numbers(*answer.allocator(), line)?;
+        let [room, drop_every, double_every, fail_at] = numbers.as_slice() else {
+            return Err(Bad::Words);
+        };
+        let script = Script {
+            drop_every: *drop_every,
+            double_every: *double_every,
+            fail_at: *fail_at,
+        };
+        let made = match ScriptLink::pair(self.heap, script, Script::default(), *room as usize) {
+            Ok((link, other)) => Ok(Layers::Pair(link, other)),
+            Err(error) => Err(error),
+        };
+        self.takes(made, answer)
+    }
+
+    fn takes(
+        &mut self,
+        made: Result<Layers<'a>, OutOfMemory>,
+        answer: &mut Vec<u8>,
+    ) -> Result<(), Bad> {
+        match made {
+            Ok(link) => {
                 self.link = link;
-                self.other = Some(other);
                 tells("ok", answer)
             }
             Err(error) => tells(error, answer),
@@ -169,8 +134,8 @@ impl<'a> Links<'a> {
 
     // The answers of a command that is given several times: one if they are the same.
     fn repeats(&mut self, line: &[u8], answer: &mut Vec<u8>) -> Result<(), Bad> {
-        let (times, command) = take_number(line)?;
-        for _ in 0..times {
+        let (times, command) = first(line)?;
+        for _ in 0..number(times)? {
             let mut once = Vec::new(*answer.allocator());
             self.one(command, &mut once)?;
             if answer.is_empty() {
@@ -184,8 +149,7 @@ impl<'a> Links<'a> {
         Ok(())
     }
 
-    fn calls(&mut self, command: &[u8], answer: &mut Vec<u8>) -> Result<(), Bad> {
-        let (name, line) = first(command)?;
+    fn calls(&mut self, name: &[u8], line: &[u8], answer: &mut Vec<u8>) -> Result<(), Bad> {
         match &mut self.link {
             Layers::Nothing => Err(Bad::Command),
             Layers::Tape(link) => call(link, name, line, answer),
@@ -196,75 +160,35 @@ impl<'a> Links<'a> {
             Layers::Budget(link) => call(link, name, line, answer),
             Layers::Measured(link) => call(link, name, line, answer),
             Layers::Recalling(link) => call(link, name, line, answer),
-            Layers::End(link) => call(link, name, line, answer),
-            Layers::PacedEnd(link) => call(link, name, line, answer),
+            Layers::Pair(link, _) => call(link, name, line, answer),
         }
     }
 
     fn calls_other(&mut self, command: &[u8], answer: &mut Vec<u8>) -> Result<(), Bad> {
         let (name, line) = first(command)?;
-        match &mut self.other {
-            Some(end) => call(end, name, line, answer),
-            None => Err(Bad::Command),
+        match &mut self.link {
+            Layers::Pair(_, other) => call(other, name, line, answer),
+            _ => Err(Bad::Command),
         }
     }
 
-    // Feeds the tape that is there, or the one that is made next.
-    fn feeds(&mut self, bytes: &[u8], answer: &mut Vec<u8>) -> Result<(), Bad> {
-        if let Layers::Tape(tape) = &mut self.link {
-            return told(tape.feed(bytes), answer);
-        }
-        self.fed.push(Datagram::of(bytes))?;
-        tells("ok", answer)
-    }
-
-    // Feeds a datagram for each bit, in which it is turned.
-    fn feeds_turned(&mut self, datagram: &[u8]) -> Result<(), Bad> {
-        for place in 0..datagram.len() {
-            for bit in [1u8, 2, 4, 8, 16, 32, 64, 128] {
-                self.feeds_one_turned(datagram, place, bit)?;
-            }
-        }
-        Ok(())
-    }
-
-    fn feeds_one_turned(&mut self, datagram: &[u8], place: usize, bit: u8) -> Result<(), Bad> {
-        let mut turned = Vec::from_slice(*self.fed.allocator(), datagram)?;
-        if let Some(byte) = turned.get_mut(place) {
-            *byte ^= bit;
-        }
-        self.fed.push(Datagram::of(turned.as_slice()))?;
-        Ok(())
-    }
-
-    // Asks the tape, or the count of a layer.
+    // Asks the tape.
     fn asks(&self, name: &[u8], line: &[u8], answer: &mut Vec<u8>) -> Result<(), Bad> {
-        if is(name, "refused") {
-            return tells(self.link.refused(), answer);
-        }
         let tape = self.link.tape().ok_or(Bad::Command)?;
-        match name {
-            b"sent" => put_sent(tape, take_size(line)?.0, answer),
-            b"count" => tells(count_sent(tape), answer),
-            b"to_come" => tells(tape.to_come(), answer),
-            _ => tells(tape.faults(), answer),
+        if is(name, "count") {
+            return tells(count_sent(tape), answer);
         }
+        put_sent(tape, number(last(line)?)? as usize, answer)
     }
 
     fn stores(&mut self, name: &[u8], handler: HandlerId, answer: &mut Vec<u8>) -> Result<(), Bad> {
-        match name {
-            b"changed" => {
-                self.changes.count(handler);
-                tells("ok", answer)
-            }
-            b"put" => {
-                let state = fresh(*answer.allocator(), handler)?;
-                told(self.keeper.put_handler(&state), answer)
-            }
-            _ => match self.keeper.load_handler(handler) {
-                Ok(found) => tells(found.is_some(), answer),
-                Err(error) => tells(error, answer),
-            },
+        if is(name, "put") {
+            let state = fresh(*answer.allocator(), handler)?;
+            return told(self.keeper.put_handler(&state), answer);
+        }
+        match self.keeper.load_handler(handler) {
+            Ok(found) => tells(found.is_some(), answer),
+            Err(error) => tells(error, answer),
         }
     }
 
@@ -274,25 +198,25 @@ impl<'a> Links<'a> {
         match name {
             b"feed" => {
                 let bytes = read_bytes(*answer.allocator(), line)?;
-                self.feeds(bytes.as_slice(), answer)
-            }
-            b"turned" => {
-                let bytes = read_bytes(*answer.allocator(), line)?;
-                self.feeds_turned(bytes.as_slice())?;
+                self.fed.push(Datagram::of(bytes.as_slice()))?;
                 tells("ok", answer)
             }
-            b"send" | b"send_up" | b"receive" | b"receive_all" | b"flush" | b"faults" => {
-                self.calls(command, answer)
-            }
+            b"send" | b"receive" | b"flush" | b"faults" => self.calls(name, line, answer),
             b"other" => self.calls_other(line, answer),
-            b"pair" => self.ends(line, answer),
-            b"refused" | b"sent" | b"count" | b"to_come" | b"inner_faults" => self.asks(
-                name, line, answer,
-            ),
-            b"changed" | b"put" | b"stored" => {
-                self.stores(name, HandlerId(number(last(line)?)?), answer)
-            }
-            _ => self.makes(name, line, answer),
+            b"sent" | b"count" => self.asks(name, line, answer),
+            b"refused" => tells(self.link.refused(), answer),
+            b"put" | b"stored" => self.stores(name, HandlerId(number(last(line)?)?), answer),
+            b"pair" => self.pairs(line, answer),
+            b"sealed" => self.seals(line, answer),
+            b"tape"
+            | b"holding"
+            | b"passing"
+            | b"paced"
+            | b"admitting"
+            | b"budget"
+            | b"measured"
+            | b"recalling" => self.makes(name, line, answer),
+            _ => Err(Bad::Command),
         }
     }
 }
@@ -318,49 +242,6 @@ impl Subject for Links<'_> {
     }
 }
 
-fn take_script(line: &[u8]) -> Result<(Script, &[u8]), Bad> {
-    let (drop_every, line) = take_number(line)?;
-    let (double_every, line) = take_number(line)?;
-    let (fail_at, line) = take_number(line)?;
-    let script = Script {
-        drop_every,
-        double_every,
-        fail_at,
-    };
-    Ok((script, line))
-}
-
-// The parties and the repeats of a retransmission limit.
-fn read_pace(line: &[u8]) -> Result<(usize, u64), Bad> {
-    let (parties, line) = take_size(line)?;
-    let (repeats, _) = take_number(line)?;
-    Ok((parties, repeats))
-}
-
-fn ends_of<'a>(
-    heap: Heap<'a>,
-    room: usize,
-    script: Script,
-    pace: Option<(usize, u64)>,
-) -> Result<(Layers<'a>, End<'a>), OutOfMemory> {
-    let (end, other) = ScriptLink::pair(heap, script, Script::default(), room)?;
-    match pace {
-        None => Ok((Layers::End(end), other)),
-        Some((parties, repeats)) => {
-            let link = PacedLink::new(heap, end, parties, repeats)?;
-            Ok((Layers::PacedEnd(link), other))
-        }
-    }
-}
-
-fn clients(alloc: Global, line: &[u8]) -> Result<Vec<ClientId>, Bad> {
-    let mut clients = Vec::new(alloc);
-    for word in words_in(alloc, line)?.as_slice() {
-        clients.push(ClientId(number(*word)?))?;
-    }
-    Ok(clients)
-}
-
 // The state of a handler as it opens, with one word.
 fn fresh(alloc: Global, handler: HandlerId) -> Result<HandlerState, Bad> {
     let words = Words::of(&[5]).map_err(|_| Bad::Number)?;
@@ -375,43 +256,11 @@ fn call<L: Link>(link: &mut L, name: &[u8], line: &[u8], answer: &mut Vec<u8>) -
             let bytes = read_bytes(*answer.allocator(), line)?;
             told(link.send(party, bytes.as_slice()), answer)
         }
-        b"send_up" => sends_up(link, take_number(line)?.0, answer),
         b"receive" => receives(link, answer),
-        b"receive_all" => receives_all(link, answer),
         b"flush" => told(link.flush(), answer),
         b"faults" => tells(link.faults(), answer),
         _ => Err(Bad::Command),
     }
-}
-
-// Sends bytes from 1 up to a number, each as one datagram.
-fn sends_up<L: Link>(link: &mut L, count: u64, answer: &mut Vec<u8>) -> Result<(), Bad> {
-    let count = u8::try_from(count).map_err(|_| Bad::Number)?;
-    for byte in 0..count {
-        if let Err(fault) = link.send(Party::Client(ClientId(7)), &[byte + 1]) {
-            return tells(fault, answer);
-        }
-    }
-    tells("ok", answer)
-}
-
-// Receives until nothing comes.
-fn receives_all<L: Link>(link: &mut L, answer: &mut Vec<u8>) -> Result<(), Bad> {
-    for _ in 0..MAX_RECEIVED {
-        let mut once = Vec::new(*answer.allocator());
-        receives(link, &mut once)?;
-        if once.as_slice() == NONE && !answer.is_empty() {
-            return Ok(());
-        }
-        if !answer.is_empty() {
-            answer.push(b' ')?;
-        }
-        answer.extend_from_slice(once.as_slice())?;
-        if once.as_slice() == NONE {
-            return Ok(());
-        }
-    }
-    Ok(())
 }
 
 fn receives<L: Link>(link: &mut L, answer: &mut Vec<u8>) -> Result<(), Bad> {
@@ -436,22 +285,22 @@ fn take_party(line: &[u8]) -> Result<(Party, &[u8]), Bad> {
 
 // The number of datagrams that a tape has sent.
 fn count_sent(tape: &Tape<'_>) -> usize {
-    (0..MAX_SENT)
-        .position(|i| tape.sent(i).is_none())
-        .unwrap_or(MAX_SENT)
+    for i in 0..MAX_SENT {
+        if tape.sent(i).is_none() {
+            return i;
+        }
+    }
+    MAX_SENT
 }
 
 // Writes the i-th datagram that a tape has sent, and its receiver.
 fn put_sent(tape: &Tape<'_>, i: usize, answer: &mut Vec<u8>) -> Result<(), Bad> {
-    match tape.sent(i) {
-        None => tells("none", answer),
-        Some((Party::Handler(handler), bytes)) => {
-            write!(answer, "handler {handler} ")?;
-            put_bytes(bytes, answer)
-        }
-        Some((Party::Client(client), bytes)) => {
-            write!(answer, "client {client} ")?;
-            put_bytes(bytes, answer)
-        }
+    let Some((party, bytes)) = tape.sent(i) else {
+        return tells("none", answer);
+    };
+    match party {
+        Party::Handler(handler) => write!(answer, "handler {handler} ")?,
+        Party::Client(client) => write!(answer, "client {client} ")?,
     }
+    put_bytes(bytes, answer)
 }

@@ -1,23 +1,20 @@
 //! Rows about classes and objects. The module `class_words` has the words of a class's rows.
 //!
-//! - `class WORDS ROW..` makes the case's class, or answers why the rows make none.
-//! - `copied` answers whether a copy of it is the same, `is WORDS ROW..` whether it has these words and rows.
-//! - `name WORD` answers the name of the demo class that has this name, or `none`.
-//! - `run WHAT WORD.. : OP ARG..` makes an object with these words, and answers its answer to a request and its new words.
-//! - `restore WHAT WORD.. : WORD..` gives an object new words, and answers `ok` or the refusal, and its words then.
-//! - `of WHAT WORD.. : CLASS` answers whether an object is of this class: a demo class, or `own`, the case's.
+//! - `class WORDS ROW..` makes the case's class, which is named `own`, or answers why the rows make none.
+//! - `same CLASS` answers whether it is the same as this class.
+//! - `run CLASS WORD.. : OP ARG..` makes a table with these words, and answers its answer to a request and its new words.
+//! - `restore CLASS WORD.. : WORD..` gives a table new words, and answers `ok` or the refusal, and its words then.
+//! - `run box CLASS ..` and `restore box CLASS ..` do so with an object of the demo class's own type, in a box.
 //!
-//! WHAT is `cell`, `counter`, `account` or `exchange`, an object of this type in a box; or `table CLASS`, a table of a class.
+//! CLASS is the name of a demo class, or `own`.
 
-use crate::bytes::{tells, tells_found, told, words_in};
-use crate::class_words::{NoRows, rows};
-use scoop_classes::{
-    AccountObject, CellObject, CounterObject, DemoClass, ExchangeObject, demo_class,
-};
-use scoop_lines::{decimal, decimal_u16, is};
+use crate::bytes::{numbers, tells, told};
+use crate::class_words::{rows, small};
+use scoop_classes::{AccountObject, CellObject, CounterObject, ExchangeObject, demo_class};
+use scoop_lines::is;
 use scoop_message::{Args, OutOfMemory, Request, Words};
-use scoop_object::{Behaviour, Boxed, Class, Object, OpRow, Table, TooManyWrites};
-use scoop_row_player::words::{first, last, number};
+use scoop_object::{Behaviour, Boxed, Class, Object, Table};
+use scoop_row_player::words::{first, last};
 use scoop_row_player::{Bad, Heap, Subject};
 use std::alloc::Global;
 use std::io::Write;
@@ -35,11 +32,9 @@ impl<'a> Objects<'a> {
     }
 
     fn makes(&mut self, line: &[u8], answer: &mut Vec<u8>) -> Result<(), Bad> {
-        let (words, rows) = match class_parts(*answer.allocator(), line) {
-            Ok(parts) => parts,
-            Err(NoRows::TooManyWrites) => return tells(TooManyWrites, answer),
-            Err(NoRows::Bad(bad)) => return Err(bad),
-        };
+        let (words, line) = first(line)?;
+        let words = small(words)?;
+        let rows = rows(*answer.allocator(), line)?;
         if words < 1 || words > 16 {
             return Err(Bad::Number);
         }
@@ -52,53 +47,6 @@ impl<'a> Objects<'a> {
         }
     }
 
-    fn own(&self) -> Result<&Class<Heap<'a>>, Bad> {
-        self.class.as_ref().ok_or(Bad::Words)
-    }
-
-    fn copies(&self, answer: &mut Vec<u8>) -> Result<(), Bad> {
-        let class = self.own()?;
-        match class.copy() {
-            Ok(copy) => tells(copy.same(class), answer),
-            Err(error) => tells(error, answer),
-        }
-    }
-
-    fn compares(&self, line: &[u8], answer: &mut Vec<u8>) -> Result<(), Bad> {
-        match class_parts(*answer.allocator(), line) {
-            Ok((words, rows)) => tells(self.own()?.is(words, rows.as_slice()), answer),
-            Err(_) => Err(Bad::Words),
-        }
-    }
-
-    // Reads an act.
-    fn read_act(&self, alloc: Global, name: &[u8], line: &[u8]) -> Result<Act, Bad> {
-        match name {
-            b"run" => Ok(Act::Run(request(alloc, line)?)),
-            b"restore" => Ok(Act::Restore(words_of(alloc, line)?)),
-            _ => {
-                let name = last(line)?;
-                if is(name, "own") {
-                    return Ok(Act::Compare(self.own()?.copy_in(alloc)?));
-                }
-                let class = demo_class(alloc, text(name)?)?;
-                Ok(Act::Compare(class.ok_or(Bad::Words)?))
-            }
-        }
-    }
-
-    fn acts(&self, name: &[u8], line: &[u8], answer: &mut Vec<u8>) -> Result<(), Bad> {
-        let alloc = *answer.allocator();
-        let (line, act_line) = halves(line)?;
-        let act = self.read_act(alloc, name, act_line)?;
-        let (what, words) = first(line)?;
-        if is(what, "table") {
-            let (class, words) = first(words)?;
-            return self.acts_table(class, words_of(alloc, words)?, &act, answer);
-        }
-        acts_boxed(what, words_of(alloc, words)?.as_slice(), &act, answer)
-    }
-
     fn class_named(&self, name: &[u8]) -> Result<Option<Class<Heap<'a>>>, OutOfMemory> {
         match (&self.class, is(name, "own")) {
             (Some(class), true) => Ok(Some(class.copy()?)),
@@ -106,19 +54,29 @@ impl<'a> Objects<'a> {
         }
     }
 
-    fn acts_table(
-        &self,
-        name: &[u8],
-        words: Words,
-        act: &Act,
-        answer: &mut Vec<u8>,
-    ) -> Result<(), Bad> {
-        let class = match self.class_named(name) {
+    fn compares(&self, line: &[u8], answer: &mut Vec<u8>) -> Result<(), Bad> {
+        let own = self.class.as_ref().ok_or(Bad::Words)?;
+        let class = match self.class_named(last(line)?) {
+            Ok(found) => found.ok_or(Bad::Words)?,
+            Err(error) => return tells(error, answer),
+        };
+        tells(own.same(&class), answer)
+    }
+
+    // Makes the object that a line describes before its colon, and has it do what the rest says.
+    fn acts(&self, name: &[u8], line: &[u8], answer: &mut Vec<u8>) -> Result<(), Bad> {
+        let (object, act) = halves(line)?;
+        let (class, words) = first(object)?;
+        if is(class, "box") {
+            return acts_boxed(words, name, act, answer);
+        }
+        let words = words_of(*answer.allocator(), words)?;
+        let class = match self.class_named(class) {
             Ok(found) => found.ok_or(Bad::Words)?,
             Err(error) => return tells(error, answer),
         };
         match Table::new(class, words) {
-            Ok(mut table) => act_on(&mut table, act, answer),
+            Ok(mut table) => act_on(&mut table, name, act, answer),
             Err(error) => tells(error, answer),
         }
     }
@@ -129,13 +87,8 @@ impl Subject for Objects<'_> {
         let (name, line) = first(command)?;
         match name {
             b"class" => self.makes(line, answer),
-            b"copied" => self.copies(answer),
-            b"is" => self.compares(line, answer),
-            b"name" => {
-                let known = DemoClass::from_name(text(last(line)?)?);
-                tells_found(known.map(|class| class.name()), answer)
-            }
-            b"run" | b"restore" | b"of" => self.acts(name, line, answer),
+            b"same" => self.compares(line, answer),
+            b"run" | b"restore" => self.acts(name, line, answer),
             _ => Err(Bad::Command),
         }
     }
@@ -148,42 +101,38 @@ impl Subject for Objects<'_> {
     }
 }
 
-/// An act on an object.
-#[derive(Drop)]
-enum Act {
-    Run(Request),
-    Restore(Words),
-    Compare(Class),
-}
-
-fn act_on<B: Behaviour>(object: &mut B, act: &Act, answer: &mut Vec<u8>) -> Result<(), Bad> {
-    match act {
-        Act::Run(request) => tells(object.apply(request), answer)?,
-        Act::Restore(words) => told(object.restore(*words), answer)?,
-        Act::Compare(class) => return tells(object.has_class(class), answer),
-    }
-    answer.extend_from_slice(b" :")?;
-    for word in object.words().as_slice() {
-        write!(answer, " {word}")?;
-    }
-    Ok(())
-}
-
-// The object of a demo class's type, in a box.
-fn acts_boxed(what: &[u8], words: &[u64], act: &Act, answer: &mut Vec<u8>) -> Result<(), Bad> {
+// Makes an object of a demo class's own type, in a box, and has it do what a line says.
+fn acts_boxed(object: &[u8], name: &[u8], line: &[u8], answer: &mut Vec<u8>) -> Result<(), Bad> {
     let alloc = *answer.allocator();
-    let object: Box<dyn Object + Send> = match (what, words) {
+    let (class, words) = first(object)?;
+    let words = numbers(alloc, words)?;
+    let object: Box<dyn Object + Send> = match (class, words.as_slice()) {
         (b"cell", [word]) => Box::new(alloc, CellObject::new(*word))?,
         (b"counter", [word]) => Box::new(alloc, CounterObject::new(*word))?,
         (b"account", [word]) => Box::new(alloc, AccountObject::new(*word))?,
         (b"exchange", [held, before]) => Box::new(alloc, ExchangeObject::new(*held, *before))?,
         _ => return Err(Bad::Words),
     };
-    act_on(&mut Boxed::new(object), act, answer)
+    act_on(&mut Boxed::new(object), name, line, answer)
 }
 
-fn text(word: &[u8]) -> Result<&str, Bad> {
-    str::from_utf8(word).map_err(|_| Bad::Words)
+fn act_on<B: Behaviour>(
+    object: &mut B,
+    name: &[u8],
+    line: &[u8],
+    answer: &mut Vec<u8>,
+) -> Result<(), Bad> {
+    let alloc = *answer.allocator();
+    if is(name, "run") {
+        tells(object.apply(&request(alloc, line)?), answer)?;
+    } else {
+        told(object.restore(words_of(alloc, line)?), answer)?;
+    }
+    answer.extend_from_slice(b" :")?;
+    for word in object.words().as_slice() {
+        write!(answer, " {word}")?;
+    }
+    Ok(())
 }
 
 // The parts of a line before and after its first colon that stands alone.
@@ -196,30 +145,17 @@ fn halves(line: &[u8]) -> Result<(&[u8], &[u8]), Bad> {
     Err(Bad::Words)
 }
 
-fn numbers(alloc: Global, line: &[u8]) -> Result<Vec<u64>, Bad> {
-    let mut numbers = Vec::new(alloc);
-    for word in words_in(alloc, line)?.as_slice() {
-        numbers.push(decimal(*word).ok_or(Bad::Number)?)?;
-    }
-    Ok(numbers)
-}
-
 fn words_of(alloc: Global, line: &[u8]) -> Result<Words, Bad> {
     Words::of(numbers(alloc, line)?.as_slice()).map_err(|_| Bad::Words)
 }
 
 fn request(alloc: Global, line: &[u8]) -> Result<Request, Bad> {
-    let (op, line) = first(line)?;
     let numbers = numbers(alloc, line)?;
+    let [op, args @ ..] = numbers.as_slice() else {
+        return Err(Bad::Words);
+    };
     Ok(Request {
-        op: decimal_u16(op).ok_or(Bad::Number)?,
-        args: Args::of(numbers.as_slice()).map_err(|_| Bad::Words)?,
+        op: u16::try_from(*op).map_err(|_| Bad::Number)?,
+        args: Args::of(args).map_err(|_| Bad::Words)?,
     })
-}
-
-// The number of words and the rows of a class.
-fn class_parts(alloc: Global, line: &[u8]) -> Result<(u8, Vec<OpRow>), NoRows> {
-    let (words, line) = first(line)?;
-    let words = u8::try_from(number(words)?).map_err(|_| Bad::Number)?;
-    Ok((words, rows(alloc, line)?))
 }

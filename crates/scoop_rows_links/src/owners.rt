@@ -3,23 +3,21 @@
 //! - `line TEXT` adds a line to the case's text. `want` makes it the wanted text, and begins a new one.
 //! - `owner node|client N` answers the text of this owner in the system that the text describes.
 //! - `missing` answers the first wanted line that the text lacks, `like LINE` the text's line with the key of this one.
-//! - `note HANDLER BLOCK` notes a mark. `marks` answers how many there are, `beside HANDLER BLOCK` the one for the same client.
-//! - `newest LINE` answers the mark that a line names, `older` the first line of the text that the marks don't reach.
+//! - `note HANDLER BLOCK` notes a mark. `older` answers the first line of the text that the marks don't reach.
 //! - `updated` answers the text with the marks.
 //! - `incarnation` answers the incarnation that the text names, `named N` the text with this one.
 
-use crate::bytes::{tells, tells_found};
+use crate::bytes::tells;
 use scoop_journal::Owner;
 use scoop_message::{ClientId, HandlerId, OutOfMemory};
 use scoop_owner::{
-    Newest, first_missing, first_older, last_incarnation, line_like, mark_beside, newest_of,
-    note_newest, owner_text, text_with_incarnation, updated_text,
+    Newest, first_missing, first_older, last_incarnation, line_like, note_newest, owner_text,
+    text_with_incarnation, updated_text,
 };
 use scoop_row_player::words::{block, first, last, number};
 use scoop_row_player::{Bad, Subject};
 use scoop_system::System;
 use std::alloc::Global;
-use std::io::Write;
 
 /// The texts of a case, and marks.
 #[derive(Drop)]
@@ -56,19 +54,12 @@ impl Owners {
 
     fn compares(&self, name: &[u8], line: &[u8], answer: &mut Vec<u8>) -> Result<(), Bad> {
         let text = self.text.as_str();
-        match name {
-            b"missing" => tells_found(first_missing(self.wanted.as_str(), text), answer),
-            b"like" => tells_found(line_like(text, after_space(line)?), answer),
-            b"older" => tells_found(first_older(text, self.marks.as_slice()), answer),
-            b"incarnation" => tells_found(last_incarnation(text), answer),
-            b"marks" => tells(self.marks.len(), answer),
-            b"newest" => put_mark(newest_of(after_space(line)?), answer),
-            b"beside" => put_mark(
-                mark_beside(self.marks.as_slice(), &mark(line)?).copied(),
-                answer,
-            ),
-            _ => Err(Bad::Command),
-        }
+        let found = match name {
+            b"missing" => first_missing(self.wanted.as_str(), text),
+            b"like" => line_like(text, after_space(line)?),
+            _ => first_older(text, self.marks.as_slice()),
+        };
+        tells(found.unwrap_or("none"), answer)
     }
 
     fn writes(&self, name: &[u8], line: &[u8], answer: &mut Vec<u8>) -> Result<(), Bad> {
@@ -91,13 +82,16 @@ impl Subject for Owners {
         match name {
             b"line" | b"want" | b"note" => self.changes(name, line, answer),
             b"owner" | b"updated" | b"named" => self.writes(name, line, answer),
-            _ => self.compares(name, line, answer),
+            b"missing" | b"like" | b"older" => self.compares(name, line, answer),
+            b"incarnation" => match last_incarnation(self.text.as_str()) {
+                Some(number) => tells(number, answer),
+                None => tells("none", answer),
+            },
+            _ => Err(Bad::Command),
         }
     }
 
-    fn shows(&self, text: &mut Vec<u8>) -> Result<(), Bad> {
-        text.extend_from_slice(self.text.as_bytes())?;
-        text.extend_from_slice(self.wanted.as_bytes())?;
+    fn shows(&self, _text: &mut Vec<u8>) -> Result<(), Bad> {
         Ok(())
     }
 }
@@ -113,16 +107,6 @@ fn mark(line: &[u8]) -> Result<Newest, Bad> {
         handler: HandlerId(number(handler)?),
         block: block(last(line)?)?,
     })
-}
-
-fn put_mark(found: Option<Newest>, answer: &mut Vec<u8>) -> Result<(), Bad> {
-    match found {
-        Some(newest) => {
-            write!(answer, "{} {}", newest.handler, newest.block)?;
-            Ok(())
-        }
-        None => tells("none", answer),
-    }
 }
 
 // The text of an owner in the system that a text describes.

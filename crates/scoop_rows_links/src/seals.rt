@@ -1,10 +1,11 @@
 //! Rows about codes and keys. Bytes are in hex digits; a text has `\n` and `\r` for the ends of lines.
 //!
 //! - `code LEN KEY BYTES` answers the first LEN bytes of the code of the bytes under the key.
-//! - `key TEXT` answers the text of the key that the text is, or why it is none.
-//! - `system KEY NAME LIFE` answers the text of the key of the system with this name (`-`: none) and life.
+//! - `key TEXT` answers the digits of the key that the text is, or why it is none.
+//! - `system NAME LIFE` answers the digits of the key of the system with this name (`-`: none) and life. All bytes of the
+//!   key that it is made of are 05.
 
-use crate::bytes::{put_bytes, put_text, read_bytes, read_text, take_number, tells};
+use crate::bytes::{put_bytes, read_bytes, tells};
 use scoop_lines::is;
 use scoop_row_player::words::{first, last, number};
 use scoop_row_player::{Bad, Subject};
@@ -22,8 +23,8 @@ impl Subject for Seals {
             b"code" => codes(line, answer),
             b"key" => reads(line.strip_prefix(b" ").unwrap_or(line), answer),
             b"system" => {
-                let key = system_key(*answer.allocator(), line)?;
-                put_text(&key.to_text(), answer)
+                let key = system_key(line)?;
+                tells_text(&key.to_text(), answer)
             }
             _ => Err(Bad::Command),
         }
@@ -36,39 +37,50 @@ impl Subject for Seals {
 
 fn codes(line: &[u8], answer: &mut Vec<u8>) -> Result<(), Bad> {
     let alloc = *answer.allocator();
-    let (len, line) = take_number(line)?;
+    let (len, line) = first(line)?;
     let (key, line) = first(line)?;
     let key = read_bytes(alloc, key)?;
     let bytes = read_bytes(alloc, line)?;
     let code = hmac(key.as_slice(), bytes.as_slice());
-    let len = usize::try_from(len).map_err(|_| Bad::Number)?;
+    let len = number(len)? as usize;
     put_bytes(code.get(..len).ok_or(Bad::Number)?, answer)
 }
 
 fn reads(text: &[u8], answer: &mut Vec<u8>) -> Result<(), Bad> {
     let text = read_text(*answer.allocator(), text)?;
     match Key::read(text.as_slice()) {
-        Ok(key) => put_text(&key.to_text(), answer),
+        Ok(key) => tells_text(&key.to_text(), answer),
         Err(error) => tells(error, answer),
     }
 }
 
-// A key of 32 bytes.
-fn key_of(alloc: Global, word: &[u8]) -> Result<Key, Bad> {
-    let bytes = read_bytes(alloc, word)?;
-    let mut key = [0; 32];
-    if bytes.len() != 32 {
-        return Err(Bad::Words);
+// Reads a text in which `\n` and `\r` stand for these bytes.
+fn read_text(alloc: Global, text: &[u8]) -> Result<Vec<u8>, Bad> {
+    let mut bytes = Vec::new(alloc);
+    let mut rest = text;
+    for _ in 0..text.len() {
+        let (byte, behind) = match rest {
+            [] => break,
+            [b'\\', b'n', behind @ ..] => (b'\n', behind),
+            [b'\\', b'r', behind @ ..] => (b'\r', behind),
+            [byte, behind @ ..] => (*byte, behind),
+        };
+        bytes.push(byte)?;
+        rest = behind;
     }
-    key.copy_from_slice(bytes.as_slice());
-    Ok(Key::new(key))
+    Ok(bytes)
 }
 
-/// The key of a system: a key's word, the system's name (`-`: none) and its life.
-pub(crate) fn system_key(alloc: Global, line: &[u8]) -> Result<Key, Bad> {
-    let (key, line) = first(line)?;
+// Writes the text of a key, without the end of a line at its end.
+fn tells_text(text: &[u8], answer: &mut Vec<u8>) -> Result<(), Bad> {
+    answer.extend_from_slice(text.strip_suffix(b"\n").unwrap_or(text))?;
+    Ok(())
+}
+
+/// The key of a system: its name (`-`: none) and its life.
+pub(crate) fn system_key(line: &[u8]) -> Result<Key, Bad> {
     let (name, life) = first(line)?;
     let life = number(last(life)?)?;
     let name = if is(name, "-") { b"".as_slice() } else { name };
-    Ok(key_of(alloc, key)?.of_system(name, life))
+    Ok(Key::new([5; 32]).of_system(name, life))
 }

@@ -1,11 +1,9 @@
 //! Areas of rows about systems in files.
 //!
-//! - `systems`: systems and their faults, lines of a client, whole sessions of a client, and the texts of their errors.
+//! - `systems`: systems and their faults, lines of a client, and whole sessions of a client.
 //! - `watches`: a handler that is watched, and what a node's page, metrics, JSON and log show of it.
 #![tactic(auto)]
 
-mod errors;
-mod lines;
 mod sessions;
 mod shown;
 mod systems;
@@ -13,7 +11,8 @@ mod text;
 mod text_lines;
 mod watches;
 
-use scoop_row_player::{Areas, Bad, Case, Heap, Sheet, Subject, play_rows};
+use scoop_row_player::{Areas, Bad, Case, Heap, Sheet, play_rows};
+use scoop_watch::{LogLevel, Settings, Watch};
 use std::sync::Wait;
 use std::time::Clock;
 use systems::Systems;
@@ -29,6 +28,19 @@ impl<'a, R: Wait + Clock> SystemAreas<'a, R> {
     pub fn new(rt: &'a R) -> SystemAreas<'a, R> {
         SystemAreas { rt }
     }
+
+    fn play_watches(&self, case: Case<'_>, heap: Heap<'_>, sheet: &mut Sheet) -> Result<(), Bad> {
+        let alloc = sheet.alloc();
+        let settings = Settings {
+            log: LogLevel::Debug,
+            shows_states: true,
+        };
+        let watch = Watch::new(alloc, settings);
+        match Watches::new(alloc, self.rt, &watch) {
+            Ok(mut watches) => play_rows(case, heap, &mut watches, sheet),
+            Err(bad) => Err(bad),
+        }
+    }
 }
 
 impl<R: Wait + Clock> Areas for SystemAreas<'_, R> {
@@ -39,22 +51,16 @@ impl<R: Wait + Clock> Areas for SystemAreas<'_, R> {
         heap: Heap<'_>,
         sheet: &mut Sheet,
     ) -> Result<bool, Bad> {
-        let alloc = sheet.alloc();
         match area {
-            "systems" => plays(case, heap, Systems::new(alloc), sheet)?,
-            "watches" => plays(case, heap, Watches::new(alloc, self.rt), sheet)?,
+            "systems" => play_systems(case, heap, sheet)?,
+            "watches" => self.play_watches(case, heap, sheet)?,
             _ => return Ok(false),
         }
         Ok(true)
     }
 }
 
-// Owns the subject of a case, so that one function drops it.
-fn plays<S: Subject + Drop>(
-    case: Case<'_>,
-    heap: Heap<'_>,
-    mut subject: S,
-    sheet: &mut Sheet,
-) -> Result<(), Bad> {
-    play_rows(case, heap, &mut subject, sheet)
+fn play_systems(case: Case<'_>, heap: Heap<'_>, sheet: &mut Sheet) -> Result<(), Bad> {
+    let mut systems = Systems::new(sheet.alloc());
+    play_rows(case, heap, &mut systems, sheet)
 }

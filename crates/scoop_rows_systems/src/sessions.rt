@@ -5,12 +5,10 @@
 //! - `client NUMBER TURNS KIND LINES` runs the client with these lines, each of which takes at most this many turns. The kind
 //!   is `script`, `strict` or `typed`. It answers the client's output and its error, if there is one. `cut NUMBER TURNS KIND`
 //!   runs `client --cut`.
-//! - `progress` answers the progress that came with the error, and `notes WORDS` whether the notes have these words.
-//! - `writes` answers how many writes the journal took, and `journal START` how many of its lines begin so.
+//! - `progress` answers the progress that came with the error, and `status` its exit status. `notes WORDS` and `journal WORDS` answer whether the notes or the
+//!   journal have these words, and `writes` how many writes the journal took.
 
-use crate::errors::Errors;
-use crate::systems::without_last;
-use crate::text::{add_text, has, says};
+use crate::text::{has, read_text, tells, without_last};
 use crate::text_lines::TextLines;
 use scoop_demo::read_message;
 use scoop_driver::NoPause;
@@ -18,12 +16,12 @@ use scoop_frame::encode;
 use scoop_journal::Journal;
 use scoop_keeper::MemoryKeeper;
 use scoop_lines::decimal;
-use scoop_link::TapeLink;
+use scoop_link::{Datagram, TapeLink};
 use scoop_message::ClientId;
 use scoop_message::limits::BUFFER_LEN;
 use scoop_row_player::Bad;
 use scoop_row_player::words::{first, last, number};
-use scoop_runtime::{ClientPlan, Progress, client_cut, client_run};
+use scoop_runtime::{ClientPlan, Progress, RuntimeError, client_cut, client_run};
 use scoop_system::System;
 use std::alloc::Global;
 use std::io;
@@ -35,11 +33,12 @@ const ROOM: usize = 256;
 /// What a client hears and keeps, and what it said at its end.
 #[derive(Drop)]
 pub struct Sessions {
-    heard: Vec<u8>,
+    heard: Vec<Datagram>,
     keeper: MemoryKeeper,
     written: Written,
     notes: Vec<u8>,
     progress: Progress,
+    status: u8,
 }
 
 // A writer that counts its writes, and fails after a number of them.
@@ -83,49 +82,38 @@ impl Sessions {
             written: Written::new(alloc, u32::MAX),
             notes: Vec::new(alloc),
             progress: Progress::new(),
+            status: 0,
         }
     }
 
     /// The commands that need no system.
     pub fn does(&mut self, name: &[u8], line: &[u8], answer: &mut Vec<u8>) -> Result<(), Bad> {
+        let alloc = *answer.allocator();
         match name {
             b"heard" => {
-                add_text(line, &mut self.heard)?;
-                self.heard.push(b'\n')?;
-                says("ok", answer)
+                self.heard.push(datagram_of(alloc, line)?)?;
+                tells("ok", answer)
             }
             b"store" => {
-                let alloc = *answer.allocator();
                 self.written = Written::new(alloc, number(last(line)?)?);
                 self.keeper = MemoryKeeper::new(alloc);
-                says("ok", answer)
+                tells("ok", answer)
             }
             b"notes" => has(&self.notes, line, answer),
-            b"progress" => {
-                write!(answer, "{}", self.progress)?;
-                Ok(())
-            }
-            b"writes" => {
-                write!(answer, "{}", self.written.writes)?;
-                Ok(())
-            }
-            _ => counts(&self.written.text, line, answer),
+            b"journal" => has(&self.written.text, line, answer),
+            b"progress" => tells(self.progress, answer),
+            b"status" => tells(self.status, answer),
+            b"writes" => tells(self.written.writes, answer),
+            _ => Err(Bad::Command),
         }
     }
 
     /// Runs a client.
-    pub fn runs(
-        &mut self,
-        system: &System,
-        line: &[u8],
-        errors: &mut Errors,
-        answer: &mut Vec<u8>,
-    ) -> Result<(), Bad> {
+    pub fn runs(&mut self, system: &System, line: &[u8], answer: &mut Vec<u8>) -> Result<(), Bad> {
         let alloc = *answer.allocator();
         let (plan, line) = plan_of(system, line)?;
-        let mut text = Vec::new(alloc);
-        add_text(line, &mut text)?;
-        let link = tape_of(alloc, &self.heard)?;
+        let text = read_text(alloc, line)?;
+        let link = tape_of(alloc, self.heard.as_slice())?;
         self.notes.clear();
         let ended = client_run(
             alloc,
@@ -133,7 +121,7 @@ impl Sessions {
             &mut self.keeper,
             link,
             Some(Journal::new(alloc, &mut self.written)),
-            &mut TextLines::new(&text),
+            &mut TextLines::new(text.as_slice()),
             Vec::new(alloc),
             Vec::new(alloc),
             &mut NoPause,
@@ -141,28 +129,20 @@ impl Sessions {
             &mut self.notes,
         );
         match ended {
-            Ok(()) => {
-                without_last(answer);
-                Ok(())
-            }
+            Ok(()) => ends(Ok(()), answer),
             Err(stop) => {
                 self.progress = stop.progress;
-                errors.tells(stop.error, answer)
+                self.status = stop.error.status();
+                ends(Err(stop.error), answer)
             }
         }
     }
 
     /// Cuts the blocks of a client.
-    pub fn cuts(
-        &mut self,
-        system: &System,
-        line: &[u8],
-        errors: &mut Errors,
-        answer: &mut Vec<u8>,
-    ) -> Result<(), Bad> {
+    pub fn cuts(&mut self, system: &System, line: &[u8], answer: &mut Vec<u8>) -> Result<(), Bad> {
         let alloc = *answer.allocator();
         let (plan, _) = plan_of(system, line)?;
-        let link = tape_of(alloc, &self.heard)?;
+        let link = tape_of(alloc, self.heard.as_slice())?;
         self.notes.clear();
         let ended = client_cut(
             alloc,
@@ -175,36 +155,38 @@ impl Sessions {
             answer,
             &mut self.notes,
         );
-        match ended {
-            Ok(()) => {
-                without_last(answer);
-                Ok(())
-            }
-            Err(error) => errors.tells(error, answer),
-        }
+        ends(ended, answer)
     }
 }
 
-// A tape with these messages, one a line.
-fn tape_of(alloc: Global, heard: &[u8]) -> Result<TapeLink, Bad> {
-    let mut tape = TapeLink::new(alloc, ROOM)?;
-    for line in heard.split(|byte| *byte == b'\n') {
-        if !line.is_empty() {
-            feeds(alloc, &mut tape, line)?;
+// Adds the error to a client's output, or leaves out its last newline.
+fn ends(ended: Result<(), RuntimeError>, answer: &mut Vec<u8>) -> Result<(), Bad> {
+    match ended {
+        Ok(()) => {
+            without_last(answer);
+            Ok(())
         }
+        Err(error) => tells(error, answer),
+    }
+}
+
+fn tape_of(alloc: Global, heard: &[Datagram]) -> Result<TapeLink, Bad> {
+    let mut tape = TapeLink::new(alloc, ROOM)?;
+    for datagram in heard {
+        tape.feed(datagram.as_slice())?;
     }
     Ok(tape)
 }
 
-// Adds the frame of a message to the tape.
-fn feeds(alloc: Global, tape: &mut TapeLink, line: &[u8]) -> Result<(), Bad> {
+// The frame of a message.
+fn datagram_of(alloc: Global, line: &[u8]) -> Result<Datagram, Bad> {
+    let line = line.strip_prefix(b" ").unwrap_or(line);
     let Ok((version, message)) = read_message(alloc, line) else {
         return Err(Bad::Words);
     };
     let mut buffer = [0; BUFFER_LEN];
     let len = encode(version, &message, &mut buffer);
-    tape.feed(&buffer[..len])?;
-    Ok(())
+    Ok(Datagram::of(&buffer[..len]))
 }
 
 // The client's plan, and what follows it in the row.
@@ -223,17 +205,4 @@ fn plan_of<'s, 'l>(system: &'s System, line: &'l [u8]) -> Result<(ClientPlan<'s>
         Ok(plan) => Ok((plan, line)),
         Err(_) => Err(Bad::Number),
     }
-}
-
-// Adds how many lines of the text begin so.
-fn counts(text: &[u8], start: &[u8], answer: &mut Vec<u8>) -> Result<(), Bad> {
-    let start = start.strip_prefix(b" ").unwrap_or(start);
-    let mut count = 0u64;
-    for line in text.split(|byte| *byte == b'\n') {
-        if line.starts_with(start) {
-            count = count.saturating_add(1);
-        }
-    }
-    write!(answer, "{count}")?;
-    Ok(())
 }

@@ -2,22 +2,22 @@
 //!
 //! - `+ TEXT` adds a line to the file. `read TEXT` adds the text, reads the file and forgets its text; it answers the fault.
 //! - `print` answers the system as `scoop check` prints it.
-//! - `line TEXT` answers what the line asks a client, or its fault. `known CLIENT` answers the handlers that it uses.
-//! - `script CLIENT TEXT` answers `right`, or the faults of the script.
+//! - `line TEXT` answers what the line asks a client, or its fault. `script CLIENT TEXT` answers `right`, or the faults of the
+//!   script.
+//! - `serve EXECUTORS HISTORY TURNS` answers `ok`, or which setting of a node is out of its range.
 //!
-//! [`crate::sessions`] and [`crate::errors`] have the other commands.
+//! [`crate::sessions`] has the other commands.
 
-use crate::errors::{Errors, serves};
-use crate::lines::reads_line;
 use crate::sessions::Sessions;
-use crate::text::{add_text, says};
+use crate::text::{numbers, read_text, tells, without_last};
 use crate::text_lines::TextLines;
 use scoop_message::ClientId;
-use scoop_row_player::words::{first, last, number};
+use scoop_row_player::words::{first, number};
 use scoop_row_player::{Bad, Subject};
-use scoop_runtime::check_script;
-use scoop_system::{System, print_system};
+use scoop_runtime::{Serving, check_script};
+use scoop_system::{ClientLine, LineFaultIn, System, print_system, read_line};
 use std::alloc::Global;
+use std::io;
 use std::io::Write;
 
 /// A system, its file, and a client.
@@ -26,7 +26,6 @@ pub struct Systems {
     text: Vec<u8>,
     system: Option<System>,
     sessions: Sessions,
-    errors: Errors,
 }
 
 impl Systems {
@@ -35,7 +34,27 @@ impl Systems {
             text: Vec::new(alloc),
             system: None,
             sessions: Sessions::new(alloc),
-            errors: Errors::new(),
+        }
+    }
+
+    fn adds(&mut self, line: &[u8]) -> Result<(), Bad> {
+        let text = read_text(*self.text.allocator(), line)?;
+        self.text.extend_from_slice(text.as_slice())?;
+        self.text.push(b'\n')?;
+        Ok(())
+    }
+
+    fn reads(&mut self, answer: &mut Vec<u8>) -> Result<(), Bad> {
+        let text = str::from_utf8(self.text.as_slice()).map_err(|_| Bad::Words)?;
+        match System::read(*answer.allocator(), text) {
+            Ok(read) => {
+                self.system = Some(read);
+                tells("ok", answer)
+            }
+            Err(error) => {
+                write!(answer, "{error}")?;
+                Ok(())
+            }
         }
     }
 }
@@ -45,30 +64,22 @@ impl Subject for Systems {
     fn does(&mut self, command: &[u8], answer: &mut Vec<u8>) -> Result<(), Bad> {
         let (name, line) = first(command)?;
         match name {
-            b"+" => adds(&mut self.text, line, answer),
+            b"+" => {
+                self.adds(line)?;
+                tells("ok", answer)
+            }
             b"read" => {
-                add_text(line, &mut self.text)?;
-                let read = reads(&self.text, &mut self.system, answer);
+                self.adds(line)?;
+                self.reads(answer)?;
                 self.text.clear();
-                read
+                Ok(())
             }
             b"serve" => serves(line, answer),
-            b"error" | b"of" | b"advises" | b"advises-over-store" => {
-                self.errors.does(name, line, answer)
-            }
-            b"heard" | b"store" | b"notes" | b"progress" | b"writes" | b"journal" => {
-                self.sessions.does(name, line, answer)
-            }
-            _ => match &self.system {
-                Some(system) => asks(
-                    system,
-                    &mut self.sessions,
-                    &mut self.errors,
-                    (name, line),
-                    answer,
-                ),
+            b"print" | b"line" | b"script" | b"client" | b"cut" => match &self.system {
+                Some(system) => asks(system, &mut self.sessions, name, line, answer),
                 None => Err(Bad::Command),
             },
+            _ => self.sessions.does(name, line, answer),
         }
     }
 
@@ -77,24 +88,15 @@ impl Subject for Systems {
     }
 }
 
-// Adds a line to the file.
-fn adds(text: &mut Vec<u8>, line: &[u8], answer: &mut Vec<u8>) -> Result<(), Bad> {
-    add_text(line, text)?;
-    text.push(b'\n')?;
-    says("ok", answer)
-}
-
-fn reads(text: &[u8], system: &mut Option<System>, answer: &mut Vec<u8>) -> Result<(), Bad> {
-    let text = str::from_utf8(text).map_err(|_| Bad::Words)?;
-    match System::read(*answer.allocator(), text) {
-        Ok(read) => {
-            *system = Some(read);
-            says("ok", answer)
-        }
-        Err(error) => {
-            write!(answer, "{error}")?;
-            Ok(())
-        }
+// Takes the settings of a node.
+fn serves(line: &[u8], answer: &mut Vec<u8>) -> Result<(), Bad> {
+    let numbers = numbers(*answer.allocator(), line)?;
+    let [executors, history, turns] = numbers.as_slice() else {
+        return Err(Bad::Words);
+    };
+    match Serving::new(*executors as u32, *history as usize, *turns) {
+        Ok(_) => tells("ok", answer),
+        Err(range) => tells(range, answer),
     }
 }
 
@@ -102,63 +104,87 @@ fn reads(text: &[u8], system: &mut Option<System>, answer: &mut Vec<u8>) -> Resu
 fn asks(
     system: &System,
     sessions: &mut Sessions,
-    errors: &mut Errors,
-    (name, line): (&[u8], &[u8]),
+    name: &[u8],
+    line: &[u8],
     answer: &mut Vec<u8>,
 ) -> Result<(), Bad> {
     match name {
-        b"print" => prints(system, answer),
-        b"line" => {
-            let mut text = Vec::new(*answer.allocator());
-            add_text(line, &mut text)?;
-            reads_line(system, &text, answer)
+        b"print" => {
+            print_system(system, answer)?;
+            without_last(answer);
+            Ok(())
         }
-        b"known" => knows(system, number(last(line)?)?, answer),
+        b"line" => reads_line(system, line, answer),
         b"script" => checks(system, line, answer),
-        b"client" => sessions.runs(system, line, errors, answer),
-        b"cut" => sessions.cuts(system, line, errors, answer),
-        _ => Err(Bad::Command),
+        b"client" => sessions.runs(system, line, answer),
+        _ => sessions.cuts(system, line, answer),
     }
 }
 
-fn prints(system: &System, answer: &mut Vec<u8>) -> Result<(), Bad> {
-    print_system(system, answer)?;
-    without_last(answer);
-    Ok(())
-}
-
-/// Leaves out the newline at the end.
-pub fn without_last(answer: &mut Vec<u8>) {
-    if answer.as_slice().ends_with(b"\n") {
-        let _newline = answer.pop();
-    }
-}
-
-// The handlers that a client uses, a space before each.
-fn knows(system: &System, client: u32, answer: &mut Vec<u8>) -> Result<(), Bad> {
-    let place = system.client(ClientId(client)).ok_or(Bad::Number)?;
-    let known = system.known_to(*answer.allocator(), place)?;
-    says("handlers", answer)?;
-    for handler in &known {
-        write!(answer, " {handler}")?;
+// Adds the meaning of a line to a client of the system, or its fault with what the system has instead.
+fn reads_line(system: &System, line: &[u8], answer: &mut Vec<u8>) -> Result<(), Bad> {
+    let text = read_text(*answer.allocator(), line)?;
+    match read_line(system, text.as_slice()) {
+        Ok(line) => put_line(&line, answer)?,
+        Err(fault) => write!(answer, "{}", LineFaultIn { system, fault })?,
     }
     Ok(())
+}
+
+fn put_line<W: Write>(line: &ClientLine, out: &mut W) -> io::Result<()> {
+    match line {
+        ClientLine::Reserve(handlers) => write!(out, "Reserve {:?}", handlers.as_slice()),
+        ClientLine::ReserveWhen {
+            handlers,
+            conditions,
+            tries,
+        } => {
+            write!(out, "Reserve {:?} tries {tries}", handlers.as_slice())?;
+            for condition in conditions.as_slice() {
+                let (asked, request) = (condition.asked, &condition.request);
+                let args = request.args.as_slice();
+                write!(
+                    out,
+                    ", {asked} {} {args:?} {:?}",
+                    request.op, condition.test
+                )?;
+            }
+            Ok(())
+        }
+        ClientLine::Call(handler, request) => {
+            write!(
+                out,
+                "Call {handler} {} {:?}",
+                request.op,
+                request.args.as_slice()
+            )
+        }
+        ClientLine::Query(handler, request) => {
+            write!(
+                out,
+                "Query {handler} {} {:?}",
+                request.op,
+                request.args.as_slice()
+            )
+        }
+        ClientLine::Blank => out.write_all(b"Blank"),
+        ClientLine::End => out.write_all(b"End"),
+        ClientLine::GiveUp => out.write_all(b"GiveUp"),
+        ClientLine::Help => out.write_all(b"Help"),
+        ClientLine::Quit => out.write_all(b"Quit"),
+    }
 }
 
 fn checks(system: &System, line: &[u8], answer: &mut Vec<u8>) -> Result<(), Bad> {
     let (client, line) = first(line)?;
     let client = system.client(ClientId(number(client)?));
-    let mut text = Vec::new(*answer.allocator());
-    add_text(line, &mut text)?;
-    match check_script(system, client, &mut TextLines::new(&text), answer) {
-        Ok(true) => says("right", answer),
+    let text = read_text(*answer.allocator(), line)?;
+    match check_script(system, client, &mut TextLines::new(text.as_slice()), answer) {
+        Ok(true) => tells("right", answer),
         Ok(false) => {
             without_last(answer);
             Ok(())
         }
-        Err(error) => {
-            write!(answer, "{error}")?;
-            Ok(())
-        }
+        Err(error) => tells(error, answer),
     }
 }
