@@ -105,17 +105,17 @@ impl Dice {
         }
     }
 
-    /// The event of this number, after one that happened if there was one, and this number of sent messages. The last of each
-    /// thousand are a client's calls, which may fill its window.
+    /// The event of this number, after one that happened if there was one, and this number of sent messages. The last of each five
+    /// hundred are a client's calls, which may fill its window.
     pub fn event(
         &mut self,
         number: u32,
         last: Option<(Event, WorldNote)>,
         sent: usize,
     ) -> Option<Event> {
-        if number % 1000 >= 920 {
-            let client = CLIENTS[(number / 1000 % 4) as usize];
-            let handler = HANDLERS[(number / 1000 % 3) as usize];
+        if number % 500 >= 420 {
+            let client = CLIENTS[(number / 500 % 4) as usize];
+            let handler = HANDLERS[(number / 500 % 3) as usize];
             return Some(Event::Do(client, Command::Call(handler, self.request()?)));
         }
         if self.roll(4) > 0
