@@ -5,7 +5,7 @@ Without --rows, the prover has to refuse those that the gate leaves out, in benc
 mutations twice, so it tries those of a few cheap crates alone. The script puts the others into crates/CRATE/must-fail, calls
 `rt must-fail CRATE`, and takes them out again. It ends with 1 if a mutation isn't refused.
 
-With --rows, it shows which of them rows notice, and which of the gate's own, in must-fail. It compiles the programs of rows
+With --rows, it shows which of them rows notice, and which of the gate's own, in must-fail. It compiles the program of rows
 without proof, with all mutations in them (bench/mutants.py), and plays all rows with each. It prints a line for each mutation:
 the first row that it makes wrong, or that no row notices it, or that it can't be chosen. It ends with 1 if rows are wrong
 without a mutation.
@@ -27,7 +27,7 @@ import mutants
 
 TOP = pathlib.Path(__file__).resolve().parent.parent
 KEPT = TOP / 'bench' / 'mutations'
-PROGRAMS = 'scoop_rows', 'scoop_rows_live'
+PROGRAM = 'scoop_rows'
 # A run that takes longer hangs.
 SECONDS = 120
 
@@ -73,8 +73,8 @@ def with_choices(tree, crates):
     return unfit
 
 
-def compiled(program, crates, folder):
-    """Compiles a program with the mutations of the crates as choices. Returns it, and why some can't be chosen."""
+def compiled(crates, folder):
+    """Compiles the program of rows with the mutations of the crates as choices. Returns it, and why some can't be chosen."""
     loader = importlib.machinery.SourceFileLoader('tools_compile', str(TOP / 'tools' / 'compile'))
     tool = importlib.util.module_from_spec(importlib.util.spec_from_loader(loader.name, loader))
     loader.exec_module(tool)
@@ -87,15 +87,14 @@ def compiled(program, crates, folder):
 
     tool.copy_sources = copy_sources
     tool.without_checks = lambda text: mutants.with_answers(drop(text))
-    tool.BEST = ['-O1']
-    out = folder / program
-    tool.compile_to(str(out), program, tool.kit())
+    out = folder / PROGRAM
+    tool.compile_to(str(out), PROGRAM, tool.kit())
     return out, unfit
 
 
-def played(program, out, number):
-    """What is wrong with a program's rows: the first line of its report, or None."""
-    at = TOP / 'crates' / program
+def played(out, number):
+    """What is wrong with the rows under a mutation: the first line of their report, or None."""
+    at = TOP / 'crates' / PROGRAM
     with tempfile.TemporaryDirectory() as room:
         shutil.copytree(at / 'data', room, dirs_exist_ok=True)
         words = (at / 'args').read_text().split()
@@ -112,17 +111,13 @@ def played(program, out, number):
 def noticed(crates):
     """Prints what rows notice. Returns whether all rows are right without a mutation."""
     with tempfile.TemporaryDirectory() as folder, ThreadPoolExecutor(os.cpu_count()) as pool:
-        programs, unfit = [], {}
-        for name in PROGRAMS:
-            out, left = compiled(name, crates, pathlib.Path(folder))
-            programs.append((name, out))
-            unfit |= left
-            wrong = played(name, out, 0)
-            if wrong:
-                print(f'{name}: without a mutation: {wrong}')
-                return False
+        out, unfit = compiled(crates, pathlib.Path(folder))
+        wrong = played(out, 0)
+        if wrong:
+            print(f'without a mutation: {wrong}')
+            return False
         tried = [(number, crate, it) for number, (crate, it) in enumerate(edits(), 1) if crate in crates]
-        found = pool.map(lambda it: next(filter(None, (played(*program, it[0]) for program in programs)), None), tried)
+        found = pool.map(lambda it: played(out, it[0]), tried)
         counts = {}
         for (number, crate, edit), wrong in zip(tried, found):
             said = f"can't be chosen: {unfit[number]}" if number in unfit else wrong or 'no row notices it'
