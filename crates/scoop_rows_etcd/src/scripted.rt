@@ -108,10 +108,15 @@ impl ScriptedEtcd {
         let place = self.place_of(key);
         let is_there = self.look(key).is_some();
         let pair = pair(self.alloc, key, value, self.revision)?;
-        if !is_there && place <= self.pairs.len() {
+        if is_there {
+            match self.pairs.get_mut(place) {
+                Some(old) => *old = pair,
+                None => drop(pair),
+            }
+        } else if place <= self.pairs.len() {
             self.pairs.insert(place, pair)?;
-        } else if let Some(old) = self.pairs.get_mut(place) {
-            *old = pair;
+        } else {
+            drop(pair);
         }
         Ok(())
     }

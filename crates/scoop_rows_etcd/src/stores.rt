@@ -104,7 +104,9 @@ impl<'a> Stores<'a> {
         };
         match opened {
             Ok(store) => {
-                if !is(name, "rival") {
+                if is(name, "rival") {
+                    drop(store);
+                } else {
                     self.keeper = Some(FatefulKeeper::new(store, self.fate));
                 }
                 tell("ok", answer)

@@ -58,14 +58,20 @@ pub fn read_range(alloc: Global, line: &[u8]) -> Result<Range, Bad> {
 
 // Adds a part of a transaction.
 fn add_part(kind: &[u8], key: Vec<u8>, word: &[u8], txn: &mut Txn) -> Result<(), Bad> {
-    let value = read_bytes(*key.allocator(), word)?;
+    let alloc = *key.allocator();
     match kind {
         b"at" => {
             let revision = decimal(word).ok_or(Bad::Number)?;
             txn.compares.push(Compare::Revision(key, revision))?;
         }
-        b"has" => txn.compares.push(Compare::Value(key, value))?,
-        b"put" => txn.puts.push(Put { key, value })?,
+        b"has" => {
+            let value = read_bytes(alloc, word)?;
+            txn.compares.push(Compare::Value(key, value))?;
+        }
+        b"put" => {
+            let value = read_bytes(alloc, word)?;
+            txn.puts.push(Put { key, value })?;
+        }
         _ => return Err(Bad::Words),
     }
     Ok(())

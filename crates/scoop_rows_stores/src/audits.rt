@@ -123,7 +123,7 @@ fn tells(error: &AuditError, answer: &mut Vec<u8>) -> Result<(), Bad> {
         AuditError::Unexplained(found, wrong) => {
             let mut text = String::new(*answer.allocator());
             match unexplained_text(found, wrong, &mut text) {
-                Ok(()) => says(text, answer),
+                Ok(()) => says(text.as_str(), answer),
                 Err(_) => Err(Bad::Memory),
             }
         }
