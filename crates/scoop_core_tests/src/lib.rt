@@ -1,4 +1,4 @@
-//! The tests of books, drivers, loops and worlds that need a function of their own. The others are rows.
+//! The tests of loops and theorems that need a function of their own. The others are rows.
 #![tactic(auto)]
 
 #[cfg(test)]

@@ -1,3 +1,4 @@
 //! The tests.
 
 mod gate;
+mod theorems;

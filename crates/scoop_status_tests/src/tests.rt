@@ -1,3 +1,0 @@
-//! The server of a status, over sockets of this machine.
-
-mod serving;
