@@ -3,14 +3,14 @@
 //! - `silent N` adds N silent ticks of client 7 to a chart, `label TEXT` one with this label, and `begun` the first entry of
 //!   block 7.1.1.
 //! - `open FROM TO` opens the example of a transfer with these amounts, and `pay N` answers the second account's balance.
-//! - `draws LINE` answers whether the picture of the transfer, or else of the chart, has the line. `ends N` answers the last
-//!   lines of the chart's.
+//! - `draws TEXT` draws the transfer if there is one, or else the chart, and answers whether the picture has TEXT. `says TEXT`
+//!   answers whether it has TEXT after what was found last.
 
-use crate::telling::{has_line, tells, tells_text, told};
+use crate::telling::{finds, tells, told};
 use scoop_chart::{Chart, ChartError};
-use scoop_lines::{decimal, two_words};
+use scoop_lines::two_words;
 use scoop_message::{Answer, Block, ClientId, HandlerId};
-use scoop_row_player::words::{first, last};
+use scoop_row_player::words::{first, last, number};
 use scoop_row_player::{Bad, Subject};
 use scoop_world::{Event, WorldNote};
 use std::alloc::Global;
@@ -20,11 +20,12 @@ const SEVEN: ClientId = ClientId(7);
 
 const ONE: HandlerId = HandlerId(1);
 
-/// A chart, and a transfer.
+/// A chart, a transfer, and the rest of what was drawn.
 #[derive(Drop)]
 pub struct Charts {
     chart: Chart,
     transfer: Option<Transfer>,
+    drawn: Vec<u8>,
 }
 
 impl Charts {
@@ -33,6 +34,7 @@ impl Charts {
             Ok(chart) => Ok(Charts {
                 chart,
                 transfer: None,
+                drawn: Vec::new(alloc),
             }),
             Err(_) => Err(Bad::Memory),
         }
@@ -40,7 +42,7 @@ impl Charts {
 
     fn opens(&mut self, line: &[u8], answer: &mut Vec<u8>) -> Result<(), Bad> {
         let (from, to) = two_words(line).ok_or(Bad::Words)?;
-        let (from, to) = (amount(from)?, amount(to)?);
+        let (from, to) = (u64::from(number(from)?), u64::from(number(to)?));
         match Transfer::open(*answer.allocator(), from, to) {
             Ok(transfer) => {
                 self.transfer = Some(transfer);
@@ -50,37 +52,42 @@ impl Charts {
         }
     }
 
-    fn draws(&self, line: &[u8], answer: &mut Vec<u8>) -> Result<(), Bad> {
-        let mut picture = Vec::new(*answer.allocator());
-        match &self.transfer {
-            Some(transfer) => transfer.draw(&mut picture)?,
-            None => self.chart.draw(&mut picture)?,
+    fn pays(&mut self, paid: u32, answer: &mut Vec<u8>) -> Result<(), Bad> {
+        let transfer = self.transfer.as_mut().ok_or(Bad::Command)?;
+        match transfer.pay(u64::from(paid)) {
+            Ok(Some(Answer::Value(balance))) => tells(balance, answer),
+            Ok(_) => tells("refused", answer),
+            Err(error) => tells(error, answer),
         }
-        tells(has_line(&picture, line), answer)
     }
 
-    fn ends(&self, count: u64, answer: &mut Vec<u8>) -> Result<(), Bad> {
-        let mut picture = Vec::new(*answer.allocator());
-        self.chart.draw(&mut picture)?;
-        tells_text(last_lines(&picture, count), answer)
+    fn draws(&mut self, text: &[u8], answer: &mut Vec<u8>) -> Result<(), Bad> {
+        self.drawn.clear();
+        match &self.transfer {
+            Some(transfer) => transfer.draw(&mut self.drawn)?,
+            None => self.chart.draw(&mut self.drawn)?,
+        }
+        finds(&mut self.drawn, text, answer)
     }
 }
 
 impl Subject for Charts {
     fn does(&mut self, command: &[u8], answer: &mut Vec<u8>) -> Result<(), Bad> {
         let (name, line) = first(command)?;
-        let text = line.strip_prefix(b" ").unwrap_or(line);
         match name {
-            b"silent" => told(adds(&mut self.chart, amount(last(line)?)?), answer),
-            b"label" => told(add(&mut self.chart, text), answer),
+            b"silent" => told(
+                add(&mut self.chart, number(last(line)?)?, b"silent"),
+                answer,
+            ),
+            b"label" => {
+                let label = line.strip_prefix(b" ").unwrap_or(line);
+                told(add(&mut self.chart, 1, label), answer)
+            }
             b"begun" => told(begin(&mut self.chart), answer),
             b"open" => self.opens(line, answer),
-            b"pay" => {
-                let transfer = self.transfer.as_mut().ok_or(Bad::Command)?;
-                pays(transfer, amount(last(line)?)?, answer)
-            }
-            b"draws" => self.draws(text, answer),
-            b"ends" => self.ends(amount(last(line)?)?, answer),
+            b"pay" => self.pays(number(last(line)?)?, answer),
+            b"draws" => self.draws(line, answer),
+            b"says" => finds(&mut self.drawn, line, answer),
             _ => Err(Bad::Command),
         }
     }
@@ -90,17 +97,10 @@ impl Subject for Charts {
     }
 }
 
-fn amount(word: &[u8]) -> Result<u64, Bad> {
-    decimal(word).ok_or(Bad::Number)
-}
-
-fn add(chart: &mut Chart, label: &[u8]) -> Result<(), ChartError> {
-    chart.note(&Event::Tick(SEVEN, ONE), &Ok(WorldNote::Silent), label)
-}
-
-fn adds(chart: &mut Chart, count: u64) -> Result<(), ChartError> {
+// Adds that many silent ticks with this label.
+fn add(chart: &mut Chart, count: u32, label: &[u8]) -> Result<(), ChartError> {
     for _ in 0..count {
-        add(chart, b"silent")?;
+        chart.note(&Event::Tick(SEVEN, ONE), &Ok(WorldNote::Silent), label)?;
     }
     Ok(())
 }
@@ -116,26 +116,4 @@ fn begin(chart: &mut Chart) -> Result<(), ChartError> {
         &Ok(WorldNote::Began(block, 1)),
         b"began 7.1.1 1",
     )
-}
-
-fn pays(transfer: &mut Transfer, paid: u64, answer: &mut Vec<u8>) -> Result<(), Bad> {
-    match transfer.pay(paid) {
-        Ok(Some(Answer::Value(balance))) => tells(balance, answer),
-        Ok(_) => tells("refused", answer),
-        Err(error) => tells(error, answer),
-    }
-}
-
-// The last lines of a text, as many as that.
-fn last_lines(text: &[u8], count: u64) -> &[u8] {
-    let mut left = count;
-    for place in (0..text.len()).rev() {
-        if text.get(place).copied() == Some(b'\n') {
-            if left == 0 {
-                return text.get(place.saturating_add(1)..).unwrap_or(&[]);
-            }
-            left = left.saturating_sub(1);
-        }
-    }
-    text
 }

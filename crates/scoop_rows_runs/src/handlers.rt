@@ -1,25 +1,23 @@
 //! Rows about handler 1 alone: what it hears and runs, and its state.
 //!
 //! - `make CLASS WORD..` makes it with an object.
-//! - `hear MESSAGE` answers its note and its reply. `holder` answers the block with the lock, `words` its object's words.
+//! - `hear MESSAGE` answers its note and its reply. `words` answers its object's words.
 //! - `run` answers the entry that ran, and `begin` the one that began; the job then waits. `work` runs the job, `finish`
 //!   gives it back, and `after` keeps the state that `finish` would give.
 //! - `keep` keeps a copy of the state. `same` answers whether the state is the kept one.
-//! - `restart` makes the handler anew from the kept state. `reset` and `recall` set it to that state, `recall` with the object
-//!   of the waiting job, or with a new one.
-//! - `state WORD..` keeps a state of these words and of the parts named before by `holder BLOCK`,
-//!   `mark BLOCK held|open|shut RECEIVED [ended|refused]` and `queue BLOCK FIRST open|ended|cut ENTRY..`.
+//! - `restart CLASS WORD..` makes the handler anew from the kept state. `reset` and `recall CLASS WORD..` set it to that state,
+//!   `recall` with the object of the waiting job, or else with the one that is named.
+//! - `state CLASS WORD..` keeps a state of these words and of the parts named before by `holder`, `mark` and `queue`.
 
-use crate::objects::{blank, made, words_of};
+use crate::reading::{message_of, placed};
 use crate::states::{Parts, shows_state};
-use crate::telling::{message_of, tells, tells_message, tells_note};
+use crate::telling::{tells, tells_message, tells_note};
 use scoop_handler::{Done, Handler, HandlerState, Job, Ran, StrangerJob};
-use scoop_lines::next_word;
 use scoop_message::{Entry, HandlerId, Message, Request};
-use scoop_object::{Class, Table};
+use scoop_object::{Behaviour, Table};
 use scoop_row_player::words::first;
 use scoop_row_player::{Bad, Heap, Subject};
-use scoop_world::WorldNote;
+use scoop_world::{Placement, WorldNote};
 use std::alloc::Global;
 use std::fmt::Display;
 use std::io::Write;
@@ -28,12 +26,11 @@ const ONE: HandlerId = HandlerId(1);
 
 type Hearing<'a> = Handler<Table, Heap<'a>>;
 
-/// A handler, a kept state, and a job.
+/// A handler, a kept state, the parts of one that is to be made, and a job.
 #[derive(Drop)]
 pub struct Handlers<'a> {
     alloc: Global,
     heap: Heap<'a>,
-    class: Option<Class>,
     handler: Option<Hearing<'a>>,
     kept: Option<HandlerState<Heap<'a>>>,
     parts: Parts<'a>,
@@ -46,7 +43,6 @@ impl<'a> Handlers<'a> {
         Handlers {
             alloc,
             heap,
-            class: None,
             handler: None,
             kept: None,
             parts: Parts::new(alloc, heap),
@@ -55,10 +51,19 @@ impl<'a> Handlers<'a> {
         }
     }
 
-    fn makes(&mut self, line: &[u8], answer: &mut Vec<u8>) -> Result<(), Bad> {
-        let (class, object) = made(self.alloc, line)?;
-        self.class = Some(class.copy()?);
-        match Handler::new(self.heap, ONE, class, object) {
+    // Makes the handler, from a kept state if there is one.
+    fn makes(
+        &mut self,
+        kept: Option<HandlerState<Heap<'a>>>,
+        line: &[u8],
+        answer: &mut Vec<u8>,
+    ) -> Result<(), Bad> {
+        let Placement { class, object, .. } = placed(self.alloc, line)?;
+        let made = match kept {
+            None => Handler::new(self.heap, ONE, class, object),
+            Some(state) => Handler::restart(class, object, state),
+        };
+        match made {
             Ok(handler) => {
                 self.handler = Some(handler);
                 tells("ok", answer)
@@ -67,37 +72,36 @@ impl<'a> Handlers<'a> {
         }
     }
 
-    // The class, and a new object of it.
-    fn blank(&self) -> Result<(Class, Table), Bad> {
-        blank(self.class.as_ref().ok_or(Bad::Command)?)
-    }
-
-    fn new_object(&self) -> Result<Table, Bad> {
-        let (_class, object) = self.blank()?;
-        Ok(object)
-    }
-
     fn is_told(&mut self, name: &[u8], line: &[u8], answer: &mut Vec<u8>) -> Result<(), Bad> {
         // Names types that are held here, which the prover has to know.
         let _held: Option<(Entry, Request)> = None;
         let handler = self.handler.as_mut().ok_or(Bad::Command)?;
         match name {
-            b"hear" => {
-                let words = line.strip_prefix(b" ").unwrap_or(line);
-                hears(handler, &message_of(self.alloc, words)?, answer)
+            b"hear" => hears(handler, &message_of(self.alloc, line)?, answer),
+            b"words" => {
+                let words = handler.words();
+                write!(answer, "{:?}", words.as_slice())?;
+                Ok(())
             }
             b"run" => tells_ran(&handler.run(), answer),
-            b"begin" => begins(handler, &mut self.job, answer),
+            b"begin" => {
+                self.job = handler.begin();
+                tells_job(&self.job, answer)
+            }
             b"work" => {
                 self.done = Some(self.job.take().ok_or(Bad::Command)?.work());
                 tells("ok", answer)
             }
             b"finish" => {
                 let done = self.done.take().ok_or(Bad::Command)?;
-                finishes(handler, done, &mut self.done, answer)
+                match handler.finish(done) {
+                    Ok(ran) => tells_ran(&Some(ran), answer),
+                    Err(StrangerJob(done)) => {
+                        self.done = Some(done);
+                        tells("StrangerJob", answer)
+                    }
+                }
             }
-            b"words" => tells_words(handler, answer),
-            b"holder" => tells_holder(handler, answer),
             _ => self.keeps(name, line, answer),
         }
     }
@@ -111,51 +115,51 @@ impl<'a> Handlers<'a> {
                 is_kept(&mut self.kept, handler.after_finish(done), answer)
             }
             b"state" => {
-                let made = self.parts.state(self.heap, words_of(line)?);
+                let Placement {
+                    class: _class,
+                    object,
+                    ..
+                } = placed(self.alloc, line)?;
+                let made = self.parts.state(self.heap, object.words());
                 is_kept(&mut self.kept, made, answer)
             }
-            _ => self.sets(name, answer),
+            b"same" => {
+                let kept = self.kept.as_ref().ok_or(Bad::Command)?;
+                tells(handler.state().same(kept), answer)
+            }
+            _ => self.sets(name, line, answer),
         }
     }
 
     // Sets the handler to a copy of the kept state.
-    fn sets(&mut self, name: &[u8], answer: &mut Vec<u8>) -> Result<(), Bad> {
+    fn sets(&mut self, name: &[u8], line: &[u8], answer: &mut Vec<u8>) -> Result<(), Bad> {
+        let _held: Option<(Entry, Request)> = None;
         let kept = self.kept.as_ref().ok_or(Bad::Command)?;
-        let handler = self.handler.as_mut().ok_or(Bad::Command)?;
-        if matches!(name, b"same") {
-            return tells(handler.state().same(kept), answer);
-        }
         let state = match kept.copy() {
             Ok(state) => state,
             Err(error) => return tells(error, answer),
         };
-        match name {
-            b"reset" => is_taken(handler.reset(state).is_ok(), answer),
-            b"restart" => self.restarts(state, answer),
-            b"recall" => self.recalls(state, answer),
-            _ => Err(Bad::Command),
+        if matches!(name, b"restart") {
+            return self.makes(Some(state), line, answer);
         }
-    }
-
-    fn restarts(&mut self, state: HandlerState<Heap<'a>>, answer: &mut Vec<u8>) -> Result<(), Bad> {
-        let (class, object) = self.blank()?;
-        match Handler::restart(class, object, state) {
-            Ok(handler) => {
-                self.handler = Some(handler);
-                tells("ok", answer)
-            }
-            Err(error) => tells(error, answer),
-        }
-    }
-
-    fn recalls(&mut self, state: HandlerState<Heap<'a>>, answer: &mut Vec<u8>) -> Result<(), Bad> {
-        let _held: Option<(Entry, Request)> = None;
-        let object = match self.job.take() {
-            Some(job) => job.into_object(),
-            None => self.new_object()?,
-        };
         let handler = self.handler.as_mut().ok_or(Bad::Command)?;
-        is_taken(handler.recall(object, state).is_ok(), answer)
+        let taken = match name {
+            b"reset" => handler.reset(state).is_ok(),
+            b"recall" => {
+                let Placement {
+                    class: _class,
+                    object,
+                    ..
+                } = placed(self.alloc, line)?;
+                let object = match self.job.take() {
+                    Some(job) => job.into_object(),
+                    None => object,
+                };
+                handler.recall(object, state).is_ok()
+            }
+            _ => return Err(Bad::Command),
+        };
+        tells(if taken { "ok" } else { "refused" }, answer)
     }
 }
 
@@ -163,9 +167,10 @@ impl Subject for Handlers<'_> {
     fn does(&mut self, command: &[u8], answer: &mut Vec<u8>) -> Result<(), Bad> {
         let (name, line) = first(command)?;
         match name {
-            b"make" => self.makes(line, answer),
-            b"mark" | b"queue" => self.parts.add(name, line, answer),
-            b"holder" if next_word(line).is_some() => self.parts.add(name, line, answer),
+            b"make" => self.makes(None, line, answer),
+            b"holder" => self.parts.add(name, line, answer),
+            b"mark" => self.parts.add(name, line, answer),
+            b"queue" => self.parts.add(name, line, answer),
             _ => self.is_told(name, line, answer),
         }
     }
@@ -196,10 +201,6 @@ fn is_kept<'a, E: Display + Drop>(
     }
 }
 
-fn is_taken(taken: bool, answer: &mut Vec<u8>) -> Result<(), Bad> {
-    tells(if taken { "ok" } else { "refused" }, answer)
-}
-
 fn hears(handler: &mut Hearing<'_>, message: &Message, answer: &mut Vec<u8>) -> Result<(), Bad> {
     let heard = match handler.hear(message) {
         Ok(heard) => heard,
@@ -220,48 +221,9 @@ fn tells_ran(ran: &Option<Ran>, answer: &mut Vec<u8>) -> Result<(), Bad> {
     }
 }
 
-fn begins(
-    handler: &mut Hearing<'_>,
-    waiting: &mut Option<Job<Table>>,
-    answer: &mut Vec<u8>,
-) -> Result<(), Bad> {
-    let Some(job) = handler.begin() else {
-        return tells("none", answer);
-    };
-    tells_note(&WorldNote::Began(job.block(), job.number()), None, answer)?;
-    *waiting = Some(job);
-    Ok(())
-}
-
-fn finishes(
-    handler: &mut Hearing<'_>,
-    done: Done<Table>,
-    stranger: &mut Option<Done<Table>>,
-    answer: &mut Vec<u8>,
-) -> Result<(), Bad> {
-    match handler.finish(done) {
-        Ok(ran) => tells_ran(&Some(ran), answer),
-        Err(StrangerJob(done)) => {
-            *stranger = Some(done);
-            tells("StrangerJob", answer)
-        }
-    }
-}
-
-fn tells_words(handler: &Hearing<'_>, answer: &mut Vec<u8>) -> Result<(), Bad> {
-    let words = handler.words();
-    for (place, word) in words.as_slice().iter().enumerate() {
-        if place > 0 {
-            answer.push(b' ')?;
-        }
-        write!(answer, "{word}")?;
-    }
-    Ok(())
-}
-
-fn tells_holder(handler: &Hearing<'_>, answer: &mut Vec<u8>) -> Result<(), Bad> {
-    match handler.holder() {
-        Some(block) => tells(block, answer),
+fn tells_job(job: &Option<Job<Table>>, answer: &mut Vec<u8>) -> Result<(), Bad> {
+    match job {
+        Some(job) => tells_note(&WorldNote::Began(job.block(), job.number()), None, answer),
         None => tells("none", answer),
     }
 }

@@ -1,30 +1,22 @@
 //! Areas of rows about whole runs, and about the parties of a world. The head of each module says its commands.
 #![tactic(auto)]
 
-mod answers;
 mod charts;
 mod clients;
-mod commands;
-mod framing;
 mod handlers;
 mod long;
-mod objects;
-mod scripts;
+mod programs;
+mod reading;
 mod states;
 mod telling;
-mod typing;
 mod worlds;
 
-use answers::Answers;
 use charts::Charts;
 use clients::Clients;
-use commands::Commands;
-use framing::Framing;
 use handlers::Handlers;
-use long::Long;
+use programs::Programs;
 use scoop_refusing::Refusing;
 use scoop_row_player::{Areas, Bad, Case, Heap, Sheet, Subject, play_rows};
-use scripts::Scripts;
 use worlds::Worlds;
 
 /// The areas `answers`, `charts`, `clients`, `commands`, `framing`, `handlers`, `limits`, `long`, `scripts` and `worlds`.
@@ -40,23 +32,17 @@ impl Areas for Runs {
         sheet: &mut Sheet,
     ) -> Result<bool, Bad> {
         let alloc = sheet.alloc();
+        // for areas without refused growths, each of which would play the whole case again
+        let own = Refusing::new(alloc, 0);
         match area {
-            "answers" => played(case, heap, Answers::new(alloc), sheet)?,
+            "answers" | "commands" | "framing" | "scripts" => {
+                played(case, heap, Programs::new(alloc), sheet)?;
+            }
             "charts" => played(case, heap, Charts::new(alloc)?, sheet)?,
             "clients" => played(case, heap, Clients::new(alloc, heap), sheet)?,
-            "commands" => played(case, heap, Commands::new(alloc), sheet)?,
-            "framing" => played(case, heap, Framing::new(alloc), sheet)?,
             "handlers" => played(case, heap, Handlers::new(alloc, heap), sheet)?,
-            // without refused growths, each of which would play the whole case again
-            "limits" => {
-                let own = Refusing::new(alloc, 0);
-                played(case, heap, Handlers::new(alloc, &own), sheet)?;
-            }
-            "long" => {
-                let own = Refusing::new(alloc, 0);
-                played(case, heap, Long::new(alloc, &own), sheet)?;
-            }
-            "scripts" => played(case, heap, Scripts::new(alloc), sheet)?,
+            "limits" => played(case, heap, Handlers::new(alloc, &own), sheet)?,
+            "long" => played(case, heap, Worlds::new(alloc, &own), sheet)?,
             "worlds" => played(case, heap, Worlds::new(alloc, heap), sheet)?,
             _ => return Ok(false),
         }

@@ -5,7 +5,7 @@ use scoop_handler::{HandlerState, Mark, Stage, StateError};
 use scoop_lines::next_word;
 use scoop_message::limits::MAX_PENDING;
 use scoop_message::{Answer, Block, HandlerId, Words};
-use scoop_queue::{AppendError, Head, QueueOfQueues, QueueState};
+use scoop_queue::{Head, QueueOfQueues, QueueState};
 use scoop_row_player::words::{block, entries, first, last, number, put_entry};
 use scoop_row_player::{Bad, Heap};
 use std::alloc::Global;
@@ -33,7 +33,7 @@ impl<'a> Parts<'a> {
         match name {
             b"holder" => self.holder = Some(block(last(line)?)?),
             b"mark" => self.marks.push(mark(line)?)?,
-            b"queue" => return told(appended(&mut self.queues, line)?, answer),
+            b"queue" => return append(&mut self.queues, line, answer),
             _ => return Err(Bad::Command),
         }
         tells("ok", answer)
@@ -64,27 +64,24 @@ impl<'a> Parts<'a> {
     }
 }
 
-fn stage(word: &[u8]) -> Result<Stage, Bad> {
-    match word {
-        b"held" => Ok(Stage::Held),
-        b"open" => Ok(Stage::Open),
-        b"shut" => Ok(Stage::Shut),
-        _ => Err(Bad::Words),
-    }
-}
-
 // A block, its stage, the number of received entries, and what else the handler keeps of it.
 fn mark(line: &[u8]) -> Result<Mark, Bad> {
     let (block_word, line) = first(line)?;
-    let (stage_word, line) = first(line)?;
+    let (stage, line) = first(line)?;
     let (received, line) = first(line)?;
-    let block = block(block_word)?;
+    let Block { client, inc, num } = block(block_word)?;
     let (more, _) = next_word(line).unwrap_or((&[], &[]));
+    let stage = match stage {
+        b"held" => Stage::Held,
+        b"open" => Stage::Open,
+        b"shut" => Stage::Shut,
+        _ => return Err(Bad::Words),
+    };
     Ok(Mark {
-        client: block.client,
-        inc: block.inc,
-        num: block.num,
-        stage: stage(stage_word)?,
+        client,
+        inc,
+        num,
+        stage,
         received: number(received)?,
         ended: matches!(more, b"ended"),
         kept: if matches!(more, b"refused") {
@@ -95,32 +92,30 @@ fn mark(line: &[u8]) -> Result<Mark, Bad> {
     })
 }
 
-fn queue_state(word: &[u8]) -> Result<QueueState, Bad> {
-    match word {
-        b"open" => Ok(QueueState::Open),
-        b"ended" => Ok(QueueState::Ended),
-        b"cut" => Ok(QueueState::Cut),
-        _ => Err(Bad::Words),
-    }
-}
-
 // Appends a private queue: its block, the number of its first entry, its state and its entries.
-fn appended(
+fn append(
     queues: &mut QueueOfQueues<Heap<'_>>,
     line: &[u8],
-) -> Result<Result<(), AppendError>, Bad> {
+    answer: &mut Vec<u8>,
+) -> Result<(), Bad> {
     let (block_word, line) = first(line)?;
-    let (number_word, line) = first(line)?;
-    let (state_word, line) = first(line)?;
+    let (first_word, line) = first(line)?;
+    let (state, line) = first(line)?;
+    let state = match state {
+        b"open" => QueueState::Open,
+        b"ended" => QueueState::Ended,
+        b"cut" => QueueState::Cut,
+        _ => return Err(Bad::Words),
+    };
     let head = Head {
         block: block(block_word)?,
-        first: number(number_word)?,
-        state: queue_state(state_word)?,
+        first: number(first_word)?,
+        state,
     };
     if next_word(line).is_none() {
-        return Ok(queues.append(head, &[]));
+        return told(queues.append(head, &[]), answer);
     }
-    Ok(queues.append(head, entries(line)?.as_slice()))
+    told(queues.append(head, entries(line)?.as_slice()), answer)
 }
 
 // Adds the private queues with their entries.

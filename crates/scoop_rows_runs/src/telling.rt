@@ -1,12 +1,11 @@
 //! Words of answers.
 
-use scoop_demo::{RunError, print_message, print_note, read_message};
+use crate::reading::text_of;
+use scoop_demo::{RunError, print_message, print_note};
 use scoop_frame::Version;
 use scoop_message::Message;
 use scoop_row_player::Bad;
-use scoop_row_player::words::{last, number};
 use scoop_world::WorldNote;
-use std::alloc::Global;
 use std::fmt::Display;
 use std::io::Write;
 
@@ -35,14 +34,6 @@ pub fn tells_note(
     Ok(())
 }
 
-/// The message that these words write, in the words of `scoop frame`.
-pub fn message_of(alloc: Global, words: &[u8]) -> Result<Message, Bad> {
-    match read_message(alloc, words) {
-        Ok((_, message)) => Ok(message),
-        Err(_) => Err(Bad::Words),
-    }
-}
-
 /// Adds a message in words, or `none`.
 pub fn tells_message(message: &Option<Message>, answer: &mut Vec<u8>) -> Result<(), Bad> {
     match message {
@@ -62,26 +53,18 @@ pub fn add_error(ended: Result<(), RunError>, text: &mut Vec<u8>) -> Result<(), 
     Ok(())
 }
 
-/// Adds the lines of a text, separated by `; `: `ok` if there are none.
-pub fn tells_lines(text: &[u8], answer: &mut Vec<u8>) -> Result<(), Bad> {
-    let Some(text) = text.strip_suffix(b"\n") else {
+/// Adds the lines of a text with this between them: `ok` if there are none.
+pub fn tells_lines(text: &[u8], between: &str, answer: &mut Vec<u8>) -> Result<(), Bad> {
+    if text.is_empty() {
         return tells("ok", answer);
-    };
-    for (place, line) in text.split(|byte| *byte == b'\n').enumerate() {
+    }
+    for (place, line) in text_of(text)?.lines().enumerate() {
         if place > 0 {
-            answer.extend_from_slice(b"; ")?;
+            tells(between, answer)?;
         }
-        answer.extend_from_slice(line)?;
+        tells(line, answer)?;
     }
     Ok(())
-}
-
-/// Adds the lines of a text as they are: `ok` if there are none.
-pub fn tells_text(text: &[u8], answer: &mut Vec<u8>) -> Result<(), Bad> {
-    match text.strip_suffix(b"\n") {
-        Some(text) => Ok(answer.extend_from_slice(text)?),
-        None => tells("ok", answer),
-    }
 }
 
 /// Adds a line.
@@ -91,16 +74,24 @@ pub fn add_line(line: &[u8], text: &mut Vec<u8>) -> Result<(), Bad> {
     Ok(())
 }
 
-/// Adds a line of as many of these bytes as the words say.
-pub fn add_long(byte: u8, words: &[u8], text: &mut Vec<u8>) -> Result<(), Bad> {
-    for _ in 0..number(last(words)?)? {
-        text.push(byte)?;
+/// The place in a text behind the first of these words of a row.
+pub fn behind(text: &[u8], words: &[u8]) -> Option<usize> {
+    let words = words.strip_prefix(b" ").unwrap_or(words);
+    for place in 0..text.len() {
+        if text.get(place..).unwrap_or(&[]).starts_with(words) {
+            return Some(place.saturating_add(words.len()));
+        }
     }
-    text.push(b'\n')?;
-    Ok(())
+    None
 }
 
-/// Whether a text has this line.
-pub fn has_line(text: &[u8], line: &[u8]) -> bool {
-    text.split(|byte| *byte == b'\n').any(|other| other == line)
+/// Adds `ok` if a text has these words of a row, and leaves of it what follows them.
+pub fn finds(text: &mut Vec<u8>, words: &[u8], answer: &mut Vec<u8>) -> Result<(), Bad> {
+    let Some(place) = behind(text, words) else {
+        return tells("no", answer);
+    };
+    let mut rest = Vec::new(*text.allocator());
+    rest.extend_from_slice(text.get(place..).unwrap_or(&[]))?;
+    *text = rest;
+    tells("ok", answer)
 }
