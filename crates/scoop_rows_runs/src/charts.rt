@@ -1,7 +1,6 @@
 //! Rows about charts: the labels and the length of a chart, and the example that draws one.
 //!
-//! - `silent N` adds N silent ticks of client 7 to a chart, `label TEXT` one with this label, and `begun` the first entry of
-//!   block 7.1.1.
+//! - `label N TEXT` adds N silent ticks of client 7 with this label to a chart, and `begun` the first entry of block 7.1.1.
 //! - `open FROM TO` opens the example of a transfer with these amounts, and `pay N` answers the second account's balance.
 //! - `draws TEXT` draws the transfer if there is one, or else the chart, and answers whether the picture has TEXT. `says TEXT`
 //!   answers whether it has TEXT after what was found last.
@@ -75,13 +74,10 @@ impl Subject for Charts {
     fn does(&mut self, command: &[u8], answer: &mut Vec<u8>) -> Result<(), Bad> {
         let (name, line) = first(command)?;
         match name {
-            b"silent" => told(
-                add(&mut self.chart, number(last(line)?)?, b"silent"),
-                answer,
-            ),
             b"label" => {
-                let label = line.strip_prefix(b" ").unwrap_or(line);
-                told(add(&mut self.chart, 1, label), answer)
+                let (count, label) = first(line)?;
+                let label = label.strip_prefix(b" ").unwrap_or(label);
+                told(add(&mut self.chart, number(count)?, label), answer)
             }
             b"begun" => told(begin(&mut self.chart), answer),
             b"open" => self.opens(line, answer),

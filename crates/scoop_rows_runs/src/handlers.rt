@@ -9,7 +9,7 @@
 //!   `recall` with the object of the waiting job, or else with the one that is named.
 //! - `state CLASS WORD..` keeps a state of these words and of the parts named before by `holder`, `mark` and `queue`.
 
-use crate::reading::{message_of, placed};
+use crate::reading::{made, message_of};
 use crate::states::{Parts, shows_state};
 use crate::telling::{tells, tells_message, tells_note};
 use scoop_handler::{Done, Handler, HandlerState, Job, Ran, StrangerJob};
@@ -17,7 +17,7 @@ use scoop_message::{Entry, HandlerId, Message, Request};
 use scoop_object::{Behaviour, Table};
 use scoop_row_player::words::first;
 use scoop_row_player::{Bad, Heap, Subject};
-use scoop_world::{Placement, WorldNote};
+use scoop_world::WorldNote;
 use std::alloc::Global;
 use std::fmt::Display;
 use std::io::Write;
@@ -58,12 +58,12 @@ impl<'a> Handlers<'a> {
         line: &[u8],
         answer: &mut Vec<u8>,
     ) -> Result<(), Bad> {
-        let Placement { class, object, .. } = placed(self.alloc, line)?;
-        let made = match kept {
+        let (class, object) = made(self.alloc, line)?;
+        let handler = match kept {
             None => Handler::new(self.heap, ONE, class, object),
             Some(state) => Handler::restart(class, object, state),
         };
-        match made {
+        match handler {
             Ok(handler) => {
                 self.handler = Some(handler);
                 tells("ok", answer)
@@ -115,13 +115,9 @@ impl<'a> Handlers<'a> {
                 is_kept(&mut self.kept, handler.after_finish(done), answer)
             }
             b"state" => {
-                let Placement {
-                    class: _class,
-                    object,
-                    ..
-                } = placed(self.alloc, line)?;
-                let made = self.parts.state(self.heap, object.words());
-                is_kept(&mut self.kept, made, answer)
+                let (_class, object) = made(self.alloc, line)?;
+                let state = self.parts.state(self.heap, object.words());
+                is_kept(&mut self.kept, state, answer)
             }
             b"same" => {
                 let kept = self.kept.as_ref().ok_or(Bad::Command)?;
@@ -146,11 +142,7 @@ impl<'a> Handlers<'a> {
         let taken = match name {
             b"reset" => handler.reset(state).is_ok(),
             b"recall" => {
-                let Placement {
-                    class: _class,
-                    object,
-                    ..
-                } = placed(self.alloc, line)?;
+                let (_class, object) = made(self.alloc, line)?;
                 let object = match self.job.take() {
                     Some(job) => job.into_object(),
                     None => object,

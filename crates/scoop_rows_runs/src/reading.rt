@@ -4,7 +4,7 @@ use scoop_demo::{
     EventLine, LineKind, PlacedLine, line_kind, read_event, read_message, read_placement,
 };
 use scoop_message::Message;
-use scoop_object::Table;
+use scoop_object::{Class, Table};
 use scoop_row_player::Bad;
 use scoop_world::{Event, Placement};
 use std::alloc::Global;
@@ -59,10 +59,11 @@ pub fn placement(alloc: Global, words: &[u8]) -> Result<Placement<Table>, Bad> {
     }
 }
 
-/// Handler 1 of node 1 with an object, from the words ` CLASS WORD..` behind a command.
-pub fn placed(alloc: Global, words: &[u8]) -> Result<Placement<Table>, Bad> {
+/// A class and an object of it, from the words ` CLASS WORD..` behind a command.
+pub fn made(alloc: Global, words: &[u8]) -> Result<(Class, Table), Bad> {
     let mut line = Vec::new(alloc);
     line.extend_from_slice(b"1 1")?;
     line.extend_from_slice(words)?;
-    placement(alloc, &line)
+    let Placement { class, object, .. } = placement(alloc, &line)?;
+    Ok((class, object))
 }

@@ -8,7 +8,7 @@
 //! - `@history` answers the number of the history's entries, `@stored` whether the closed store has a state.
 
 use super::{ONE, Programs};
-use crate::reading::{placed, text_of};
+use crate::reading::{made, text_of};
 use crate::telling::{add_error, add_line, tells, tells_lines};
 use scoop_book::Book;
 use scoop_demo::{answer_run, open_book, tell_frames};
@@ -17,7 +17,6 @@ use scoop_message::HandlerId;
 use scoop_object::Table;
 use scoop_row_player::Bad;
 use scoop_row_player::words::{last, number};
-use scoop_world::Placement;
 
 pub type Answering = Book<Table, FailingKeeper<MemoryKeeper>>;
 
@@ -29,7 +28,7 @@ impl Programs {
             None => MemoryKeeper::new(self.alloc),
         };
         let keeper = FailingKeeper::new(keeper, self.calls);
-        let Placement { class, object, .. } = placed(self.alloc, line)?;
+        let (class, object) = made(self.alloc, line)?;
         match open_book(self.alloc, keeper, ONE, class, object) {
             Ok(book) => {
                 self.book = Some(book);
