@@ -4,6 +4,7 @@
 //! - `watches`: a handler that is watched, and what a node's page, metrics, JSON and log show of it.
 #![tactic(auto)]
 
+mod programs;
 mod sessions;
 mod shown;
 mod systems;

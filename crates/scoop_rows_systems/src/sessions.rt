@@ -5,9 +5,13 @@
 //! - `client NUMBER TURNS KIND LINES` runs the client with these lines, each of which takes at most this many turns. The kind
 //!   is `script`, `strict` or `typed`. It answers the client's output and its error, if there is one. `cut NUMBER TURNS KIND`
 //!   runs `client --cut`.
-//! - `progress` answers the progress that came with the error, and `status` its exit status. `notes WORDS` and `journal WORDS` answer whether the notes or the
-//!   journal have these words, and `writes` how many writes the journal took.
+//! - `program NUMBER TURNS KIND THEN` runs a program that asks for the balance of handler 1 in a block, and then `ends` the
+//!   block, `returns` or `reserves` again. It answers the balance, the notes and how it ended. `let-go` in its place makes the
+//!   same calls and lets the client go.
+//! - `progress` answers the progress that came with the error, and `status` its exit status. `notes WORDS` and `journal WORDS`
+//!   answer whether the notes or the journal have these words, and `writes` how many writes the journal took.
 
+use crate::programs::Asker;
 use crate::text::{has, read_text, tells, without_last};
 use crate::text_lines::TextLines;
 use scoop_demo::read_message;
@@ -17,15 +21,19 @@ use scoop_journal::Journal;
 use scoop_keeper::MemoryKeeper;
 use scoop_lines::decimal;
 use scoop_link::{Datagram, TapeLink};
-use scoop_message::ClientId;
 use scoop_message::limits::BUFFER_LEN;
+use scoop_message::{ClientId, HandlerId};
 use scoop_row_player::Bad;
 use scoop_row_player::words::{first, last, number};
-use scoop_runtime::{ClientPlan, Progress, RuntimeError, client_cut, client_run};
+use scoop_runtime::{
+    Caller, ClientPlan, ClientProgram, Progress, RuntimeError, client_cut, client_run, program_run,
+};
 use scoop_system::System;
 use std::alloc::Global;
 use std::io;
 use std::io::{Error, ErrorKind, Write};
+
+const ONE: HandlerId = HandlerId(1);
 
 // Datagrams that a client can send in one session.
 const ROOM: usize = 256;
@@ -136,6 +144,75 @@ impl Sessions {
                 ends(Err(stop.error), answer)
             }
         }
+    }
+
+    /// Runs a program as a client.
+    pub fn runs_program(
+        &mut self,
+        system: &System,
+        line: &[u8],
+        answer: &mut Vec<u8>,
+    ) -> Result<(), Bad> {
+        let alloc = *answer.allocator();
+        let (plan, line) = plan_of(system, line)?;
+        let link = tape_of(alloc, self.heard.as_slice())?;
+        let word = last(line)?;
+        if word == b"let-go" {
+            return self.lets_go(&plan, link, answer);
+        }
+        let mut asker = Asker::of(word)?;
+        self.notes.clear();
+        let end = program_run(
+            alloc,
+            &plan,
+            &mut self.keeper,
+            link,
+            Some(Journal::new(alloc, &mut self.written)),
+            &mut asker,
+            Vec::new(alloc),
+            Vec::new(alloc),
+            NoPause,
+            &mut self.notes,
+        );
+        asker.tells_balance(answer)?;
+        answer.extend_from_slice(&self.notes)?;
+        match end.ended {
+            Ok(()) => tells("done", answer)?,
+            Err(error) => tells(error, answer)?,
+        }
+        tells(end.unended, answer)
+    }
+
+    // Makes the calls of a program that doesn't end its block, and lets the client go.
+    fn lets_go(
+        &mut self,
+        plan: &ClientPlan<'_>,
+        link: TapeLink,
+        answer: &mut Vec<u8>,
+    ) -> Result<(), Bad> {
+        let alloc = *answer.allocator();
+        let mut asker = Asker::of(b"returns")?;
+        let mut journal = Some(Journal::new(alloc, &mut self.written));
+        self.notes.clear();
+        match Caller::begin(
+            alloc,
+            plan,
+            &[ONE],
+            &mut self.keeper,
+            link,
+            &mut journal,
+            NoPause,
+            &mut self.notes,
+        ) {
+            Ok(begun) => {
+                let mut caller = begun;
+                let _ended = asker.run(&mut caller);
+            }
+            Err(error) => return tells(error, answer),
+        }
+        asker.tells_balance(answer)?;
+        answer.extend_from_slice(&self.notes)?;
+        tells("let go", answer)
     }
 
     /// Cuts the blocks of a client.

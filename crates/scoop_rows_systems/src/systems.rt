@@ -75,7 +75,7 @@ impl Subject for Systems {
                 Ok(())
             }
             b"serve" => serves(line, answer),
-            b"print" | b"line" | b"script" | b"client" | b"cut" => match &self.system {
+            b"print" | b"line" | b"script" | b"client" | b"program" | b"cut" => match &self.system {
                 Some(system) => asks(system, &mut self.sessions, name, line, answer),
                 None => Err(Bad::Command),
             },
@@ -117,6 +117,7 @@ fn asks(
         b"line" => reads_line(system, line, answer),
         b"script" => checks(system, line, answer),
         b"client" => sessions.runs(system, line, answer),
+        b"program" => sessions.runs_program(system, line, answer),
         _ => sessions.cuts(system, line, answer),
     }
 }
