@@ -19,7 +19,7 @@ use scoop_driver::NoPause;
 use scoop_frame::encode;
 use scoop_journal::Journal;
 use scoop_keeper::MemoryKeeper;
-use scoop_lines::decimal;
+use scoop_lines::{decimal, is};
 use scoop_link::{Datagram, TapeLink};
 use scoop_message::limits::BUFFER_LEN;
 use scoop_message::{ClientId, HandlerId};
@@ -157,7 +157,7 @@ impl Sessions {
         let (plan, line) = plan_of(system, line)?;
         let link = tape_of(alloc, self.heard.as_slice())?;
         let word = last(line)?;
-        if word == b"let-go" {
+        if is(word, "let-go") {
             return self.lets_go(&plan, link, answer);
         }
         let mut asker = Asker::of(word)?;
