@@ -21,6 +21,7 @@ import shutil
 import subprocess
 import sys
 import tempfile
+import threading
 from concurrent.futures import ThreadPoolExecutor
 
 import mutants
@@ -98,14 +99,20 @@ def played(out, number):
     with tempfile.TemporaryDirectory() as room:
         shutil.copytree(at / 'data', room, dirs_exist_ok=True)
         words = (at / 'args').read_text().split()
-        try:
-            run = subprocess.run([out, *words], cwd=room, env={**os.environ, 'MUTANT': str(number)}, timeout=SECONDS,
-                                 stdin=subprocess.DEVNULL, capture_output=True, text=True, errors='replace')
-        except subprocess.TimeoutExpired:
-            return f'it still runs after {SECONDS} s'
-    if run.returncode == 0 and run.stdout == (at / 'stdout').read_text():
-        return None
-    return (run.stderr.splitlines() or [f'status {run.returncode}'])[0][:150]
+        run = subprocess.Popen([out, *words], cwd=room, env={**os.environ, 'MUTANT': str(number)}, stdin=subprocess.DEVNULL,
+                               stdout=subprocess.PIPE, stderr=subprocess.PIPE, text=True, errors='replace')
+        timer = threading.Timer(SECONDS, run.kill)
+        timer.start()
+        # (a wrong row ends it: the rows after it take longer)
+        wrong = run.stderr.readline().strip()
+        if wrong:
+            run.kill()
+        told = run.stdout.read()
+        status = run.wait()
+        timer.cancel()
+    if wrong or status == 0 and told == (at / 'stdout').read_text():
+        return wrong[:150] or None
+    return f'status {status}'
 
 
 def noticed(crates):
