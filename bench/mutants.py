@@ -119,11 +119,13 @@ def own_impl(lines, at):
     text = re.sub(r'\s+', ' ', ' '.join(lines[at:end + 1]))
     if ' for ' not in text:
         return None
-    generics = ''
+    generics, of = '', text[text.index(' for ') + 5:]
     if text.startswith('impl<'):
-        _, length = split_list(text[4:])
+        names, length = split_list(text[4:])
         generics = text[4:length + 5]
-    return 'impl%s %s' % (generics, text[text.index(' for ') + 5:])
+        if not all(re.search(r'%s\b' % re.escape(re.match(r"'?\w+", it)[0]), of.split(' where ')[0]) for it in names):
+            raise Unfit('its impl has a parameter that the type has not')
+    return 'impl%s %s' % (generics, of)
 
 
 def additions(text, lines, changes, number):
