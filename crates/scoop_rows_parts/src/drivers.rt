@@ -22,7 +22,7 @@ use scoop_client::Client;
 use scoop_driver::{Driver, HandlerList, Interrupt, StepList};
 use scoop_keeper::MemoryKeeper;
 use scoop_link::Link;
-use scoop_message::{ClientId, Entry};
+use scoop_message::{ClientId, Entry, HandlerId, Request};
 use scoop_model::WorldNote;
 use scoop_netloop::LoopLink;
 use scoop_object::Table;
@@ -247,14 +247,23 @@ fn logs(driver: &mut HeapDriver<'_>, line: &[u8], answer: &mut Vec<u8>) -> Resul
             Ok(value) => tells(value, answer),
             Err(error) => tells(error, answer),
         },
-        Entry::Call(request) => {
-            for _ in 1..setting(line, "times", 1)? {
-                if let Err(error) = driver.call(at, request) {
-                    return tells(error, answer);
-                }
-            }
-            told(driver.call(at, request), answer)
-        }
+        Entry::Call(request) => calls(driver, at, &request, setting(line, "times", 1)?, answer),
         Entry::End => Err(Bad::Words),
     }
+}
+
+// Logs a call so often, or up to the first refusal.
+fn calls(
+    driver: &mut HeapDriver<'_>,
+    at: HandlerId,
+    request: &Request,
+    times: u32,
+    answer: &mut Vec<u8>,
+) -> Result<(), Bad> {
+    for _ in 1..times {
+        if let Err(error) = driver.call(at, *request) {
+            return tells(error, answer);
+        }
+    }
+    told(driver.call(at, *request), answer)
 }

@@ -41,12 +41,8 @@ fn request(op: u16, argument: u64) -> Result<Request, Bad> {
     }
 }
 
-// The first part of a line, and what follows it.
-fn part(line: &[u8]) -> Result<(ConditionPart, &[u8]), Bad> {
-    let (at, line) = first(line)?;
-    let (asked, line) = first(line)?;
-    let (test, line) = first(line)?;
-    let (value, line) = first(line)?;
+// A part of a condition, from its words.
+fn part(at: &[u8], asked: &[u8], test: &[u8], value: &[u8]) -> Result<ConditionPart, Bad> {
     let value = u64::from(number(value)?);
     let Entry::Query(query) = entry(asked)? else {
         return Err(Bad::Words);
@@ -58,14 +54,11 @@ fn part(line: &[u8]) -> Result<(ConditionPart, &[u8]), Bad> {
         _ => return Err(Bad::Words),
     };
     let at = handler(at)?;
-    Ok((
-        ConditionPart {
-            handler: at,
-            request: query,
-            test,
-        },
-        line,
-    ))
+    Ok(ConditionPart {
+        handler: at,
+        request: query,
+        test,
+    })
 }
 
 fn parts(alloc: Global, line: &[u8]) -> Result<Vec<ConditionPart>, Bad> {
@@ -75,8 +68,11 @@ fn parts(alloc: Global, line: &[u8]) -> Result<Vec<ConditionPart>, Bad> {
         if rest.is_empty() {
             break;
         }
-        let (next, behind) = part(rest)?;
-        all.push(next)?;
+        let (at, behind) = first(rest)?;
+        let (asked, behind) = first(behind)?;
+        let (test, behind) = first(behind)?;
+        let (value, behind) = first(behind)?;
+        all.push(part(at, asked, test, value)?)?;
         rest = behind;
     }
     Ok(all)
