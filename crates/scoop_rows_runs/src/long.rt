@@ -28,9 +28,9 @@ type Run<'a> = World<Table, Heap<'a>>;
 
 /// Takes that many events, each watched. Adds `ok`, or the number of an event and what is wrong with it, and the outcomes to
 /// their list.
-pub fn play_long<'a>(
-    world: &mut Run<'a>,
-    heap: Heap<'a>,
+pub fn play_long(
+    world: &mut Run<'_>,
+    heap: Heap<'_>,
     count: u32,
     outcomes: &mut Vec<u8>,
     answer: &mut Vec<u8>,
@@ -46,16 +46,21 @@ pub fn play_long<'a>(
         let refused = number % 10 == 0 && heap.has_refused();
         heap.refuse(0);
         writeln!(outcomes, "{done:?}")?;
-        if let Err(fault) = is_right(&mut watch, world, number, done, refused) {
-            write!(answer, "event {number}: {fault}")?;
-            return Ok(());
+        last = told_note(&event, &done);
+        if let Err(fault) = is_right(&mut watch, world, number, &done, refused) {
+            write!(answer, "event {number}: ")?;
+            return tells(fault, answer);
         }
-        last = match done {
-            Ok(note) => Some((event, note)),
-            Err(_) => None,
-        };
     }
     tells("ok", answer)
+}
+
+// The event with its note, if it has happened.
+fn told_note(event: &Event, done: &Result<WorldNote, WorldError>) -> Option<(Event, WorldNote)> {
+    match done {
+        Ok(note) => Some((*event, *note)),
+        Err(_) => None,
+    }
 }
 
 // The histories keep the rules after an event, and after each thousand all of them are looked at again. Memory is wanting only
@@ -64,7 +69,7 @@ fn is_right(
     watch: &mut Watch,
     world: &Run<'_>,
     number: u32,
-    done: Result<WorldNote, WorldError>,
+    done: &Result<WorldNote, WorldError>,
     refused: bool,
 ) -> Result<(), Fault> {
     if !refused && matches!(done, Err(WorldError::OutOfMemory)) {

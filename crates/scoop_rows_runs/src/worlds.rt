@@ -20,7 +20,7 @@ use scoop_message::{ClientId, HandlerId};
 use scoop_object::Table;
 use scoop_row_player::words::{first, last, number};
 use scoop_row_player::{Bad, Heap, Subject};
-use scoop_world::{Placement, World, WorldError, WorldNote};
+use scoop_world::{Placement, World, WorldError, WorldNote, WorldOpenError};
 use std::alloc::Global;
 use std::io::Write;
 
@@ -57,10 +57,6 @@ impl<'a> Worlds<'a> {
         for line in text_of(&self.parties)?.lines() {
             parties.add(line.as_bytes())?;
         }
-        let Parties {
-            placements,
-            clients,
-        } = parties;
         let empty = MemoryKeeper::new(self.heap);
         let keeper = match self.stored {
             None => empty,
@@ -69,7 +65,7 @@ impl<'a> Worlds<'a> {
                 Err(error) => return tells(error, answer),
             },
         };
-        match World::open(self.heap, placements, &clients, keeper) {
+        match parties.open(self.heap, keeper) {
             Ok(world) => {
                 self.world = Some(world);
                 tells("ok", answer)
@@ -166,6 +162,19 @@ impl Parties {
             _ => {}
         }
         Ok(())
+    }
+
+    // Opens their world over a keeper.
+    fn open<'a>(
+        self,
+        heap: Heap<'a>,
+        keeper: MemoryKeeper<Heap<'a>>,
+    ) -> Result<World<Table, Heap<'a>>, WorldOpenError> {
+        let Parties {
+            placements,
+            clients,
+        } = self;
+        World::open(heap, placements, &clients, keeper)
     }
 }
 
