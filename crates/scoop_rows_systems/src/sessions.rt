@@ -116,16 +116,39 @@ impl Sessions {
         }
     }
 
-    /// Runs a client.
-    pub fn runs(&mut self, system: &System, line: &[u8], answer: &mut Vec<u8>) -> Result<(), Bad> {
+    /// The commands about a client of a system.
+    pub fn plays(
+        &mut self,
+        system: &System,
+        name: &[u8],
+        line: &[u8],
+        answer: &mut Vec<u8>,
+    ) -> Result<(), Bad> {
+        let words = after_plan(line)?;
+        match plan_of(system, line) {
+            Ok(plan) => match name {
+                b"client" => self.runs(&plan, words, answer),
+                b"program" => self.runs_program(&plan, words, answer),
+                _ => self.cuts(&plan, answer),
+            },
+            Err(bad) => Err(bad),
+        }
+    }
+
+    // Runs a client with these lines.
+    fn runs(
+        &mut self,
+        plan: &ClientPlan<'_>,
+        line: &[u8],
+        answer: &mut Vec<u8>,
+    ) -> Result<(), Bad> {
         let alloc = *answer.allocator();
-        let (plan, line) = plan_of(system, line)?;
         let text = read_text(alloc, line)?;
         let link = tape_of(alloc, self.heard.as_slice())?;
         self.notes.clear();
         let ended = client_run(
             alloc,
-            &plan,
+            plan,
             &mut self.keeper,
             link,
             Some(Journal::new(alloc, &mut self.written)),
@@ -146,25 +169,24 @@ impl Sessions {
         }
     }
 
-    /// Runs a program as a client.
-    pub fn runs_program(
+    // Runs a program as a client.
+    fn runs_program(
         &mut self,
-        system: &System,
+        plan: &ClientPlan<'_>,
         line: &[u8],
         answer: &mut Vec<u8>,
     ) -> Result<(), Bad> {
         let alloc = *answer.allocator();
-        let (plan, line) = plan_of(system, line)?;
         let link = tape_of(alloc, self.heard.as_slice())?;
         let word = last(line)?;
         if is(word, "let-go") {
-            return self.lets_go(&plan, link, answer);
+            return self.lets_go(plan, link, answer);
         }
         let mut asker = Asker::of(word)?;
         self.notes.clear();
         let end = program_run(
             alloc,
-            &plan,
+            plan,
             &mut self.keeper,
             link,
             Some(Journal::new(alloc, &mut self.written)),
@@ -215,15 +237,14 @@ impl Sessions {
         tells("let go", answer)
     }
 
-    /// Cuts the blocks of a client.
-    pub fn cuts(&mut self, system: &System, line: &[u8], answer: &mut Vec<u8>) -> Result<(), Bad> {
+    // Cuts the blocks of a client.
+    fn cuts(&mut self, plan: &ClientPlan<'_>, answer: &mut Vec<u8>) -> Result<(), Bad> {
         let alloc = *answer.allocator();
-        let (plan, _) = plan_of(system, line)?;
         let link = tape_of(alloc, self.heard.as_slice())?;
         self.notes.clear();
         let ended = client_cut(
             alloc,
-            &plan,
+            plan,
             &mut self.keeper,
             link,
             Some(Journal::new(alloc, &mut self.written)),
@@ -266,11 +287,11 @@ fn datagram_of(alloc: Global, line: &[u8]) -> Result<Datagram, Bad> {
     Ok(Datagram::of(&buffer[..len]))
 }
 
-// The client's plan, and what follows it in the row.
-fn plan_of<'s, 'l>(system: &'s System, line: &'l [u8]) -> Result<(ClientPlan<'s>, &'l [u8]), Bad> {
+// The plan of a client, from its number, its turns and its kind.
+fn plan_of<'s>(system: &'s System, line: &[u8]) -> Result<ClientPlan<'s>, Bad> {
     let (client, line) = first(line)?;
     let (turns, line) = first(line)?;
-    let (kind, line) = first(line)?;
+    let (kind, _) = first(line)?;
     let place = *system.client(ClientId(number(client)?)).ok_or(Bad::Number)?;
     let turns = decimal(turns).ok_or(Bad::Number)?;
     let plan = match kind {
@@ -279,7 +300,15 @@ fn plan_of<'s, 'l>(system: &'s System, line: &'l [u8]) -> Result<(ClientPlan<'s>
         _ => ClientPlan::new(system, place, turns, false),
     };
     match plan {
-        Ok(plan) => Ok((plan, line)),
+        Ok(plan) => Ok(plan),
         Err(_) => Err(Bad::Number),
     }
+}
+
+// What follows these words.
+fn after_plan(line: &[u8]) -> Result<&[u8], Bad> {
+    let (_, line) = first(line)?;
+    let (_, line) = first(line)?;
+    let (_, line) = first(line)?;
+    Ok(line)
 }

@@ -94,7 +94,10 @@ fn serves(line: &[u8], answer: &mut Vec<u8>) -> Result<(), Bad> {
     let [executors, history, turns] = numbers.as_slice() else {
         return Err(Bad::Words);
     };
-    match Serving::new(*executors as u32, *history as usize, *turns) {
+    let Ok(executors) = u32::try_from(*executors) else {
+        return Err(Bad::Number);
+    };
+    match Serving::new(executors, *history as usize, *turns) {
         Ok(_) => tells("ok", answer),
         Err(range) => tells(range, answer),
     }
@@ -116,9 +119,7 @@ fn asks(
         }
         b"line" => reads_line(system, line, answer),
         b"script" => checks(system, line, answer),
-        b"client" => sessions.runs(system, line, answer),
-        b"program" => sessions.runs_program(system, line, answer),
-        _ => sessions.cuts(system, line, answer),
+        _ => sessions.plays(system, name, line, answer),
     }
 }
 
