@@ -1,4 +1,4 @@
-//! The tests of loops and theorems that need a function of their own. The others are rows.
+//! The theorems on what programs did are called, as a proof calls them.
 #![tactic(auto)]
 
 #[cfg(test)]

@@ -1,4 +1,3 @@
 //! The tests.
 
-mod gate;
 mod theorems;
