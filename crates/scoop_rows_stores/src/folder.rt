@@ -19,12 +19,13 @@ use scoop_files::{
     update_marks,
 };
 use scoop_journal::{Journal, JournalFile, Owner, read};
-use scoop_keeper::{FailingKeeper, MemoryKeeper};
+use scoop_keeper::{FailingKeeper, Keeper, MemoryKeeper};
 use scoop_lines::{decimal, is, two_words};
 use scoop_message::{ClientId, HandlerId};
 use scoop_owner::Newest;
 use scoop_row_player::words::{block, first, last, number};
 use scoop_row_player::{Bad, Subject};
+use std::alloc::Global;
 use std::time::{Duration, Instant};
 use std::{fs, thread};
 
@@ -76,20 +77,6 @@ impl<'a> Folder<'a> {
         }
     }
 
-    fn opens(
-        &mut self,
-        opened: Result<FiledStore, FileError>,
-        answer: &mut Vec<u8>,
-    ) -> Result<(), Bad> {
-        match opened {
-            Ok(store) => {
-                self.store = Some(NamedKeeper::new(self.rt, store, self.name));
-                says("ok", answer)
-            }
-            Err(error) => says(error, answer),
-        }
-    }
-
     fn begins(&mut self, line: &[u8], answer: &mut Vec<u8>) -> Result<(), Bad> {
         let calls = decimal(last(line)?).ok_or(Bad::Number)?;
         let keeper = FailingKeeper::new(MemoryKeeper::new(self.rt.alloc()), calls);
@@ -98,29 +85,18 @@ impl<'a> Folder<'a> {
     }
 
     fn closes(&mut self, answer: &mut Vec<u8>) -> Result<(), Bad> {
-        if let Some(keeper) = self.keeper.take() {
-            let _memory = keeper.into_inner();
+        if take_inner(&mut self.keeper).is_some() {
             return says("ok", answer);
         }
-        let Some(store) = self.store.take() else {
-            return Err(Bad::Command);
-        };
-        match close_named(store.into_inner(), self.name) {
-            Ok(()) => says("ok", answer),
-            Err(FileError::Lost) => says("lost", answer),
-            Err(error) => says(error, answer),
-        }
+        close_store(take_inner(&mut self.store), self.name, answer)
     }
 
     fn gives(&mut self, command: &[u8], answer: &mut Vec<u8>) -> Result<(), Bad> {
         let (name, line) = first(command)?;
-        if let Some(keeper) = &mut self.keeper {
-            return keeps(self.rt.alloc(), keeper, name, line, answer);
+        if self.keeper.is_some() {
+            return gives_kept(&mut self.keeper, name, line, answer);
         }
-        match &mut self.store {
-            Some(store) => keeps(self.rt.alloc(), store, name, line, answer),
-            None => Err(Bad::Command),
-        }
+        gives_kept(&mut self.store, name, line, answer)
     }
 
     fn repeats(&mut self, line: &[u8], answer: &mut Vec<u8>) -> Result<(), Bad> {
@@ -173,10 +149,13 @@ impl Subject for Folder<'_> {
         let (name, line) = first(command)?;
         match name {
             b"create" => {
-                let last = number(last(line)?)?;
-                self.opens(create_after(self.rt, STORE, CLIENT, last), answer)
+                let made = create_after(self.rt, STORE, CLIENT, number(last(line)?)?);
+                keeps_opened(self.rt, self.name, made, &mut self.store, answer)
             }
-            b"adopt" => self.opens(adopt_for(self.rt, STORE, CLIENT), answer),
+            b"adopt" => {
+                let taken = adopt_for(self.rt, STORE, CLIENT);
+                keeps_opened(self.rt, self.name, taken, &mut self.store, answer)
+            }
             b"keep" => self.begins(line, answer),
             b"close" => self.closes(answer),
             b"next" | b"put" | b"load" | b"commit" => self.gives(command, answer),
@@ -196,6 +175,63 @@ impl Subject for Folder<'_> {
     // Files are read by commands.
     fn shows(&self, _text: &mut Vec<u8>) -> Result<(), Bad> {
         Ok(())
+    }
+}
+
+// Gives a command to a keeper that has a name. Over any keeper, since at the files' type a match is dear to prove.
+fn gives_kept<K: Keeper<Global>>(
+    kept: &mut Option<NamedKeeper<'_, K>>,
+    name: &[u8],
+    line: &[u8],
+    answer: &mut Vec<u8>,
+) -> Result<(), Bad> {
+    match kept {
+        Some(keeper) => keeps(*answer.allocator(), keeper, name, line, answer),
+        None => Err(Bad::Command),
+    }
+}
+
+// Takes a keeper that has a name.
+fn take_inner<K: Drop>(kept: &mut Option<NamedKeeper<'_, K>>) -> Option<K> {
+    match kept.take() {
+        Some(named) => Some(named.into_inner()),
+        None => None,
+    }
+}
+
+fn close_store(
+    store: Option<FiledStore>,
+    name: &StoreName,
+    answer: &mut Vec<u8>,
+) -> Result<(), Bad> {
+    match store {
+        Some(store) => tells_closed(close_named(store, name), answer),
+        None => Err(Bad::Command),
+    }
+}
+
+fn tells_closed(closed: Result<(), FileError>, answer: &mut Vec<u8>) -> Result<(), Bad> {
+    match closed {
+        Ok(()) => says("ok", answer),
+        Err(FileError::Lost) => says("lost", answer),
+        Err(error) => says(error, answer),
+    }
+}
+
+// Keeps a store that was opened, and looks after its name.
+fn keeps_opened<'a, K: Drop>(
+    rt: &'a HostRuntime,
+    name: &'a StoreName,
+    opened: Result<K, FileError>,
+    kept: &mut Option<NamedKeeper<'a, K>>,
+    answer: &mut Vec<u8>,
+) -> Result<(), Bad> {
+    match opened {
+        Ok(store) => {
+            *kept = Some(NamedKeeper::new(rt, store, name));
+            says("ok", answer)
+        }
+        Err(error) => says(error, answer),
     }
 }
 
