@@ -1,21 +1,39 @@
 #!/usr/bin/env python3
-"""Tries the mutations that the gate leaves out: python3 bench/mutations.py [CRATE ..]
+"""Tries mutations: python3 bench/mutations.py [--rows] [CRATE ..]
 
-They are in bench/mutations/CRATE. A gate checks a crate with mutations twice, so it tries those of eight cheap crates
-alone. The script puts the others into crates/CRATE/must-fail, calls `rt must-fail CRATE`, and takes them out again. Without
-names it tries those of all these crates, one after another. It ends with 1 if a mutation isn't refused.
+Without --rows, the prover has to refuse those that the gate leaves out, in bench/mutations/CRATE. A gate checks a crate with
+mutations twice, so it tries those of a few cheap crates alone. The script puts the others into crates/CRATE/must-fail, calls
+`rt must-fail CRATE`, and takes them out again. It ends with 1 if a mutation isn't refused.
+
+With --rows, it shows which of them rows notice, and which of the gate's own, in must-fail. It compiles the program of rows
+without proof, with all mutations in them (bench/mutants.py), and plays all rows with each. It prints a line for each mutation:
+the first row that it makes wrong, or that no row notices it, or that it can't be chosen. It ends with 1 if rows are wrong
+without a mutation.
+
+Without names it takes all crates that have mutations.
 """
 import argparse
+import importlib.machinery
+import importlib.util
+import os
 import pathlib
 import shutil
 import subprocess
 import sys
+import tempfile
+import threading
+from concurrent.futures import ThreadPoolExecutor
+
+import mutants
 
 TOP = pathlib.Path(__file__).resolve().parent.parent
 KEPT = TOP / 'bench' / 'mutations'
+PROGRAM = 'scoop_rows'
+# A run that takes longer hangs.
+SECONDS = 120
 
 
-def tried(crate):
+def refused(crate):
     """Whether the prover refuses each mutation of the crate."""
     to = TOP / 'crates' / crate / 'must-fail'
     if to.exists():
@@ -27,15 +45,109 @@ def tried(crate):
         shutil.rmtree(to)
 
 
+def edits():
+    """The mutations of all crates: crate and file, in the order of their numbers, which begin with 1."""
+    kept = [(it.parent.name, it) for it in KEPT.glob('*/*.edit')]
+    own = [(it.parent.parent.name, it) for it in TOP.glob('crates/*/must-fail/*.edit')]
+    return sorted(kept + own)
+
+
+def with_choices(tree, crates):
+    """Puts the mutations of the crates into a tree of sources, and returns by their numbers why some can't be chosen."""
+    sources, unfit = {}, {}
+    for number, (crate, edit) in enumerate(edits(), 1):
+        changes = mutants.changes_in(edit.read_text())
+        names = {name for name, _, _ in changes}
+        if crate in crates and len(names) == 1:
+            sources.setdefault((crate, names.pop()), []).append((number, changes))
+        elif crate in crates:
+            unfit[number] = 'it changes more than one file'
+    for (crate, name), mutations in sources.items():
+        source = tree / 'crates' / crate / name
+        if source.exists():
+            text, left = mutants.with_choices(source.read_text(), mutations)
+            source.write_text(text)
+            unfit |= left
+    for crate in {it for it, _ in sources}:
+        for root in (tree / 'crates' / crate / 'src').glob('lib.rt'):
+            root.write_text(root.read_text() + mutants.ASKED)
+    return unfit
+
+
+def compiled(crates, folder):
+    """Compiles the program of rows with the mutations of the crates as choices. Returns it, and why some can't be chosen."""
+    loader = importlib.machinery.SourceFileLoader('tools_compile', str(TOP / 'tools' / 'compile'))
+    tool = importlib.util.module_from_spec(importlib.util.spec_from_loader(loader.name, loader))
+    loader.exec_module(tool)
+    copy, drop, unfit = tool.copy_sources, tool.without_checks, {}
+
+    def copy_sources(used, tree):
+        newest = copy(used, tree)
+        unfit.update(with_choices(pathlib.Path(tree), {it.name for it in used} & crates))
+        return newest
+
+    tool.copy_sources = copy_sources
+    tool.without_checks = lambda text: mutants.with_answers(drop(text))
+    out = folder / PROGRAM
+    tool.compile_to(str(out), PROGRAM, tool.kit())
+    return out, unfit
+
+
+def played(out, number):
+    """What is wrong with the rows under a mutation: the first line of their report, or None."""
+    at = TOP / 'crates' / PROGRAM
+    with tempfile.TemporaryDirectory() as room:
+        shutil.copytree(at / 'data', room, dirs_exist_ok=True)
+        words = (at / 'args').read_text().split()
+        run = subprocess.Popen([out, *words], cwd=room, env={**os.environ, 'MUTANT': str(number)}, stdin=subprocess.DEVNULL,
+                               stdout=subprocess.PIPE, stderr=subprocess.PIPE, text=True, errors='replace')
+        timer = threading.Timer(SECONDS, run.kill)
+        timer.start()
+        # (a wrong row ends it: the rows after it take longer)
+        wrong = run.stderr.readline().strip()
+        if wrong:
+            run.kill()
+        told = run.stdout.read()
+        status = run.wait()
+        timer.cancel()
+    if wrong or status == 0 and told == (at / 'stdout').read_text():
+        return wrong[:150] or None
+    return f'status {status}'
+
+
+def noticed(crates):
+    """Prints what rows notice. Returns whether all rows are right without a mutation."""
+    with tempfile.TemporaryDirectory() as folder, ThreadPoolExecutor(os.cpu_count()) as pool:
+        out, unfit = compiled(crates, pathlib.Path(folder))
+        wrong = played(out, 0)
+        if wrong:
+            print(f'without a mutation: {wrong}')
+            return False
+        tried = [(number, crate, it) for number, (crate, it) in enumerate(edits(), 1) if crate in crates]
+        found = pool.map(lambda it: played(out, it[0]), tried)
+        counts = {}
+        for (number, crate, edit), wrong in zip(tried, found):
+            said = f"can't be chosen: {unfit[number]}" if number in unfit else wrong or 'no row notices it'
+            counts.setdefault(crate, []).append(bool(wrong))
+            print(f'{crate} {edit.stem}: {said}', flush=True)
+        for crate, them in counts.items():
+            print(f'{crate}: {sum(them)} of {len(them)} are noticed')
+    return True
+
+
 def main():
     flags = argparse.ArgumentParser(description=__doc__, formatter_class=argparse.RawDescriptionHelpFormatter)
-    every = sorted(it.name for it in KEPT.iterdir())
-    flags.add_argument('crates', nargs='*', metavar='CRATE', help=f'of {", ".join(every)}')
-    crates = flags.parse_args().crates or every
-    unknown = [it for it in crates if it not in every]
+    flags.add_argument('--rows', action='store_true', help='which of them rows notice')
+    flags.add_argument('crates', nargs='*', metavar='CRATE')
+    given = flags.parse_args()
+    every = {crate for crate, _ in edits()} if given.rows else {it.name for it in KEPT.iterdir()}
+    unknown = sorted(set(given.crates) - every)
     if unknown:
-        flags.error(f'no mutations are kept for {", ".join(unknown)}')
-    sys.exit(0 if all([tried(it) for it in crates]) else 1)
+        flags.error(f'no mutations are kept for {", ".join(unknown)}; there are some for {", ".join(sorted(every))}')
+    crates = set(given.crates) or every
+    if given.rows:
+        sys.exit(0 if noticed(crates) else 1)
+    sys.exit(0 if all([refused(it) for it in sorted(crates)]) else 1)
 
 
 if __name__ == '__main__':

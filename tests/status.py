@@ -164,6 +164,16 @@ def four_hundred_connections_at_once_all_end():
         same("its health after that", gets(system.statuses[1], "/healthz")[0], 200)
 
 
+@test
+def silent_connections_take_all_places_and_then_leave_them():
+    with Watched() as system:
+        system.serve()
+        silent = open_many(system.statuses[1], 40)
+        same("a request's status while they are open", gets(system.statuses[1], "/healthz")[0], 503)
+        same("connections that ended", len(have_ended(silent)), 40)
+        same("a request's status after that", gets(system.statuses[1], "/healthz")[0], 200)
+
+
 # ---- the log
 
 def is_logged(node, words):

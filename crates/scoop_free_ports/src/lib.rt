@@ -28,6 +28,3 @@ pub fn free_ports<R: Net, const N: usize>(rt: &R) -> io::Result<[u16; N]> {
     fill(rt, &mut ports)?;
     Ok(ports)
 }
-
-#[cfg(test)]
-mod tests;

@@ -41,9 +41,14 @@ impl<B: Allocator> Refusing<B> {
         self.left.store(number, Ordering::SeqCst);
     }
 
+    /// The number of growths up to the refused one, which counts too; 0 once it was refused.
+    pub fn left(&self) -> u64 {
+        self.left.load(Ordering::SeqCst)
+    }
+
     /// Whether it has refused, or refuses none.
     pub fn has_refused(&self) -> bool {
-        self.left.load(Ordering::SeqCst) == 0
+        self.left() == 0
     }
 }
 
@@ -73,6 +78,3 @@ unsafe impl<B: Allocator> Allocator for Refusing<B> {
         self.inner.deallocate(ptr, size, align);
     }
 }
-
-#[cfg(test)]
-mod tests;

@@ -1,6 +1,6 @@
 //! The number of reads of an input.
 
-use crate::tests::are_equal;
+use super::are_equal;
 use scoop_lines::{LineBytes, Lines, LinesError, MAX_READS, SourceError, SourceFault};
 use std::io;
 use std::io::{ErrorKind, Read};

@@ -1,0 +1,58 @@
+//! A program's run over files of rows.
+
+use crate::area::Areas;
+use crate::playing::play;
+use crate::sheet::Sheet;
+use std::process::ExitCode;
+use std::{env, fs, io};
+
+/// Plays the files that the program's arguments name. Prints for each how many rows and refused growths it has, and on standard
+/// error each wrong row, as `FILE:LINE: COMMAND: ..`. The status is 1 after a wrong row, and 2 if a file can't be played.
+pub fn play_files<A: Areas>(rt: &HostRuntime, areas: &A) -> ExitCode {
+    match play_named(rt, areas) {
+        Ok(true) => ExitCode::SUCCESS,
+        Ok(false) => ExitCode::from(1),
+        Err(_) => ExitCode::from(2),
+    }
+}
+
+// Returns whether all rows are right.
+fn play_named<A: Areas>(rt: &HostRuntime, areas: &A) -> io::Result<bool> {
+    let mut right = true;
+    let mut is_own_name = true;
+    for name in env::args(rt)? {
+        if !is_own_name {
+            right &= play_file(rt, areas, &name)?;
+        }
+        is_own_name = false;
+    }
+    Ok(right)
+}
+
+fn play_file<A: Areas>(rt: &HostRuntime, areas: &A, name: &str) -> io::Result<bool> {
+    let text = match fs::read_to_string(rt, name) {
+        Ok(text) => text,
+        Err(error) => {
+            eprintln!(rt; "{name}: {error}")?;
+            return Err(error);
+        }
+    };
+    let mut sheet = Sheet::new(rt.alloc());
+    let played = play(rt.alloc(), areas, &text, &mut sheet);
+    println!(rt;
+        "{name}: {} rows, {} refused growths",
+        sheet.rows, sheet.refused
+    )?;
+    for line in sheet.wrong().split(|byte| *byte == b'\n') {
+        if !line.is_empty() {
+            eprintln!(rt;
+                "{name}:{}",
+                str::from_utf8(line).unwrap_or("a row that is no text")
+            )?;
+        }
+    }
+    if let Err(bad) = played {
+        eprintln!(rt; "{name}: {}", bad.text())?;
+    }
+    Ok(played.is_ok() && sheet.wrong().is_empty())
+}

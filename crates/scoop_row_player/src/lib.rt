@@ -1,0 +1,37 @@
+//! A player of rows: commands with their answers, in place of test functions.
+//!
+//! A row is data, so a new one is tried without a new proof. A file of rows has these lines:
+//!
+//! ```text
+//! rows queues                     the file's area, on its first line
+//! # remark
+//! case an empty queue is waited for      a new subject
+//! open 7.1.1                      a command whose answer is `ok`
+//! front > none                    a command and its answer
+//! heads                           a command whose answer has several lines
+//! > 7.1.1 open
+//! > 7.1.2 ended
+//! ```
+//!
+//! Each case is played as it stands, and then once for each growth of its [`Heap`], with that growth refused. The command
+//! that meets the refusal has to answer `out of memory` and change nothing that can be read, and to answer right if it is
+//! given again.
+//!
+//! A library of areas has a type that is [`Areas`] and gives each case a new [`Subject`], by [`play_rows`]. A program calls
+//! [`play_files`] with the areas of all its libraries. [`words`] reads the words of blocks and entries.
+#![tactic(auto)]
+
+mod area;
+mod bad;
+mod case;
+mod files;
+mod playing;
+mod sheet;
+pub mod words;
+
+pub use area::{Areas, Heap, Subject};
+pub use bad::Bad;
+pub use case::Case;
+pub use files::play_files;
+pub use playing::{play, play_rows};
+pub use sheet::Sheet;

@@ -1,0 +1,78 @@
+//! Rows of calls of a keeper.
+
+use crate::scripted::LentEtcd;
+use crate::telling::{tell, tell_done};
+use scoop_etcd_stores::FatefulKeeper;
+use scoop_handler::{HandlerState, Heard, Note, Reason};
+use scoop_journal_keeper::SharedKeeper;
+use scoop_keeper::{Keeper, KeeperError};
+use scoop_lines::decimal;
+use scoop_message::{ClientId, HandlerId, Message, Words};
+use scoop_queue::QueueOfQueues;
+use scoop_row_player::Bad;
+use scoop_row_player::words::{first, last, number};
+use std::alloc::Global;
+
+const ONE: HandlerId = HandlerId(1);
+
+// The state of a handler that no client has greeted, with one word: `HANDLER WORD`.
+fn state(alloc: Global, line: &[u8]) -> Result<HandlerState, Bad> {
+    let (handler, line) = first(line)?;
+    let handler = HandlerId(number(handler)?);
+    let Ok(words) = Words::of(&[decimal(last(line)?).ok_or(Bad::Number)?]) else {
+        return Err(Bad::Words);
+    };
+    let queues = QueueOfQueues::new(alloc);
+    match HandlerState::of(alloc, handler, words, None, &[], queues) {
+        Ok(state) => Ok(state),
+        Err(_) => Err(Bad::Memory),
+    }
+}
+
+/// Adds the word of a state.
+pub fn tell_word(
+    loaded: Result<Option<HandlerState>, KeeperError>,
+    answer: &mut Vec<u8>,
+) -> Result<(), Bad> {
+    match loaded {
+        Ok(Some(state)) => tell(state.words().get(0).unwrap_or(0), answer),
+        Ok(None) => tell("none", answer),
+        Err(error) => tell(error, answer),
+    }
+}
+
+/// Makes a call of the keeper.
+pub fn keeps(
+    keeper: &mut FatefulKeeper<'_, LentEtcd<'_>>,
+    name: &[u8],
+    line: &[u8],
+    answer: &mut Vec<u8>,
+) -> Result<(), Bad> {
+    let done = match name {
+        b"load" => {
+            let handler = HandlerId(number(last(line)?)?);
+            return tell_word(keeper.load_handler(handler), answer);
+        }
+        b"next" => {
+            return match keeper.next_incarnation(ClientId(number(last(line)?)?)) {
+                Ok(inc) => tell(inc, answer),
+                Err(error) => tell(error, answer),
+            };
+        }
+        b"put" => keeper.put_handler(&state(*answer.allocator(), line)?),
+        b"hear" => {
+            let note = match last(line)? {
+                b"greeted" => Note::Greeted,
+                b"known" => Note::Known,
+                _ => Note::Dropped(Reason::Gap),
+            };
+            let message = Message::Hello(ONE, ClientId(7), 1);
+            keeper.note_heard(&message, &Heard { reply: None, note })
+        }
+        b"finish" => keeper.note_finished(ONE),
+        b"commit" => keeper.commit(),
+        b"confirm" => keeper.confirm(),
+        _ => return Err(Bad::Command),
+    };
+    tell_done(done, answer)
+}

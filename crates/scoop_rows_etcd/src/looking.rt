@@ -1,0 +1,102 @@
+//! Rows of looks into an etcd, without a store.
+
+use crate::keeping::tell_word;
+use crate::scripted::LentEtcd;
+use crate::telling::{tell, tell_bytes, tell_whether};
+use crate::txns::{after_space, read_bytes};
+use scoop_etcd::{EtcdError, Owner};
+use scoop_etcd_stores::{
+    clients_in, handlers_in, has_state, owners_in, put_text, read_text, state_under,
+};
+use scoop_message::{ClientId, HandlerId};
+use scoop_row_player::Bad;
+use scoop_row_player::words::{first, last, number};
+use std::fmt::Debug;
+use std::io::Write;
+
+/// The owner at the beginning of a line, and what follows it.
+pub fn read_owner(line: &[u8]) -> Result<(Owner, &[u8]), Bad> {
+    let (kind, line) = first(line)?;
+    let (word, rest) = first(line)?;
+    match kind {
+        b"node" => Ok((Owner::Node(number(word)?), rest)),
+        b"client" => Ok((Owner::Client(ClientId(number(word)?)), rest)),
+        _ => Err(Bad::Words),
+    }
+}
+
+fn tell_listed<T: Debug + Drop>(
+    found: Result<Vec<T>, EtcdError>,
+    answer: &mut Vec<u8>,
+) -> Result<(), Bad> {
+    match found {
+        Ok(listed) => {
+            write!(answer, "{listed:?}")?;
+            Ok(())
+        }
+        Err(error) => tell(error, answer),
+    }
+}
+
+fn tell_has(has: Result<bool, EtcdError>, answer: &mut Vec<u8>) -> Result<(), Bad> {
+    match has {
+        Ok(has) => tell_whether(has, answer),
+        Err(error) => tell(error, answer),
+    }
+}
+
+fn tell_text(
+    etcd: &mut LentEtcd<'_>,
+    of: &str,
+    line: &[u8],
+    answer: &mut Vec<u8>,
+) -> Result<(), Bad> {
+    let (owner, _) = read_owner(line)?;
+    match read_text(*answer.allocator(), etcd, of, owner) {
+        Ok(Some(text)) => tell_bytes(text.as_bytes(), answer),
+        Ok(None) => tell("none", answer),
+        Err(error) => tell(error, answer),
+    }
+}
+
+fn writes(etcd: &mut LentEtcd<'_>, of: &str, line: &[u8], answer: &mut Vec<u8>) -> Result<(), Bad> {
+    let alloc = *answer.allocator();
+    let (owner, rest) = read_owner(line)?;
+    let Ok(text) = String::from_utf8(read_bytes(alloc, after_space(rest))?) else {
+        return Err(Bad::Words);
+    };
+    match put_text(alloc, etcd, of, owner, &text) {
+        Ok(true) => tell("ok", answer),
+        Ok(false) => tell("stands", answer),
+        Err(error) => tell(error, answer),
+    }
+}
+
+/// Looks into the etcd under a name.
+pub fn looks(
+    etcd: &mut LentEtcd<'_>,
+    name: &[u8],
+    line: &[u8],
+    answer: &mut Vec<u8>,
+) -> Result<(), Bad> {
+    let alloc = *answer.allocator();
+    let (word, line) = first(line)?;
+    let Ok(of) = str::from_utf8(word) else {
+        return Err(Bad::Words);
+    };
+    match name {
+        b"handlers" => tell_listed(handlers_in(alloc, etcd, of), answer),
+        b"clients" => tell_listed(clients_in(alloc, etcd, of), answer),
+        b"owners" => tell_listed(owners_in(alloc, etcd, of), answer),
+        b"has" => tell_has(
+            has_state(alloc, etcd, of, HandlerId(number(last(line)?)?)),
+            answer,
+        ),
+        b"state" => tell_word(
+            state_under(alloc, etcd, of, HandlerId(number(last(line)?)?)),
+            answer,
+        ),
+        b"text" => tell_text(etcd, of, line, answer),
+        _ => writes(etcd, of, line, answer),
+    }
+}

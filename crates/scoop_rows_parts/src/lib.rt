@@ -1,0 +1,43 @@
+//! Rows about the parts of nodes and clients: books, drivers, orders of moves.
+//!
+//! [`Parts`] has the areas `books`, `drivers` and `weaves`. Each area's module says its commands.
+#![tactic(auto)]
+
+mod books;
+mod diary;
+mod drivers;
+pub mod handlers;
+pub mod printing;
+mod waiting;
+mod weaves;
+mod wire;
+
+use books::Books;
+use drivers::Drivers;
+use scoop_refusing::Refusing;
+use scoop_row_player::{Areas, Bad, Case, Heap, Sheet, play_rows};
+use weaves::Weaves;
+
+/// The areas of this library.
+#[derive(Drop)]
+pub struct Parts;
+
+impl Areas for Parts {
+    fn play(
+        &self,
+        area: &str,
+        case: Case<'_>,
+        heap: Heap<'_>,
+        sheet: &mut Sheet,
+    ) -> Result<bool, Bad> {
+        let alloc = sheet.alloc();
+        let roomy = Refusing::new(alloc, 0);
+        match area {
+            "books" => play_rows(case, heap, &mut Books::new(alloc, heap, &roomy)?, sheet)?,
+            "drivers" => play_rows(case, heap, &mut Drivers::new(alloc, heap, &roomy)?, sheet)?,
+            "weaves" => play_rows(case, heap, &mut Weaves::new(alloc, heap), sheet)?,
+            _ => return Ok(false),
+        }
+        Ok(true)
+    }
+}

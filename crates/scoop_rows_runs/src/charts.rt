@@ -1,0 +1,115 @@
+//! Rows about charts: the labels and the length of a chart, and the example that draws one.
+//!
+//! - `label N TEXT` adds N silent ticks of client 7 with this label to a chart, and `begun` the first entry of block 7.1.1.
+//! - `open FROM TO` opens the example of a transfer with these amounts, and `pay N` answers the second account's balance.
+//! - `draws TEXT` draws the transfer if there is one, or else the chart, and answers whether the picture has TEXT. `says TEXT`
+//!   answers whether it has TEXT after what was found last.
+
+use crate::telling::{finds, tells, told};
+use scoop_chart::{Chart, ChartError};
+use scoop_lines::two_words;
+use scoop_message::{Answer, Block, ClientId, HandlerId};
+use scoop_row_player::words::{first, last, number};
+use scoop_row_player::{Bad, Subject};
+use scoop_world::{Event, WorldNote};
+use std::alloc::Global;
+use transfer::Transfer;
+
+const SEVEN: ClientId = ClientId(7);
+
+const ONE: HandlerId = HandlerId(1);
+
+/// A chart, a transfer, and the rest of what was drawn.
+#[derive(Drop)]
+pub struct Charts {
+    chart: Chart,
+    transfer: Option<Transfer>,
+    drawn: Vec<u8>,
+}
+
+impl Charts {
+    pub fn new(alloc: Global) -> Result<Charts, Bad> {
+        match Chart::new(alloc, &[SEVEN], &[(1, ONE)]) {
+            Ok(chart) => Ok(Charts {
+                chart,
+                transfer: None,
+                drawn: Vec::new(alloc),
+            }),
+            Err(_) => Err(Bad::Memory),
+        }
+    }
+
+    fn opens(&mut self, line: &[u8], answer: &mut Vec<u8>) -> Result<(), Bad> {
+        let (from, to) = two_words(line).ok_or(Bad::Words)?;
+        let (from, to) = (u64::from(number(from)?), u64::from(number(to)?));
+        match Transfer::open(*answer.allocator(), from, to) {
+            Ok(transfer) => {
+                self.transfer = Some(transfer);
+                tells("ok", answer)
+            }
+            Err(error) => tells(error, answer),
+        }
+    }
+
+    fn pays(&mut self, paid: u32, answer: &mut Vec<u8>) -> Result<(), Bad> {
+        let transfer = self.transfer.as_mut().ok_or(Bad::Command)?;
+        match transfer.pay(u64::from(paid)) {
+            Ok(Some(Answer::Value(balance))) => tells(balance, answer),
+            Ok(_) => tells("refused", answer),
+            Err(error) => tells(error, answer),
+        }
+    }
+
+    fn draws(&mut self, text: &[u8], answer: &mut Vec<u8>) -> Result<(), Bad> {
+        self.drawn.clear();
+        match &self.transfer {
+            Some(transfer) => transfer.draw(&mut self.drawn)?,
+            None => self.chart.draw(&mut self.drawn)?,
+        }
+        finds(&mut self.drawn, text, answer)
+    }
+}
+
+impl Subject for Charts {
+    fn does(&mut self, command: &[u8], answer: &mut Vec<u8>) -> Result<(), Bad> {
+        let (name, line) = first(command)?;
+        match name {
+            b"label" => {
+                let (count, label) = first(line)?;
+                let label = label.strip_prefix(b" ").unwrap_or(label);
+                told(add(&mut self.chart, number(count)?, label), answer)
+            }
+            b"begun" => told(begin(&mut self.chart), answer),
+            b"open" => self.opens(line, answer),
+            b"pay" => self.pays(number(last(line)?)?, answer),
+            b"draws" => self.draws(line, answer),
+            b"says" => finds(&mut self.drawn, line, answer),
+            _ => Err(Bad::Command),
+        }
+    }
+
+    fn shows(&self, _text: &mut Vec<u8>) -> Result<(), Bad> {
+        Ok(())
+    }
+}
+
+// Adds that many silent ticks with this label.
+fn add(chart: &mut Chart, count: u32, label: &[u8]) -> Result<(), ChartError> {
+    for _ in 0..count {
+        chart.note(&Event::Tick(SEVEN, ONE), &Ok(WorldNote::Silent), label)?;
+    }
+    Ok(())
+}
+
+fn begin(chart: &mut Chart) -> Result<(), ChartError> {
+    let block = Block {
+        client: SEVEN,
+        inc: 1,
+        num: 1,
+    };
+    chart.note(
+        &Event::Begin(ONE),
+        &Ok(WorldNote::Began(block, 1)),
+        b"began 7.1.1 1",
+    )
+}

@@ -1,0 +1,120 @@
+//! Rows about client 7 alone.
+//!
+//! - `begin INC HANDLER..` begins it, `begin_at LAST HANDLER..` with LAST as its last block's number, and
+//!   `begin_batched BATCH HANDLER..` with BATCH entries in a Log.
+//! - `reserve`, `call`, `query`, `end` and `giveup` are commands as in the scripts of `scoop world`.
+//! - `due HANDLER` answers the message that is due, `hear MESSAGE` the client's note, and `phase` its phase.
+
+ghost use Rattle.std.specs.Prelude.{◌≤◌};
+ghost use Rattle.scoop_message.specs.declared.limits.TheConstants.{MAX_ENTRIES};
+
+use crate::reading::{event_of, message_of};
+use crate::telling::{tells, tells_message, tells_note, told};
+use scoop_client::{BeginError, Client};
+use scoop_lines::next_word;
+use scoop_message::limits::MAX_ENTRIES;
+use scoop_message::{ClientId, HandlerId};
+use scoop_row_player::words::{first, last, number};
+use scoop_row_player::{Bad, Heap, Subject};
+use scoop_world::{Event, WorldNote};
+use std::alloc::Global;
+use std::io::Write;
+
+const SEVEN: ClientId = ClientId(7);
+
+/// The highest number of a handler whose due message is shown.
+const HANDLERS: u32 = 10;
+
+/// A client.
+#[derive(Drop)]
+pub struct Clients<'a> {
+    alloc: Global,
+    heap: Heap<'a>,
+    client: Option<Client<Heap<'a>>>,
+}
+
+impl<'a> Clients<'a> {
+    pub fn new(alloc: Global, heap: Heap<'a>) -> Clients<'a> {
+        Clients {
+            alloc,
+            heap,
+            client: None,
+        }
+    }
+
+    // Begins the client with a number that the command is about, and handlers.
+    fn begins(&mut self, name: &[u8], line: &[u8], answer: &mut Vec<u8>) -> Result<(), Bad> {
+        let (word, mut line) = first(line)?;
+        let mut handlers = Vec::new(self.alloc);
+        for _ in 0..line.len() {
+            let Some((word, rest)) = next_word(line) else {
+                break;
+            };
+            handlers.push(HandlerId(number(word)?))?;
+            line = rest;
+        }
+        match begun(self.heap, name, number(word)?, &handlers)? {
+            Ok(client) => {
+                self.client = Some(client);
+                tells("ok", answer)
+            }
+            Err(error) => tells(error, answer),
+        }
+    }
+}
+
+impl Subject for Clients<'_> {
+    fn does(&mut self, command: &[u8], answer: &mut Vec<u8>) -> Result<(), Bad> {
+        let (name, line) = first(command)?;
+        if name.starts_with(b"begin") {
+            return self.begins(name, line, answer);
+        }
+        let client = self.client.as_mut().ok_or(Bad::Command)?;
+        match name {
+            b"due" => tells_message(&client.due(HandlerId(number(last(line)?)?)), answer),
+            b"hear" => {
+                let note = client.hear(&message_of(self.alloc, line)?);
+                tells_note(&WorldNote::Client(note), None, answer)
+            }
+            b"phase" => {
+                write!(answer, "{:?}", client.phase())?;
+                Ok(())
+            }
+            _ => match event_of(command) {
+                Ok(Event::Do(_, command)) => told(client.carry_out(&command), answer),
+                Ok(_) => Err(Bad::Command),
+                Err(bad) => Err(bad),
+            },
+        }
+    }
+
+    fn shows(&self, text: &mut Vec<u8>) -> Result<(), Bad> {
+        let Some(client) = &self.client else {
+            return Ok(());
+        };
+        let (phase, block, batch) = (client.phase(), client.block(), client.batch());
+        let count = client.handlers().len();
+        write!(text, "{phase:?} {block:?} {batch} {count}")?;
+        for number in 1..=HANDLERS {
+            tells_message(&client.due(HandlerId(number)), text)?;
+        }
+        Ok(())
+    }
+}
+
+fn begun<'a>(
+    heap: Heap<'a>,
+    name: &[u8],
+    number: u32,
+    handlers: &[HandlerId],
+) -> Result<Result<Client<Heap<'a>>, BeginError>, Bad> {
+    if number == 0 {
+        return Err(Bad::Number);
+    }
+    match name {
+        b"begin" => Ok(Client::begin(heap, SEVEN, number, handlers)),
+        b"begin_at" => Ok(Client::begin_at(heap, SEVEN, 1, handlers, number)),
+        _ if number > MAX_ENTRIES as u32 => Err(Bad::Number),
+        _ => Ok(Client::begin_batched(heap, SEVEN, 1, handlers, number as u8)),
+    }
+}

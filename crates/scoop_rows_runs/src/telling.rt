@@ -1,0 +1,97 @@
+//! Words of answers.
+
+use crate::reading::text_of;
+use scoop_demo::{RunError, print_message, print_note};
+use scoop_frame::Version;
+use scoop_message::Message;
+use scoop_row_player::Bad;
+use scoop_world::WorldNote;
+use std::fmt::Display;
+use std::io::Write;
+
+/// Adds a value as it is printed.
+pub fn tells<T: Display + Drop>(value: T, answer: &mut Vec<u8>) -> Result<(), Bad> {
+    write!(answer, "{value}")?;
+    Ok(())
+}
+
+/// Adds `ok`, or the error as it is printed.
+pub fn told<E: Display + Drop>(done: Result<(), E>, answer: &mut Vec<u8>) -> Result<(), Bad> {
+    match done {
+        Ok(()) => tells("ok", answer),
+        Err(error) => tells(error, answer),
+    }
+}
+
+/// Adds what an event did, in the words of `scoop world`.
+pub fn tells_note(
+    note: &WorldNote,
+    sent: Option<&Message>,
+    answer: &mut Vec<u8>,
+) -> Result<(), Bad> {
+    print_note(note, sent, answer)?;
+    answer.pop();
+    Ok(())
+}
+
+/// Adds a message in words, or `none`.
+pub fn tells_message(message: &Option<Message>, answer: &mut Vec<u8>) -> Result<(), Bad> {
+    match message {
+        Some(message) => {
+            print_message(Version::One, message, answer)?;
+            Ok(())
+        }
+        None => tells("none", answer),
+    }
+}
+
+/// Adds a line with the error of a run, if it has one.
+pub fn add_error(ended: Result<(), RunError>, text: &mut Vec<u8>) -> Result<(), Bad> {
+    if let Err(error) = ended {
+        writeln!(text, "{error}")?;
+    }
+    Ok(())
+}
+
+/// Adds the lines of a text with this between them: `ok` if there are none.
+pub fn tells_lines(text: &[u8], between: &str, answer: &mut Vec<u8>) -> Result<(), Bad> {
+    if text.is_empty() {
+        return tells("ok", answer);
+    }
+    for (place, line) in text_of(text)?.lines().enumerate() {
+        if place > 0 {
+            tells(between, answer)?;
+        }
+        tells(line, answer)?;
+    }
+    Ok(())
+}
+
+/// Adds a line.
+pub fn add_line(line: &[u8], text: &mut Vec<u8>) -> Result<(), Bad> {
+    text.extend_from_slice(line)?;
+    text.push(b'\n')?;
+    Ok(())
+}
+
+/// The place in a text behind the first of these words of a row.
+pub fn behind(text: &[u8], words: &[u8]) -> Option<usize> {
+    let words = words.strip_prefix(b" ").unwrap_or(words);
+    for place in 0..text.len() {
+        if text.get(place..).unwrap_or(&[]).starts_with(words) {
+            return Some(place.saturating_add(words.len()));
+        }
+    }
+    None
+}
+
+/// Adds `ok` if a text has these words of a row, and leaves of it what follows them.
+pub fn finds(text: &mut Vec<u8>, words: &[u8], answer: &mut Vec<u8>) -> Result<(), Bad> {
+    let Some(place) = behind(text, words) else {
+        return tells("no", answer);
+    };
+    let mut rest = Vec::new(*text.allocator());
+    rest.extend_from_slice(text.get(place..).unwrap_or(&[]))?;
+    *text = rest;
+    tells("ok", answer)
+}

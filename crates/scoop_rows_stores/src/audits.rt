@@ -1,0 +1,148 @@
+//! Rows about audits of journals.
+//!
+//! The system's file is `audit-system.toml`.
+//!
+//! - `journal FILE` adds a journal with the lines of a file, and `journal` an empty one.
+//! - `text TEXT` adds a text to the last journal, in which `\n` stands for a newline.
+//! - `change FIRST LAST TEXT` puts a text in the place of lines, counted from 1.
+//! - `audit` answers what the audit prints with the blocks, or why there is no explanation.
+//! - `chart FIRST LAST` audits, and answers how many rows the chart of these moves has.
+
+use crate::disk::{add_text, files};
+use crate::keeping::says;
+use scoop_audit::{
+    AuditError, Explained, Journal, audit, chart_of, print_explained, unexplained_text,
+};
+use scoop_lines::{is, is_blank, two_words};
+use scoop_row_player::words::{first, number};
+use scoop_row_player::{Bad, Subject};
+use scoop_system::System;
+use std::fs;
+use std::io::Write;
+
+const SYSTEM: &str = "audit-system.toml";
+
+/// Journals of parties of the system.
+#[derive(Drop)]
+pub struct Audits<'a> {
+    rt: &'a HostRuntime,
+    journals: Vec<Vec<u8>>,
+}
+
+impl<'a> Audits<'a> {
+    pub fn new(rt: &'a HostRuntime) -> Audits<'a> {
+        Audits {
+            rt,
+            journals: Vec::new(rt.alloc()),
+        }
+    }
+
+    fn audits(&self, name: &[u8], line: &[u8], answer: &mut Vec<u8>) -> Result<(), Bad> {
+        let alloc = self.rt.alloc();
+        let text = fs::read_to_string(self.rt, SYSTEM)?;
+        let Ok(system) = System::read(alloc, text.as_str()) else {
+            return Err(Bad::Words);
+        };
+        let mut journals = Vec::new(alloc);
+        for text in &self.journals {
+            journals.push(Journal {
+                bytes: text.as_slice(),
+            })?;
+        }
+        let is_charted = is(name, "chart");
+        match audit(alloc, &system, &journals, is_charted) {
+            Ok(run) => {
+                if is_charted {
+                    return draws(&system, &run, line, answer);
+                }
+                print_explained(alloc, &run, true, answer)?;
+                answer.pop();
+                Ok(())
+            }
+            Err(error) => tells(&error, answer),
+        }
+    }
+}
+
+impl Subject for Audits<'_> {
+    fn does(&mut self, command: &[u8], answer: &mut Vec<u8>) -> Result<(), Bad> {
+        let (name, line) = first(command)?;
+        match name {
+            b"journal" => {
+                let mut text = Vec::new(self.rt.alloc());
+                if !is_blank(line) {
+                    files(self.rt, b"read", line, &mut text)?;
+                }
+                self.journals.push(text)?;
+            }
+            b"text" | b"change" => match self.journals.last_mut() {
+                Some(journal) => edits(journal, name, line)?,
+                None => return Err(Bad::Command),
+            },
+            b"audit" | b"chart" => return self.audits(name, line, answer),
+            _ => return Err(Bad::Command),
+        }
+        says("ok", answer)
+    }
+
+    // An audit takes no memory of the heap that refuses.
+    fn shows(&self, _text: &mut Vec<u8>) -> Result<(), Bad> {
+        Ok(())
+    }
+}
+
+// Adds a text to a journal, or puts it in the place of lines.
+fn edits(journal: &mut Vec<u8>, name: &[u8], line: &[u8]) -> Result<(), Bad> {
+    if is(name, "text") {
+        return add_text(line, journal);
+    }
+    let (from, line) = first(line)?;
+    let (to, text) = first(line)?;
+    let (from, to) = (number(from)?, number(to)?);
+    let mut edited = Vec::new(*journal.allocator());
+    let mut place = 0u32;
+    for old in journal.split_inclusive(|byte| *byte == b'\n') {
+        place = place.saturating_add(1);
+        if place < from || to < place {
+            edited.extend_from_slice(old)?;
+        } else if place == to {
+            add_text(text, &mut edited)?;
+        }
+    }
+    *journal = edited;
+    Ok(())
+}
+
+fn tells(error: &AuditError, answer: &mut Vec<u8>) -> Result<(), Bad> {
+    match error {
+        AuditError::OutOfMemory => Err(Bad::Memory),
+        AuditError::Fault(place, line, fault) => {
+            write!(answer, "journal {place}: line {line}: {fault}")?;
+            Ok(())
+        }
+        AuditError::Unexplained(found, wrong) => {
+            let mut text = String::new(*answer.allocator());
+            match unexplained_text(found, wrong, &mut text) {
+                Ok(()) => says(text.as_str(), answer),
+                Err(_) => Err(Bad::Memory),
+            }
+        }
+    }
+}
+
+fn draws(system: &System, run: &Explained, line: &[u8], answer: &mut Vec<u8>) -> Result<(), Bad> {
+    let alloc = *answer.allocator();
+    let (from, to) = two_words(line).ok_or(Bad::Words)?;
+    let (from, to) = (u64::from(number(from)?), u64::from(number(to)?));
+    let mut picture = Vec::new(alloc);
+    match chart_of(alloc, system, run, from, to) {
+        Ok(chart) => {
+            chart.draw(&mut picture)?;
+            if !picture.starts_with(b"<svg ") {
+                return says("no picture", answer);
+            }
+            says(chart.rows(), answer)
+        }
+        Err(_) => Err(Bad::Memory),
+    }
+}

@@ -1,0 +1,49 @@
+//! The cell of handler 1 over a store, which answers datagrams as `scoop answer` does.
+
+use crate::keeping::says;
+use scoop_classes::DemoClass;
+use scoop_demo::{answer_run, open_book};
+use scoop_keeper::Keeper;
+use scoop_message::{HandlerId, Words};
+use scoop_object::{Class, Table};
+use scoop_row_player::Bad;
+use std::alloc::Global;
+
+const ONE: HandlerId = HandlerId(1);
+
+/// Answers a line of datagrams over the keeper, and leaves it there. A refusal drops it.
+pub fn answers<K: Keeper<Global>>(
+    kept: &mut Option<K>,
+    line: &[u8],
+    answer: &mut Vec<u8>,
+) -> Result<(), Bad> {
+    let alloc = *answer.allocator();
+    let (class, cell) = cell(alloc)?;
+    let Some(keeper) = kept.take() else {
+        return Err(Bad::Command);
+    };
+    match open_book(alloc, keeper, ONE, class, cell) {
+        Ok(mut book) => {
+            let ended = answer_run(&mut book, Some(ONE), line, answer);
+            *kept = Some(book.into_keeper());
+            if let Err(error) = ended {
+                return says(error, answer);
+            }
+            answer.pop();
+            Ok(())
+        }
+        Err(error) => says(error, answer),
+    }
+}
+
+// The class, and an object of it that holds 0.
+fn cell(alloc: Global) -> Result<(Class, Table), Bad> {
+    let Ok(words) = Words::of(&[0]) else {
+        return Err(Bad::Memory);
+    };
+    let class = DemoClass::Cell.class(alloc)?;
+    match Table::new(DemoClass::Cell.class(alloc)?, words) {
+        Ok(table) => Ok((class, table)),
+        Err(_) => Err(Bad::Memory),
+    }
+}

@@ -1,0 +1,281 @@
+//! Rows about stores and journals in files. A case begins without the files of the one before.
+//!
+//! - The commands of files.
+//! - `create LAST` makes the store `store.db` of client 7, whose last incarnation is this one. `adopt` takes the one that is
+//!   there. `keep CALLS` puts a keeper in memory, which passes on this number of calls, over that file, which may hold
+//!   anything. `close` closes what is open. A store whose name is lost is closed as `lost`.
+//! - The commands of any keeper. `times COUNT COMMAND` gives it one of them that often, up to the first answer but `ok`.
+//! - `lost` answers whether the store counts as lost. `watch` watches over its name, and `named` answers whether it has it.
+//! - `mark HANDLER BLOCK` brings the text beside the store up to date with a mark, and answers whether it is.
+//! - `sleep MILLISECONDS`; `start`, and `stays TEXT`: whether the text beside the store is this one, or a second has gone by
+//!   since the start.
+//! - `append SYNC FILE TEXT` opens the journal of node 1 in a file and appends a line. With `syncs` as SYNC it waits for the
+//!   disk. `hold FILE` opens the journal and keeps it open.
+
+use crate::disk::{add_text, files, path};
+use crate::keeping::{keeps, says};
+use scoop_files::{
+    FileError, FiledStore, NameWatch, NamedKeeper, StoreName, adopt_for, close_named, create_after,
+    update_marks,
+};
+use scoop_journal::{Journal, JournalFile, Owner, read};
+use scoop_keeper::{FailingKeeper, Keeper, MemoryKeeper};
+use scoop_lines::{decimal, is, two_words};
+use scoop_message::{ClientId, HandlerId};
+use scoop_owner::Newest;
+use scoop_row_player::words::{block, first, last, number};
+use scoop_row_player::{Bad, Subject};
+use std::alloc::Global;
+use std::time::{Duration, Instant};
+use std::{fs, thread};
+
+const CLIENT: ClientId = ClientId(7);
+
+const NODE: Owner = Owner::Node(1);
+
+/// The file of the store.
+pub const STORE: &str = "store.db";
+
+/// The text beside the store.
+const TEXT: &str = "store.db.system";
+
+/// All files that cases leave.
+const FILES: [&str; 5] = [
+    STORE,
+    "store.db-wal",
+    TEXT,
+    "store.db.system.new",
+    "kept.journal",
+];
+
+/// The folder, with what is open there.
+#[derive(Drop)]
+pub struct Folder<'a> {
+    rt: &'a HostRuntime,
+    name: &'a StoreName,
+    store: Option<NamedKeeper<'a, FiledStore>>,
+    keeper: Option<NamedKeeper<'a, FailingKeeper<MemoryKeeper>>>,
+    watch: Option<NameWatch<'a>>,
+    held: Option<JournalFile>,
+    start: Option<Instant>,
+}
+
+impl<'a> Folder<'a> {
+    /// The folder without the files of other cases.
+    pub fn new(rt: &'a HostRuntime, name: &'a StoreName) -> Folder<'a> {
+        for file in FILES {
+            let _gone = fs::remove_file(rt, file);
+        }
+        Folder {
+            rt,
+            name,
+            store: None,
+            keeper: None,
+            watch: None,
+            held: None,
+            start: None,
+        }
+    }
+
+    fn begins(&mut self, line: &[u8], answer: &mut Vec<u8>) -> Result<(), Bad> {
+        let calls = decimal(last(line)?).ok_or(Bad::Number)?;
+        let keeper = FailingKeeper::new(MemoryKeeper::new(self.rt.alloc()), calls);
+        self.keeper = Some(NamedKeeper::new(self.rt, keeper, self.name));
+        says("ok", answer)
+    }
+
+    fn closes(&mut self, answer: &mut Vec<u8>) -> Result<(), Bad> {
+        if take_inner(&mut self.keeper).is_some() {
+            return says("ok", answer);
+        }
+        close_store(take_inner(&mut self.store), self.name, answer)
+    }
+
+    fn gives(&mut self, command: &[u8], answer: &mut Vec<u8>) -> Result<(), Bad> {
+        let (name, line) = first(command)?;
+        if self.keeper.is_some() {
+            return gives_kept(&mut self.keeper, name, line, answer);
+        }
+        gives_kept(&mut self.store, name, line, answer)
+    }
+
+    fn repeats(&mut self, line: &[u8], answer: &mut Vec<u8>) -> Result<(), Bad> {
+        let (count, command) = first(line)?;
+        for _ in 0..number(count)? {
+            answer.clear();
+            self.gives(command, answer)?;
+            if answer.as_slice() != b"ok".as_slice() {
+                break;
+            }
+        }
+        Ok(())
+    }
+
+    fn holds(&mut self, line: &[u8], answer: &mut Vec<u8>) -> Result<(), Bad> {
+        match JournalFile::open(self.rt, path(last(line)?)?, NODE, false) {
+            Ok(file) => {
+                self.held = Some(file);
+                says("ok", answer)
+            }
+            Err(error) => says(error, answer),
+        }
+    }
+
+    fn watches(&mut self, name: &[u8], answer: &mut Vec<u8>) -> Result<(), Bad> {
+        if is(name, "watch") {
+            self.watch = Some(NameWatch::new(self.rt, self.name));
+            return says("ok", answer);
+        }
+        match &mut self.watch {
+            Some(watch) => says(watch.has_name(), answer),
+            None => Err(Bad::Command),
+        }
+    }
+
+    fn stays(&self, line: &[u8], answer: &mut Vec<u8>) -> Result<(), Bad> {
+        let (mut wanted, mut text) = (Vec::new(self.rt.alloc()), Vec::new(self.rt.alloc()));
+        add_text(line, &mut wanted)?;
+        files(self.rt, b"read", TEXT.as_bytes(), &mut text)?;
+        let is_late = match (self.start, Instant::now(self.rt)) {
+            (Some(start), Ok(now)) => now.duration_since(start) >= Duration::from_secs(1),
+            _ => true,
+        };
+        says(text.as_slice() == wanted.as_slice() || is_late, answer)
+    }
+}
+
+impl Subject for Folder<'_> {
+    fn does(&mut self, command: &[u8], answer: &mut Vec<u8>) -> Result<(), Bad> {
+        let (name, line) = first(command)?;
+        match name {
+            b"create" => {
+                let made = create_after(self.rt, STORE, CLIENT, number(last(line)?)?);
+                keeps_opened(self.rt, self.name, made, &mut self.store, answer)
+            }
+            b"adopt" => {
+                let taken = adopt_for(self.rt, STORE, CLIENT);
+                keeps_opened(self.rt, self.name, taken, &mut self.store, answer)
+            }
+            b"keep" => self.begins(line, answer),
+            b"close" => self.closes(answer),
+            b"next" | b"put" | b"load" | b"commit" => self.gives(command, answer),
+            b"times" => self.repeats(line, answer),
+            b"lost" => says(self.name.is_lost(), answer),
+            b"watch" | b"named" => self.watches(name, answer),
+            b"hold" => self.holds(line, answer),
+            b"start" => {
+                self.start = Instant::now(self.rt).ok();
+                says("ok", answer)
+            }
+            b"stays" => self.stays(line, answer),
+            _ => does_beside(self.rt, name, line, answer),
+        }
+    }
+
+    // Files are read by commands.
+    fn shows(&self, _text: &mut Vec<u8>) -> Result<(), Bad> {
+        Ok(())
+    }
+}
+
+// Gives a command to a keeper that has a name. Over any keeper, since at the files' type a match is dear to prove.
+fn gives_kept<K: Keeper<Global>>(
+    kept: &mut Option<NamedKeeper<'_, K>>,
+    name: &[u8],
+    line: &[u8],
+    answer: &mut Vec<u8>,
+) -> Result<(), Bad> {
+    match kept {
+        Some(keeper) => keeps(*answer.allocator(), keeper, name, line, answer),
+        None => Err(Bad::Command),
+    }
+}
+
+// Takes a keeper that has a name.
+fn take_inner<K: Drop>(kept: &mut Option<NamedKeeper<'_, K>>) -> Option<K> {
+    match kept.take() {
+        Some(named) => Some(named.into_inner()),
+        None => None,
+    }
+}
+
+fn close_store(
+    store: Option<FiledStore>,
+    name: &StoreName,
+    answer: &mut Vec<u8>,
+) -> Result<(), Bad> {
+    match store {
+        Some(store) => tells_closed(close_named(store, name), answer),
+        None => Err(Bad::Command),
+    }
+}
+
+fn tells_closed(closed: Result<(), FileError>, answer: &mut Vec<u8>) -> Result<(), Bad> {
+    match closed {
+        Ok(()) => says("ok", answer),
+        Err(FileError::Lost) => says("lost", answer),
+        Err(error) => says(error, answer),
+    }
+}
+
+// Keeps a store that was opened, and looks after its name.
+fn keeps_opened<'a, K: Drop>(
+    rt: &'a HostRuntime,
+    name: &'a StoreName,
+    opened: Result<K, FileError>,
+    kept: &mut Option<NamedKeeper<'a, K>>,
+    answer: &mut Vec<u8>,
+) -> Result<(), Bad> {
+    match opened {
+        Ok(store) => {
+            *kept = Some(NamedKeeper::new(rt, store, name));
+            says("ok", answer)
+        }
+        Err(error) => says(error, answer),
+    }
+}
+
+fn does_beside(
+    rt: &HostRuntime,
+    name: &[u8],
+    line: &[u8],
+    answer: &mut Vec<u8>,
+) -> Result<(), Bad> {
+    match name {
+        b"append" => appends(rt, line, answer),
+        b"mark" => marks(rt, line, answer),
+        b"sleep" => {
+            let time = Duration::from_millis(u64::from(number(last(line)?)?));
+            thread::sleep(rt, time);
+            says("ok", answer)
+        }
+        _ => files(rt, name, line, answer),
+    }
+}
+
+fn appends(rt: &HostRuntime, line: &[u8], answer: &mut Vec<u8>) -> Result<(), Bad> {
+    let (syncs, line) = first(line)?;
+    let (file, text) = first(line)?;
+    let Ok(line) = read(text.get(1..).unwrap_or(&[])) else {
+        return Err(Bad::Words);
+    };
+    match JournalFile::open(rt, path(file)?, NODE, is(syncs, "syncs")) {
+        Ok(file) => {
+            let mut journal = Journal::new(rt.alloc(), &file);
+            match journal.append(&line) {
+                Ok(()) => says("ok", answer),
+                Err(error) => says(error, answer),
+            }
+        }
+        Err(error) => says(error, answer),
+    }
+}
+
+fn marks(rt: &HostRuntime, line: &[u8], answer: &mut Vec<u8>) -> Result<(), Bad> {
+    let (handler, mark) = two_words(line).ok_or(Bad::Words)?;
+    let newest = Newest {
+        handler: HandlerId(number(handler)?),
+        block: block(mark)?,
+    };
+    says(update_marks(rt, TEXT, &[newest]), answer)
+}

@@ -1,0 +1,178 @@
+//! Rows about a record in the tables of a database in memory.
+//!
+//! - `run TEXT` runs a text of SQL. `find TEXT` answers what one finds: a line for each row, with `|` between the columns,
+//!   and blobs in hex digits.
+//! - `make` makes the tables, and `take` takes those that are there. The connection stays.
+//! - `create` and `adopt` turn the connection into a store by the same. A refusal drops it.
+//! - `gather` puts a keeper that gathers over the store. `leave` turns a keeper into its connection again; what isn't
+//!   committed is dropped.
+//! - The commands of any keeper go to the one that gathers, or else to the store.
+//! - `answer FRAME` opens the cell of handler 1 over the store, and answers a datagram in hex digits: a line with the reply,
+//!   and one with the words. `answer` alone answers nothing.
+
+use crate::bytes::put_bytes;
+use crate::cells::answers;
+use crate::keeping::{done, keeps, says};
+use scoop_lines::is;
+use scoop_record::{GatheringStore, Store, adopt_tables, create_tables};
+use scoop_row_player::words::first;
+use scoop_row_player::{Bad, Subject};
+use sqlite::{Alter, Connection, Row};
+use sqlite_value::value::ValueRef;
+use std::str;
+
+/// A database: its connection, the store on it, or the keeper that gathers over that. One of them is there, until a
+/// refusal drops the connection.
+#[derive(Drop)]
+pub struct Stores<S: Alter + Drop> {
+    connection: Option<Connection<S>>,
+    store: Option<Store<S>>,
+    gathering: Option<GatheringStore<S>>,
+}
+
+impl<S: Alter + Drop> Stores<S> {
+    pub fn new(connection: Connection<S>) -> Stores<S> {
+        Stores {
+            connection: Some(connection),
+            store: None,
+            gathering: None,
+        }
+    }
+
+    /// The medium of the database, unless a refusal dropped the connection.
+    pub fn into_medium(mut self) -> Option<S> {
+        self.leave();
+        match self.connection.take() {
+            Some(connection) => Some(connection.into_store()),
+            None => None,
+        }
+    }
+
+    fn leave(&mut self) {
+        if let Some(gathering) = self.gathering.take() {
+            self.store = Some(gathering.into_inner());
+        }
+        if let Some(store) = self.store.take() {
+            self.connection = Some(store.into_connection());
+        }
+    }
+
+    fn opens(&mut self, name: &[u8], answer: &mut Vec<u8>) -> Result<(), Bad> {
+        let alloc = *answer.allocator();
+        let Some(connection) = self.connection.take() else {
+            return Err(Bad::Command);
+        };
+        let opened = if is(name, "create") {
+            Store::create(alloc, connection)
+        } else {
+            Store::adopt(alloc, connection)
+        };
+        match opened {
+            Ok(store) => {
+                self.store = Some(store);
+                says("ok", answer)
+            }
+            Err(error) => done(Err(error), answer),
+        }
+    }
+
+    fn gathers(&mut self, answer: &mut Vec<u8>) -> Result<(), Bad> {
+        match self.store.take() {
+            Some(store) => {
+                self.gathering = Some(GatheringStore::new(*answer.allocator(), store));
+                says("ok", answer)
+            }
+            None => Err(Bad::Command),
+        }
+    }
+
+    // Gives a command to what is there.
+    fn gives(&mut self, name: &[u8], line: &[u8], answer: &mut Vec<u8>) -> Result<(), Bad> {
+        let alloc = *answer.allocator();
+        if let Some(gathering) = &mut self.gathering {
+            return keeps(alloc, gathering, name, line, answer);
+        }
+        if let Some(store) = &mut self.store {
+            return keeps(alloc, store, name, line, answer);
+        }
+        match &mut self.connection {
+            Some(connection) => queries(connection, name, line, answer),
+            None => Err(Bad::Command),
+        }
+    }
+}
+
+impl<S: Alter + Drop> Subject for Stores<S> {
+    fn does(&mut self, command: &[u8], answer: &mut Vec<u8>) -> Result<(), Bad> {
+        let (name, line) = first(command)?;
+        match name {
+            b"create" | b"adopt" => self.opens(name, answer),
+            b"gather" => self.gathers(answer),
+            b"leave" => {
+                self.leave();
+                says("ok", answer)
+            }
+            b"answer" => answers(&mut self.store, line, answer),
+            _ => self.gives(name, line, answer),
+        }
+    }
+
+    // What a database has is read by its calls alone.
+    fn shows(&self, _text: &mut Vec<u8>) -> Result<(), Bad> {
+        Ok(())
+    }
+}
+
+fn queries<S: Alter>(
+    connection: &mut Connection<S>,
+    name: &[u8],
+    line: &[u8],
+    answer: &mut Vec<u8>,
+) -> Result<(), Bad> {
+    let Ok(text) = str::from_utf8(line) else {
+        return Err(Bad::Words);
+    };
+    match name {
+        b"make" => done(create_tables(connection), answer),
+        b"take" => done(adopt_tables(*answer.allocator(), connection), answer),
+        b"run" => match connection.execute(text, &[]) {
+            Ok(_) => says("ok", answer),
+            Err(_) => says("refused", answer),
+        },
+        b"find" => match connection.query_all(text, &[]) {
+            Ok(rows) => put_rows(&rows, answer),
+            Err(_) => says("refused", answer),
+        },
+        _ => Err(Bad::Command),
+    }
+}
+
+fn put_rows(rows: &[Row], answer: &mut Vec<u8>) -> Result<(), Bad> {
+    for (place, row) in rows.iter().enumerate() {
+        if place > 0 {
+            answer.push(b'\n')?;
+        }
+        for column in 0..row.column_count() {
+            if column > 0 {
+                answer.push(b'|')?;
+            }
+            match row.get_ref(column) {
+                Ok(value) => put_value(value, answer)?,
+                Err(_) => return Err(Bad::Words),
+            }
+        }
+    }
+    Ok(())
+}
+
+fn put_value(value: ValueRef<'_>, answer: &mut Vec<u8>) -> Result<(), Bad> {
+    match value {
+        ValueRef::Int(number) => says(number, answer),
+        ValueRef::Blob(bytes) => put_bytes(bytes, answer),
+        ValueRef::Text(text) => {
+            answer.extend_from_slice(text)?;
+            Ok(())
+        }
+        _ => Err(Bad::Words),
+    }
+}

@@ -1,0 +1,192 @@
+//! Rows about a system and its clients. In texts, `\n` stands for a newline and `\r` for a carriage return.
+//!
+//! - `+ TEXT` adds a line to the file. `read TEXT` adds the text, reads the file and forgets its text; it answers the fault.
+//! - `print` answers the system as `scoop check` prints it.
+//! - `line TEXT` answers what the line asks a client, or its fault. `script CLIENT TEXT` answers `right`, or the faults of the
+//!   script.
+//! - `serve EXECUTORS HISTORY TURNS` answers `ok`, or which setting of a node is out of its range.
+//!
+//! [`crate::sessions`] has the other commands.
+
+use crate::sessions::Sessions;
+use crate::text::{numbers, read_text, tells, without_last};
+use crate::text_lines::TextLines;
+use scoop_message::ClientId;
+use scoop_row_player::words::{first, number};
+use scoop_row_player::{Bad, Subject};
+use scoop_runtime::{Serving, check_script};
+use scoop_system::{ClientLine, LineFaultIn, System, print_system, read_line};
+use std::alloc::Global;
+use std::io;
+use std::io::Write;
+
+/// A system, its file, and a client.
+#[derive(Drop)]
+pub struct Systems {
+    text: Vec<u8>,
+    system: Option<System>,
+    sessions: Sessions,
+}
+
+impl Systems {
+    pub fn new(alloc: Global) -> Systems {
+        Systems {
+            text: Vec::new(alloc),
+            system: None,
+            sessions: Sessions::new(alloc),
+        }
+    }
+
+    fn adds(&mut self, line: &[u8]) -> Result<(), Bad> {
+        let text = read_text(*self.text.allocator(), line)?;
+        self.text.extend_from_slice(text.as_slice())?;
+        self.text.push(b'\n')?;
+        Ok(())
+    }
+
+    fn reads(&mut self, answer: &mut Vec<u8>) -> Result<(), Bad> {
+        let text = str::from_utf8(self.text.as_slice()).map_err(|_| Bad::Words)?;
+        match System::read(*answer.allocator(), text) {
+            Ok(read) => {
+                self.system = Some(read);
+                tells("ok", answer)
+            }
+            Err(error) => {
+                write!(answer, "{error}")?;
+                Ok(())
+            }
+        }
+    }
+}
+
+// Nothing here takes memory over the player's heap, so that no command is refused.
+impl Subject for Systems {
+    fn does(&mut self, command: &[u8], answer: &mut Vec<u8>) -> Result<(), Bad> {
+        let (name, line) = first(command)?;
+        match name {
+            b"+" => {
+                self.adds(line)?;
+                tells("ok", answer)
+            }
+            b"read" => {
+                self.adds(line)?;
+                self.reads(answer)?;
+                self.text.clear();
+                Ok(())
+            }
+            b"serve" => serves(line, answer),
+            b"print" | b"line" | b"script" | b"client" | b"program" | b"cut" => match &self.system {
+                Some(system) => asks(system, &mut self.sessions, name, line, answer),
+                None => Err(Bad::Command),
+            },
+            _ => self.sessions.does(name, line, answer),
+        }
+    }
+
+    fn shows(&self, _text: &mut Vec<u8>) -> Result<(), Bad> {
+        Ok(())
+    }
+}
+
+// Takes the settings of a node.
+fn serves(line: &[u8], answer: &mut Vec<u8>) -> Result<(), Bad> {
+    let numbers = numbers(*answer.allocator(), line)?;
+    let [executors, history, turns] = numbers.as_slice() else {
+        return Err(Bad::Words);
+    };
+    let Ok(executors) = u32::try_from(*executors) else {
+        return Err(Bad::Number);
+    };
+    match Serving::new(executors, *history as usize, *turns) {
+        Ok(_) => tells("ok", answer),
+        Err(range) => tells(range, answer),
+    }
+}
+
+// The commands about a system that was read.
+fn asks(
+    system: &System,
+    sessions: &mut Sessions,
+    name: &[u8],
+    line: &[u8],
+    answer: &mut Vec<u8>,
+) -> Result<(), Bad> {
+    match name {
+        b"print" => {
+            print_system(system, answer)?;
+            without_last(answer);
+            Ok(())
+        }
+        b"line" => reads_line(system, line, answer),
+        b"script" => checks(system, line, answer),
+        _ => sessions.plays(system, name, line, answer),
+    }
+}
+
+// Adds the meaning of a line to a client of the system, or its fault with what the system has instead.
+fn reads_line(system: &System, line: &[u8], answer: &mut Vec<u8>) -> Result<(), Bad> {
+    let text = read_text(*answer.allocator(), line)?;
+    match read_line(system, text.as_slice()) {
+        Ok(line) => put_line(&line, answer)?,
+        Err(fault) => write!(answer, "{}", LineFaultIn { system, fault })?,
+    }
+    Ok(())
+}
+
+fn put_line<W: Write>(line: &ClientLine, out: &mut W) -> io::Result<()> {
+    match line {
+        ClientLine::Reserve(handlers) => write!(out, "Reserve {:?}", handlers.as_slice()),
+        ClientLine::ReserveWhen {
+            handlers,
+            conditions,
+            tries,
+        } => {
+            write!(out, "Reserve {:?} tries {tries}", handlers.as_slice())?;
+            for condition in conditions.as_slice() {
+                let (asked, request) = (condition.asked, &condition.request);
+                let args = request.args.as_slice();
+                write!(
+                    out,
+                    ", {asked} {} {args:?} {:?}",
+                    request.op, condition.test
+                )?;
+            }
+            Ok(())
+        }
+        ClientLine::Call(handler, request) => {
+            write!(
+                out,
+                "Call {handler} {} {:?}",
+                request.op,
+                request.args.as_slice()
+            )
+        }
+        ClientLine::Query(handler, request) => {
+            write!(
+                out,
+                "Query {handler} {} {:?}",
+                request.op,
+                request.args.as_slice()
+            )
+        }
+        ClientLine::Blank => out.write_all(b"Blank"),
+        ClientLine::End => out.write_all(b"End"),
+        ClientLine::GiveUp => out.write_all(b"GiveUp"),
+        ClientLine::Help => out.write_all(b"Help"),
+        ClientLine::Quit => out.write_all(b"Quit"),
+    }
+}
+
+fn checks(system: &System, line: &[u8], answer: &mut Vec<u8>) -> Result<(), Bad> {
+    let (client, line) = first(line)?;
+    let client = system.client(ClientId(number(client)?));
+    let text = read_text(*answer.allocator(), line)?;
+    match check_script(system, client, &mut TextLines::new(text.as_slice()), answer) {
+        Ok(true) => tells("right", answer),
+        Ok(false) => {
+            without_last(answer);
+            Ok(())
+        }
+        Err(error) => tells(error, answer),
+    }
+}

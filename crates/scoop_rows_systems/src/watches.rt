@@ -1,0 +1,243 @@
+//! Rows about a handler that is watched: handler 3 of the system [`SYSTEM`], an exchange that is named till.
+//!
+//! - `hear MESSAGE` gives the handler a message, in the words of `scoop frame`, and answers the note. `run` runs an entry.
+//! - `put` stores the handler's state, `refuse` tries so with a store that refuses, and `load H` loads a handler from a store
+//!   that has the state. `shown H` answers whether the watch shows the `same` state as the handler has, an `other` one or `none`.
+//! - `greeted MESSAGE` notes a message as a greeting of another handler.
+//! - `stranger CLIENT HANDLER` brings a message of an unknown client. `link G F ROOM N` brings G genuine and F forged
+//!   datagrams over a sealed link that has room for ROOM, and sends N times; it answers how many came and how many sends failed.
+//! - `says TEXT` writes a line of the node's output, and answers whether the node is open before the flush, whether after it,
+//!   and whether all of the text was passed on.
+//!
+//! [`crate::shown`] has the commands that show it.
+
+use crate::text::{numbers, read_text, tells, told};
+use scoop_admission::Strangers;
+use scoop_demo::read_message;
+use scoop_handler::{Handler, Heard, Note};
+use scoop_keeper::{FailingKeeper, Keeper, MemoryKeeper};
+use scoop_lines::is;
+use scoop_link::{Link, Party, TapeLink};
+use scoop_message::limits::BUFFER_LEN;
+use scoop_message::{ClientId, HandlerId, Message};
+use scoop_object::{Class, Table};
+use scoop_row_player::words::{first, last, number};
+use scoop_row_player::{Bad, Subject};
+use scoop_seal::{Key, SealedLink};
+use scoop_system::System;
+use scoop_watch::{Watch, WatchedKeeper, WatchedLink, WatchedOutput, WatchedStrangers};
+use std::alloc::Global;
+use std::io::Write;
+use std::sync::Wait;
+use std::time::Clock;
+
+/// The system's file.
+const SYSTEM: &str = "node = [{number = 1, address = \"127.0.0.1:47101\"}]
+handler = [{number = 3, name = \"till\", node = 1, class = \"exchange\", words = [0, 0]}]
+client = [{number = 7, address = \"127.0.0.1:47107\"}]";
+
+const KEY: [u8; 32] = [5; 32];
+
+// The datagram without bytes that is sealed with this key: its tag, reckoned by another program.
+const GENUINE: [u8; 16] = [
+    0xdf, 0x12, 0x9e, 0x25, 0x17, 0x27, 0xa5, 0xc0, 0x5e, 0x56, 0x14, 0x94, 0x07, 0x16, 0x2a, 0xe7,
+];
+
+const CLIENT: Party = Party::Client(ClientId(7));
+
+// More datagrams than a row brings.
+const TAKEN: u32 = 1_000;
+
+/// A watch, and what it watches: a system, and the first handler of its file.
+#[derive(Drop)]
+pub struct Watches<'a, R> {
+    pub(crate) rt: &'a R,
+    pub(crate) watch: &'a Watch,
+    pub(crate) system: System,
+    pub(crate) handler: Handler<Table>,
+    keeper: WatchedKeeper<'a, MemoryKeeper, R>,
+}
+
+fn handler_of(alloc: Global, system: &System) -> Result<Handler<Table>, Bad> {
+    let place = system.handlers().first().ok_or(Bad::Words)?;
+    let class: Class = system.class_of(alloc, place.class)?.ok_or(Bad::Words)?;
+    let Ok(object) = Table::new(class.copy()?, place.words) else {
+        return Err(Bad::Words);
+    };
+    match Handler::new(alloc, place.handler, class, object) {
+        Ok(handler) => Ok(handler),
+        Err(_) => Err(Bad::Words),
+    }
+}
+
+// Nothing here takes memory over the player's heap, so that no command is refused.
+impl<R: Wait + Clock> Subject for Watches<'_, R> {
+    fn does(&mut self, command: &[u8], answer: &mut Vec<u8>) -> Result<(), Bad> {
+        let (name, line) = first(command)?;
+        match name {
+            b"hear" | b"greeted" => self.hears(name, line, answer),
+            b"run" => self.runs(answer),
+            b"put" => told(self.keeper.put_handler(self.handler.state()), answer),
+            b"refuse" => self.refuses(answer),
+            b"load" => self.loads(HandlerId(number(last(line)?)?), answer),
+            b"shown" => self.compares(HandlerId(number(last(line)?)?), answer),
+            b"stranger" => self.meets(line, answer),
+            b"link" => passes(self.watch, line, answer),
+            b"says" => self.outputs(line, answer),
+            _ => self.shows_node(name, line, answer),
+        }
+    }
+
+    fn shows(&self, _text: &mut Vec<u8>) -> Result<(), Bad> {
+        Ok(())
+    }
+}
+
+impl<'a, R: Wait + Clock> Watches<'a, R> {
+    pub fn new(alloc: Global, rt: &'a R, watch: &'a Watch) -> Result<Watches<'a, R>, Bad> {
+        let Ok(system) = System::read(alloc, SYSTEM) else {
+            return Err(Bad::Words);
+        };
+        match handler_of(alloc, &system) {
+            Ok(handler) => Ok(Watches {
+                rt,
+                watch,
+                system,
+                handler,
+                keeper: WatchedKeeper::new(MemoryKeeper::new(alloc), rt, watch),
+            }),
+            Err(bad) => Err(bad),
+        }
+    }
+
+    /// Notes what a handler has heard.
+    pub(crate) fn notes(&mut self, message: &Message, heard: &Heard) -> Result<(), Bad> {
+        match self.keeper.note_heard(message, heard) {
+            Ok(()) => Ok(()),
+            Err(_) => Err(Bad::Memory),
+        }
+    }
+
+    // Gives the handler a message, and adds the note. Or notes it as a greeting of another handler.
+    fn hears(&mut self, name: &[u8], line: &[u8], answer: &mut Vec<u8>) -> Result<(), Bad> {
+        let line = line.strip_prefix(b" ").unwrap_or(line);
+        let Ok((_, message)) = read_message(*answer.allocator(), line) else {
+            return Err(Bad::Words);
+        };
+        if is(name, "greeted") {
+            let note = Note::Greeted;
+            self.notes(&message, &Heard { reply: None, note })?;
+            return tells("ok", answer);
+        }
+        let Ok(heard) = self.handler.hear(&message) else {
+            return Err(Bad::Memory);
+        };
+        write!(answer, "{}", heard.note)?;
+        self.notes(&message, &heard)
+    }
+
+    // Runs the handler's next entry, and adds its number.
+    fn runs(&mut self, answer: &mut Vec<u8>) -> Result<(), Bad> {
+        let Some(ran) = self.handler.run() else {
+            return tells("none", answer);
+        };
+        write!(answer, "{} {}", ran.block, ran.number)?;
+        match self.keeper.note_finished(self.handler.number()) {
+            Ok(()) => Ok(()),
+            Err(_) => Err(Bad::Memory),
+        }
+    }
+
+    // Stores the state in a store that refuses.
+    fn refuses(&self, answer: &mut Vec<u8>) -> Result<(), Bad> {
+        let failing = FailingKeeper::new(MemoryKeeper::new(*answer.allocator()), 0);
+        let mut watched = WatchedKeeper::new(failing, self.rt, self.watch);
+        told(watched.put_handler(self.handler.state()), answer)
+    }
+
+    // Loads a handler from a store that has the state.
+    fn loads(&self, handler: HandlerId, answer: &mut Vec<u8>) -> Result<(), Bad> {
+        let mut keeper = MemoryKeeper::new(*answer.allocator());
+        if let Err(error) = keeper.put_handler(self.handler.state()) {
+            return tells(error, answer);
+        }
+        let mut watched = WatchedKeeper::new(keeper, self.rt, self.watch);
+        match watched.load_handler(handler) {
+            Ok(_) => tells("ok", answer),
+            Err(error) => tells(error, answer),
+        }
+    }
+
+    // Compares what the watch shows with the handler's state.
+    fn compares(&self, handler: HandlerId, answer: &mut Vec<u8>) -> Result<(), Bad> {
+        match self.watch.state(self.rt, handler) {
+            Ok(Some(shown)) if shown.same(self.handler.state()) => tells("same", answer),
+            Ok(Some(_)) => tells("other", answer),
+            Ok(None) => tells("none", answer),
+            Err(_) => Err(Bad::Memory),
+        }
+    }
+
+    fn meets(&self, line: &[u8], answer: &mut Vec<u8>) -> Result<(), Bad> {
+        let (client, line) = first(line)?;
+        let handler = HandlerId(number(last(line)?)?);
+        WatchedStrangers::new(self.rt, self.watch).meet(ClientId(number(client)?), handler);
+        tells("ok", answer)
+    }
+
+    // Writes a line of the node's output. Adds whether the node is open before its flush, whether after it, and whether the
+    // line was passed on.
+    fn outputs(&self, line: &[u8], answer: &mut Vec<u8>) -> Result<(), Bad> {
+        let alloc = *answer.allocator();
+        let (text, mut written) = (read_text(alloc, line)?, Vec::new(alloc));
+        self.flushes(text.as_slice(), &mut written, answer)?;
+        tells(written.as_slice() == text.as_slice(), answer)
+    }
+
+    // Writes a text, and flushes it twice.
+    fn flushes(&self, text: &[u8], written: &mut Vec<u8>, answer: &mut Vec<u8>) -> Result<(), Bad> {
+        let mut output = WatchedOutput::new(written, self.rt, self.watch);
+        output.write_all(text)?;
+        let before = self.watch.tally(self.rt).is_open;
+        output.flush()?;
+        output.flush()?;
+        let after = self.watch.tally(self.rt).is_open;
+        write!(answer, "{before} {after} ")?;
+        Ok(())
+    }
+}
+
+// Brings datagrams over a link that has this room, and then sends over it.
+fn passes(watch: &Watch, line: &[u8], answer: &mut Vec<u8>) -> Result<(), Bad> {
+    let alloc = *answer.allocator();
+    let numbers = numbers(alloc, line)?;
+    let [genuine, forged, room, sends] = numbers.as_slice() else {
+        return Err(Bad::Words);
+    };
+    let mut tape = TapeLink::new(alloc, *room as usize)?;
+    for _ in 0..*genuine {
+        tape.feed(&GENUINE)?;
+    }
+    for _ in 0..*forged {
+        tape.feed(b"forged")?;
+    }
+    let mut link = WatchedLink::new(SealedLink::new(tape, Key::new(KEY)), watch);
+    exchanges(&mut link, *sends, answer)
+}
+
+// Takes what comes over a link, and sends. Adds how many datagrams came, and how many sends failed.
+fn exchanges<L: Link>(link: &mut L, sends: u64, answer: &mut Vec<u8>) -> Result<(), Bad> {
+    let mut came = 0u32;
+    let mut buffer = [0; BUFFER_LEN];
+    for _ in 0..TAKEN {
+        match link.receive(&mut buffer) {
+            Ok(Some(_)) => came = came.saturating_add(1),
+            Ok(None) | Err(_) => break,
+        }
+    }
+    for _ in 0..sends {
+        let _counted = link.send(CLIENT, b"reply");
+    }
+    write!(answer, "{came} came, {} failed", link.faults())?;
+    Ok(())
+}
