@@ -1,4 +1,4 @@
-//! Rows of stores in an etcd: the areas `etcd`, `wire` and `places`. With them stand computed examples of what an etcd does.
+//! Rows of stores in an etcd: the areas `etcd`, `wire` and `places`; and computed examples of what an etcd does.
 #![tactic(auto)]
 
 mod examples;
@@ -18,8 +18,6 @@ use scoop_row_player::{Areas, Bad, Case, Heap, Sheet, play_rows};
 use scripted::ScriptedEtcd;
 use std::cell::RefCell;
 use stores::Stores;
-pub use telling::{tell, tell_done, tell_outcome, tell_pairs, tell_whether};
-pub use txns::{after_space, read_range, read_txn};
 use wire::Wire;
 
 /// The areas of this library.

@@ -1,4 +1,5 @@
-//! The watch over a world: each item that comes to its histories has to keep the rules D10 to D14.
+//! The watch over a world. Blocks have to open in the order of one common list. Handlers run what was logged in order, and only
+//! right answers are accepted.
 
 use super::{ACCOUNT, CELL, CLIENTS, COUNTER, Run};
 use scoop_handler::Ran;
