@@ -12,7 +12,7 @@ pub fn mutant() -> u64 {
     0
 }
 '''
-# What `mutant` does in the module of a program.
+# The body of `mutant` in the module of a program.
 ANSWER = b'''  %text = call ptr @getenv(ptr @mutant.name)
   %none = icmp eq ptr %text, null
   br i1 %none, label %zero, label %read
