@@ -44,11 +44,6 @@ fn is_answer(line: &str) -> bool {
 }
 
 impl<'l> Case<'l> {
-    /// The number of lines.
-    pub fn len(self) -> usize {
-        self.lines.len()
-    }
-
     /// What the heading says after `case`.
     pub fn name(self) -> &'l str {
         let line = self.line(0);
@@ -99,6 +94,20 @@ impl<'l> Case<'l> {
             wanted,
             next,
         })
+    }
+
+    /// The number of rows.
+    pub fn count_rows(self, alloc: Global) -> Result<u64, Bad> {
+        let mut count = 0u64;
+        let mut place = 0;
+        for _ in 0..self.lines.len() {
+            let Some(row) = self.row_from(alloc, place)? else {
+                break;
+            };
+            count = count.saturating_add(1);
+            place = row.next;
+        }
+        Ok(count)
     }
 
     // Adds the lines of an answer, which is `ok` if there are none. Returns the place after them.

@@ -18,20 +18,25 @@
 //! given again.
 //!
 //! A library of areas has a type that is [`Areas`] and gives each case a new [`Subject`], by [`play_rows`]. A program calls
-//! [`play_files`] with the areas of all its libraries. [`words`] reads the words of blocks and entries.
+//! [`play_files`] with the areas of all its libraries. No method of a trait can start threads; what starts some asks [`Cases`]
+//! and [`Rows`] for its commands. [`words`] reads the words of blocks and entries.
 #![tactic(auto)]
 
 mod area;
 mod bad;
 mod case;
+mod cases;
 mod files;
 mod playing;
+mod rows;
 mod sheet;
 pub mod words;
 
 pub use area::{Areas, Heap, Subject};
 pub use bad::Bad;
 pub use case::Case;
-pub use files::play_files;
-pub use playing::{play, play_rows};
+pub use cases::{Cases, lines_of};
+pub use files::{play_files, read, report, status};
+pub use playing::{play, play_rows, tell_no_area};
+pub use rows::Rows;
 pub use sheet::Sheet;
