@@ -6,7 +6,8 @@
 //! - `tape ROOM`, `recalling ROOM`
 //! - `holding ROOM` and `passing ROOM`: a holding link that holds, and one that doesn't
 //! - `paced ROOM`: for two parties, with two repeats
-//! - `sealed ROOM NAME LIFE`: with the key of the system of this name (`-`: none) and life
+//! - `sealed ROOM NAME LIFE`: with the key of the system of this name (`-`: none) and life; `unsealed ROOM`: a sealed link that has
+//!   no key
 //! - `admitting ROOM`: for clients 7 and 8
 //! - `budget ROOM`: for clients 7 and 8, each look at the clock 400 microseconds after the last one
 //! - `measured ROOM`: for one party, each look at the clock 50 milliseconds after the last one
@@ -80,6 +81,7 @@ impl<'a> Links<'a> {
                 Layers::Measured(MeasuredLink::new(heap, tape, Steps::of(50_000), 1, 0)?)
             }
             b"recalling" => Layers::Recalling(RecallingLink::new(heap, tape, self.changes)?),
+            b"unsealed" => Layers::Sealed(SealedLink::new(tape, None)),
             _ => Layers::Tape(tape),
         })
     }
@@ -94,7 +96,7 @@ impl<'a> Links<'a> {
         let (room, line) = first(line)?;
         let key = system_key(line)?;
         let made = match tape_of(self.heap, number(room)? as usize, self.fed.as_slice()) {
-            Ok(tape) => Ok(Layers::Sealed(SealedLink::new(tape, key))),
+            Ok(tape) => Ok(Layers::Sealed(SealedLink::new(tape, Some(key)))),
             Err(error) => Err(error),
         };
         self.takes(made, answer)
@@ -215,7 +217,8 @@ impl<'a> Links<'a> {
             | b"admitting"
             | b"budget"
             | b"measured"
-            | b"recalling" => self.makes(name, line, answer),
+            | b"recalling"
+            | b"unsealed" => self.makes(name, line, answer),
             _ => Err(Bad::Command),
         }
     }

@@ -221,7 +221,7 @@ fn passes(watch: &Watch, line: &[u8], answer: &mut Vec<u8>) -> Result<(), Bad> {
     for _ in 0..*forged {
         tape.feed(b"forged")?;
     }
-    let mut link = WatchedLink::new(SealedLink::new(tape, Key::new(KEY)), watch);
+    let mut link = WatchedLink::new(SealedLink::new(tape, Some(Key::new(KEY))), watch);
     exchanges(&mut link, *sends, answer)
 }
 

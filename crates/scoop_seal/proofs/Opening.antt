@@ -1,5 +1,5 @@
 -- The datagrams that a receive has taken so far.
-use Rattle.std.proofs.Common.{◌≡◌, ℕ, zero, suc, ◌+◌, List, [], ◌∷◌, ◌++◌, length, All, Option, refl, sym, ap, subst, ◌∙◌, length-append, arith}
+use Rattle.std.proofs.Common.{◌≡◌, ℕ, zero, suc, ◌+◌, List, [], ◌∷◌, ◌++◌, length, All, Option, refl, sym, ap, ◌∙◌, length-append, arith}
 use Rattle.std.proofs.lemmas.List.Elements.{All-append}
 use Rattle.scoop_link.specs.Link.{Told, Exchanges}
 use Rattle.scoop_link.proofs.Exchanges.{exchanges_nothing, exchanges-append}
@@ -37,7 +37,7 @@ refuses_one key before after refused now d taken forged counted =
     record { exchanged = taken; all_forged = All-one key d forged; counted = counted }
 
 -- and then one more
-so_far-also : (key : List ℕ) (a b c : Option Told) (refused now then n : ℕ) → SoFar key a b refused now n → (d : List ℕ) × Refuses key b c now then (d ∷ [])
+pub so_far-also : (key : List ℕ) (a b c : Option Told) (refused now then n : ℕ) → SoFar key a b refused now n → (d : List ℕ) × Refuses key b c now then (d ∷ [])
     → SoFar key a c refused then (n + 1)
 so_far-also key a b c refused now then n first (d, one) = record {
   forged = first.forged ++ d ∷ [];
@@ -48,10 +48,3 @@ so_far-also key a b c refused now then n first (d, one) = record {
   };
   count = omega (arith, length-append first.forged (d ∷ []), first.count);
 }
-
--- the same, for a loop that keeps the key
-pub so_far-more : (key same : List ℕ) (a b c : Option Told) (refused now then n : ℕ) → same ≡ key → SoFar key a b refused now n → (d : List ℕ)
-    × Refuses same b c now then (d ∷ []) → SoFar key a c refused then (n + 1)
-so_far-more key same a b c refused now then n is first more =
-    let P : List ℕ → Type 0 = λ k. (d : List ℕ) × Refuses k b c now then (d ∷ []) in
-    so_far-also key a b c refused now then n first (subst P is more)

@@ -1,5 +1,5 @@
 -- A sealed link, its sends and its receives.
-use Rattle.std.specs.Prelude.{◌≡◌, ℕ, ◌+◌, ◌-◌, ◌^◌, ◌≤◌, min, ◌==◌, nat_lt, List, [], ◌∷◌, ◌++◌, length, map, take, All, Option, Result, Ok, Err}
+use Rattle.std.specs.Prelude.{◌≡◌, ℕ, ◌+◌, ◌-◌, ◌^◌, ◌≤◌, min, ◌==◌, nat_lt, List, [], ◌∷◌, ◌++◌, length, map, take, All, Option, Some, None, Result, Ok, Err}
 use Rattle.std.specs.Prelude.{if◌then◌else◌}
 use Rattle.scoop_link.specs.declared.party.Party.{Party}
 use Rattle.scoop_link.specs.declared.link.LinkFault.{LinkFault}
@@ -9,14 +9,14 @@ use Rattle.scoop_seal.specs.declared.sealed_link.Taken.{Taken}
 use Rattle.scoop_seal.specs.declared.sealed_link.Taken.TheVariants.{Nothing, Forged, Genuine}
 use Rattle.scoop_seal.specs.Tag.{sealed, IsForged}
 
--- the inner link, the key, the number of refused datagrams, and the number of sends that were too long
+-- the inner link, the key if there is one, the number of refused datagrams, and the number of sends that were too long
 pub record SealedValue (L : Type 0) : Type 0 where
   pub inner : L
-  pub key : List ℕ
+  pub key : Option (List ℕ)
   pub refused : ℕ
   pub faults : ℕ
 
-abbrev pub seals : {L : Type 0} → L → List ℕ → SealedValue L
+abbrev pub seals : {L : Type 0} → L → Option (List ℕ) → SealedValue L
 seals inner key = record { inner = inner; key = key; refused = 0; faults = 0 }
 
 -- one more, if the count can rise
@@ -26,6 +26,16 @@ one_more n = min (n + 1) (2 ^ 64 - 1)
 -- the count of faults: a link's own ones and those of the inner link
 abbrev pub fault_sum : ℕ → ℕ → ℕ
 fault_sum own inner = min (own + inner) (2 ^ 64 - 1)
+
+-- what a link with this key records over an inner one: only without a key what that one does
+abbrev pub told_by : Option (List ℕ) → Option Told → Option Told
+told_by (Some key) told = None
+told_by None told = told
+
+-- its count of faults
+abbrev pub faults_by : Option (List ℕ) → ℕ → ℕ → ℕ
+faults_by (Some key) own inner = fault_sum own inner
+faults_by None own inner = inner
 
 -- a link's own faults after one more, if the count of all can rise
 abbrev pub own_after : ℕ → ℕ → ℕ

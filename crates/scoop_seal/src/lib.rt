@@ -6,7 +6,7 @@
 //!
 //! ```
 //! let key = Key::new([5; 32]);
-//! let mut link = SealedLink::new(TapeLink::new(alloc, 1)?, key);
+//! let mut link = SealedLink::new(TapeLink::new(alloc, 1)?, Some(key));
 //! link.send(HANDLER, b"lock")?;
 //! let (_, sealed) = link.inner().sent(0).ok_or("nothing sent")?;
 //! assert_eq!(rt; sealed.len(), 4 + TAG_LEN);
@@ -14,7 +14,7 @@
 //! let mut tape = TapeLink::new(alloc, 0)?;
 //! tape.feed(b"forged")?;
 //! tape.feed(sealed)?;
-//! let mut other = SealedLink::new(tape, key);
+//! let mut other = SealedLink::new(tape, Some(key));
 //! let mut buffer = [0; BUFFER_LEN];
 //! assert_eq!(rt; other.receive(&mut buffer), Ok(Some(4)));
 //! assert!(rt; buffer.starts_with(b"lock"));

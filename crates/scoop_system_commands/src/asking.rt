@@ -187,13 +187,8 @@ fn run_at<T: Net, C: ClientTask>(
     task: &mut C,
 ) -> Result<(), End> {
     let link = open_client_link(net, rt.alloc(), plan.system(), &plan.place())?;
-    match key {
-        Some(key) => {
-            let link = SealedLink::new(link, key);
-            run_measured(rt, options, plan, journal, link, task)
-        }
-        None => run_measured(rt, options, plan, journal, link, task),
-    }
+    let link = SealedLink::new(link, key);
+    run_measured(rt, options, plan, journal, link, task)
 }
 
 // Runs the client over this link to the nodes' addresses. Its round trips decide when a datagram goes again.

@@ -28,7 +28,6 @@ use scoop_seal::{Key, SealedLink};
 use scoop_status::About;
 use scoop_status_server::Server;
 use scoop_system::{NodePlace, System};
-use scoop_watch::RefusesForged;
 use sqlite::Alter;
 use std::alloc::Global;
 use std::net::{Net, SocketAddr};
@@ -240,18 +239,13 @@ fn serve_at<T: Threads + Wait + Clock + Net + Sync, O: Objects + Sync>(
     let mut server = open_server(rt, served.shown)?;
     let is_stored = !matches!(store, StoreChoice::None);
     let link = HoldingLink::new(rt.alloc(), link, is_stored);
-    match key {
-        Some(key) => {
-            let link = SealedLink::new(link, key);
-            serve_over(rt, threads, store, served, &mut server, link)
-        }
-        None => serve_over(rt, threads, store, served, &mut server, link),
-    }
+    let link = SealedLink::new(link, key);
+    serve_over(rt, threads, store, served, &mut server, link)
 }
 
 // Serves the node over the store of this choice, if there is one.
 fn serve_over<
-    L: Link + RefusesForged + Send,
+    L: Link + Send,
     T: Threads + Wait + Clock + Net + Sync,
     O: Objects + Sync,
 >(
@@ -260,7 +254,7 @@ fn serve_over<
     choice: StoreChoice<'_>,
     served: &Served<'_, O>,
     server: &mut Option<Server>,
-    link: L,
+    link: SealedLink<L>,
 ) -> Result<(), End> {
     if let StoreChoice::None = choice {
         return serve_unstored(rt, threads, served, server, link);
@@ -278,7 +272,7 @@ fn serve_over<
 // Serves the node over this store, and closes it. A function that names the files' type does one thing alone: the prover
 // takes too many steps at more.
 fn serve_stored<
-    L: Link + RefusesForged + Send,
+    L: Link + Send,
     T: Threads + Wait + Clock + Net + Sync,
     O: Objects + Sync,
 >(
@@ -289,7 +283,7 @@ fn serve_stored<
     server: &mut Option<Server>,
     store: FiledStore,
     name: &StoreName,
-    link: L,
+    link: SealedLink<L>,
 ) -> Result<(), End> {
     let ended = serve_kept(rt, threads, choice, served, server, store, name, link);
     closed(ended, name)
@@ -313,11 +307,11 @@ fn serve_kept<S, L, T, O>(
     server: &mut Option<Server>,
     mut store: Store<S>,
     name: &StoreName,
-    link: L,
+    link: SealedLink<L>,
 ) -> Result<Store<S>, End>
 where
     S: Alter + Drop + Send,
-    L: Link + RefusesForged + Send,
+    L: Link + Send,
     T: Threads + Wait + Clock + Net + Sync,
     O: Objects + Sync,
 {
@@ -332,7 +326,7 @@ where
 
 // Serves the node over its store at this place in an etcd. It ends if another program takes the store over.
 fn serve_shared<
-    L: Link + RefusesForged + Send,
+    L: Link + Send,
     T: Threads + Wait + Clock + Net + Sync,
     O: Objects + Sync,
 >(
@@ -342,7 +336,7 @@ fn serve_shared<
     place: &EtcdPlace<'_>,
     served: &Served<'_, O>,
     server: &mut Option<Server>,
-    link: L,
+    link: SealedLink<L>,
 ) -> Result<(), End> {
     let about = &served.shown.about;
     let (system, number) = (about.system, about.place.number);
@@ -363,11 +357,11 @@ fn serve_owned<K, L, T, O>(
     served: &Served<'_, O>,
     server: &mut Option<Server>,
     keeper: K,
-    link: L,
+    link: SealedLink<L>,
 ) -> Result<(), RuntimeError>
 where
     K: SharedKeeper<Global> + Send,
-    L: Link + RefusesForged + Send,
+    L: Link + Send,
     T: Threads + Wait + Clock + Net + Sync,
     O: Objects + Sync,
 {
@@ -393,7 +387,7 @@ fn copy_of(alloc: Global, handlers: &[HandlerId]) -> Result<Vec<HandlerId>, OutO
 
 // Serves the node over a record that is in memory alone.
 fn serve_unstored<
-    L: Link + RefusesForged + Send,
+    L: Link + Send,
     T: Threads + Wait + Clock + Net + Sync,
     O: Objects + Sync,
 >(
@@ -401,7 +395,7 @@ fn serve_unstored<
     threads: &T,
     served: &Served<'_, O>,
     server: &mut Option<Server>,
-    link: L,
+    link: SealedLink<L>,
 ) -> Result<(), End> {
     report(
         rt,
@@ -421,11 +415,11 @@ fn serve_with<K, L, T, O>(
     server: &mut Option<Server>,
     keeper: K,
     storage: Storage,
-    link: L,
+    link: SealedLink<L>,
 ) -> Result<K, RuntimeError>
 where
     K: Keeper<Global> + Send,
-    L: Link + RefusesForged + Send,
+    L: Link + Send,
     T: Threads + Wait + Clock + Net + Sync,
     O: Objects + Sync,
 {

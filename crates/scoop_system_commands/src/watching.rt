@@ -12,11 +12,12 @@ use scoop_message::{ClientId, OutOfMemory};
 use scoop_pacing::{SlowNotes, SystemTimes};
 use scoop_report::report;
 use scoop_runtime::{Ending, NodePlan, Objects, RuntimeError, Serving};
+use scoop_seal::SealedLink;
 use scoop_status::{About, Log};
 use scoop_status_server::{Server, show};
 use scoop_system::{NodePlace, System};
 use scoop_watch::{
-    LogLevel, RefusesForged, Settings, Watch, WatchedKeeper, WatchedLink, WatchedOutput,
+    LogLevel, Settings, Watch, WatchedKeeper, WatchedLink, WatchedOutput,
     WatchedStrangers,
 };
 use std::alloc::Global;
@@ -149,7 +150,7 @@ struct WatchedNode<'s, 'w, K: Keeper<Global>, L: Link, T, O: Objects> {
 impl<'s, 'w, K, L, T, O> WatchedNode<'s, 'w, K, L, T, O>
 where
     K: Keeper<Global> + Send,
-    L: Link + RefusesForged,
+    L: Link,
     T: Threads + Wait + Clock + Sync,
     O: Objects + Sync,
 {
@@ -246,11 +247,11 @@ pub(crate) fn run_watched<K, L, T, O>(
     served: &Served<'_, O>,
     server: &mut Option<Server>,
     keeper: K,
-    link: L,
+    link: SealedLink<L>,
 ) -> Result<K, RuntimeError>
 where
     K: Keeper<Global> + Send,
-    L: Link + RefusesForged + Send,
+    L: Link + Send,
     T: Threads + Wait + Clock + Sync,
     O: Objects + Sync,
 {
@@ -285,7 +286,7 @@ fn run_beside<K, L, T, O, S>(
 ) -> Result<K, RuntimeError>
 where
     K: Keeper<Global> + Send,
-    L: Link + RefusesForged + Send,
+    L: Link + Send,
     T: Threads + Wait + Clock + Sync,
     O: Objects + Sync,
     S: Task<()>,

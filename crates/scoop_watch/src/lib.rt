@@ -30,7 +30,7 @@ mod watched_strangers;
 
 pub use event::{Event, Level, LogLevel};
 pub use event_list::{EventList, MAX_EVENTS};
-pub use link_counts::{LinkTally, RefusesForged};
+pub use link_counts::LinkTally;
 pub use tally::{NOTES, REASONS, Tally};
 pub use watch::{Settings, Watch};
 pub use watched_keeper::WatchedKeeper;

@@ -1,27 +1,6 @@
 //! How many datagrams pass through a node's link.
 
-use scoop_link::{HoldingLink, Link};
-use scoop_seal::SealedLink;
 use std::sync::atomic::{AtomicU64, Ordering};
-
-/// A link that may refuse datagrams that weren't sealed with its key.
-pub trait RefusesForged {
-    /// How many it has refused, at most 2^64-1.
-    fn refused(&self) -> u64;
-}
-
-impl<L: Link> RefusesForged for SealedLink<L> {
-    fn refused(&self) -> u64 {
-        SealedLink::refused(self)
-    }
-}
-
-impl<L: Link> RefusesForged for HoldingLink<L> {
-    // It has no key.
-    fn refused(&self) -> u64 {
-        0
-    }
-}
 
 /// Counts that one thread raises and others read.
 #[derive(Drop)]

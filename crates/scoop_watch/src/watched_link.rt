@@ -3,39 +3,42 @@
 ghost use Rattle.std.specs.Prelude.{◌≡◌, ◌≤◌, [], Option, IfOk, IfSome};
 ghost use Rattle.scoop_link.specs.Link.{CountsFault, Exchanges, sent_by, taken_by};
 
-use crate::link_counts::{RefusesForged, add_one};
+use crate::link_counts::add_one;
 use crate::watch::Watch;
 use scoop_link::{Link, LinkFault, Party};
 use scoop_message::limits::BUFFER_LEN;
+use scoop_seal::SealedLink;
 use std::marker::Model;
 use std::sync::atomic::Ordering;
 
 /// A link that counts what passes through the one under it. Contracts see the link under it.
 #[derive(Drop)]
 pub struct WatchedLink<'a, L> {
-    inner: L,
+    inner: SealedLink<L>,
     watch: &'a Watch,
 }
 
 impl<'a, L> Model for WatchedLink<'a, L> {
-    ghost Value = { L };
+    ghost use Rattle.scoop_seal.specs.Sealed.{SealedValue};
+
+    ghost Value = { SealedValue L };
 
     ghost view = { λ w. w.inner };
 }
 
-impl<'a, L: Link + RefusesForged> WatchedLink<'a, L> {
+impl<'a, L: Link> WatchedLink<'a, L> {
     /// Watches this link.
-    pub fn new(inner: L, watch: &'a Watch) -> WatchedLink<'a, L>
+    pub fn new(inner: SealedLink<L>, watch: &'a Watch) -> WatchedLink<'a, L>
         ensures { result ≡ inner }
     {
         WatchedLink { inner, watch }
     }
 }
 
-impl<'a, L: Link + RefusesForged> Link for WatchedLink<'a, L> {
-    ghost told = { λ w. L.told w };
+impl<'a, L: Link> Link for WatchedLink<'a, L> {
+    ghost told = { ⟦<SealedLink<L> as Link>⟧.told };
 
-    ghost fault_count = { λ w. L.fault_count w };
+    ghost fault_count = { ⟦<SealedLink<L> as Link>⟧.fault_count };
 
     fn send(&mut self, to: Party, bytes: &[u8]) -> Result<(), LinkFault> {
         let sent = self.inner.send(to, bytes);

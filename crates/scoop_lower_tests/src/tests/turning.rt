@@ -31,7 +31,7 @@ handler = [{{number = 1, node = 1, class = \"cell\", words = [0]}}]
 }
 
 fn sealed(link: UdpLink) -> SealedLink<UdpLink> {
-    SealedLink::new(link, Key::new([5; 32]))
+    SealedLink::new(link, Some(Key::new([5; 32])))
 }
 
 // The client's datagram comes to the first of these links, and not to the other.
