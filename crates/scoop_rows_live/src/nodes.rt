@@ -7,8 +7,7 @@
 //!   PASS` answers how many events the pass has.
 //! - `work` lets two threads work at the node: client 7 at handler 1 with the first pass, client 8 at handler 2 with the
 //!   second. Each makes 500 events.
-//! - `close` closes the node with its passes; `close missing` without the last one, and `close strange` with another node's in
-//!   place of it.
+//! - `close` closes the node with its passes, and `close N` with N passes of another node in place of them.
 //! - `feed` and `serve` are about the loop ([`crate::serving`]), `held` about two handlers side by side ([`crate::held`]), and
 //!   `paint` about two clients ([`crate::painting`]).
 
@@ -240,27 +239,27 @@ fn closes<R: Wait>(
     line: &[u8],
     answer: &mut Vec<u8>,
 ) -> Result<(), Bad> {
-    let Some((node, mut passes)) = nodes.opened.take() else {
+    let Some((node, passes)) = nodes.opened.take() else {
         return Err(Bad::Command);
     };
-    let is_strange = line.ends_with(b"strange");
-    let mut own = None;
-    if is_strange || line.ends_with(b"missing") {
-        own = passes.pop();
-    }
-    if is_strange {
-        if let Ok((_, mut others)) = opens(nodes.alloc, nodes.roomy, 2, MAX_HISTORY, u32::MAX) {
-            passes.extend(others.pop())?;
+    let (given, own) = match last(line) {
+        Ok(count) => match opens(
+            nodes.alloc,
+            nodes.roomy,
+            number(count)?,
+            MAX_HISTORY,
+            u32::MAX,
+        ) {
+            Ok((_, others)) => (others, Some(passes)),
+            Err(error) => return tells(error, answer),
+        },
+        Err(_) => (passes, None),
+    };
+    match node.close(rt, given) {
+        Ok(_) => tells("ok", answer),
+        Err(error) => {
+            nodes.opened = Some((error.node, own.unwrap_or(error.passes)));
+            tells(error.cause, answer)
         }
     }
-    let mut error = match node.close(rt, passes) {
-        Ok(_) => return tells("ok", answer),
-        Err(error) => error,
-    };
-    if is_strange {
-        drop(error.passes.pop());
-    }
-    error.passes.extend(own)?;
-    nodes.opened = Some((error.node, error.passes));
-    tells(error.cause, answer)
 }

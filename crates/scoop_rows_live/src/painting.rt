@@ -1,7 +1,7 @@
 //! Two clients that paint two cells over links that drop and double.
 //!
 //! - `paint` lets client 7 set both cells to 1 and client 8 set both to 2, each in three blocks. Each link drops every third
-//!   datagram and doubles every fifth. Answers how many colours the cells have at the end.
+//!   datagram and doubles every fifth. Answers whether the cells are painted the `same` at the end.
 
 use crate::nodes::{ONE, TWO};
 use scoop_book::Book;
@@ -50,20 +50,21 @@ pub fn paints(answer: &mut Vec<u8>) -> Result<(), Bad> {
     let Ok(mut cells) = Book::open(alloc, handlers, MemoryKeeper::new(alloc)) else {
         return Err(Bad::Memory);
     };
-    let mut red = painter(alloc, ClientId(7), 1)?;
-    let mut blue = painter(alloc, ClientId(8), 2)?;
+    let fresh = cells.words(ONE);
+    let mut red = make_painter(alloc, ClientId(7), 1)?;
+    let mut blue = make_painter(alloc, ClientId(8), 2)?;
     for _ in 0..1_000u32 {
         red.goes_on(&mut cells)?;
         blue.goes_on(&mut cells)?;
         if red.is_done() && blue.is_done() {
-            let same = cells.words(ONE) == cells.words(TWO);
-            return tells(if same { "one colour" } else { "two colours" }, answer);
+            let is_same = cells.words(ONE) == cells.words(TWO) && cells.words(ONE) != fresh;
+            return tells(if is_same { "same" } else { "different" }, answer);
         }
     }
     tells("not painted", answer)
 }
 
-fn painter(alloc: Global, number: ClientId, colour: u64) -> Result<Painter, Bad> {
+fn make_painter(alloc: Global, number: ClientId, colour: u64) -> Result<Painter, Bad> {
     let (link, end) = ScriptLink::pair(alloc, LOSSY, LOSSY, ROOM)?;
     let Ok(client) = Client::begin(alloc, number, 1, &[ONE, TWO]) else {
         return Err(Bad::Memory);
