@@ -1,0 +1,217 @@
+//! Two handlers that run side by side, over UDP under seals.
+//!
+//! - `held` serves a node with two executors. Client 7 asks handler 1 for its balance, and the gate holds that handler until
+//!   client 8 has its answer from handler 2. Meanwhile forgers send what would cut the block of client 7 and answer both
+//!   queries with 99. Answers the loop's end, both answers, and how many messages the node refused.
+
+use crate::nodes::{ONE, TWO, opens};
+use crate::serving::{frame, serves};
+use scoop_client::Client;
+use scoop_driver::Driver;
+use scoop_free_ports::free_ports;
+use scoop_link::{Link, PacedLink, Party, Peers, UdpLink};
+use scoop_message::limits::{BUFFER_LEN, MAX_HISTORY};
+use scoop_message::{Answer, Args, ClientId, HandlerId, Request};
+use scoop_netloop::{Gate, Stop};
+use scoop_row_player::{Bad, Heap};
+use scoop_rows_parts::printing::tells;
+use scoop_seal::{Key, SealedLink};
+use std::alloc::Global;
+use std::io::Write;
+use std::net::Net;
+use std::sync::Wait;
+use std::sync::atomic::{AtomicBool, Ordering};
+use std::thread;
+use std::thread::Threads;
+use std::time::{Clock, Duration};
+
+const SEVEN: ClientId = ClientId(7);
+
+const EIGHT: ClientId = ClientId(8);
+
+const FORGED: [(Party, &[u8]); 3] = [
+    (Party::Handler(ONE), b"Hello 1 7 2"),
+    (Party::Client(SEVEN), b"Answer 1 7.1.1 1 99"),
+    (Party::Client(EIGHT), b"Answer 2 8.1.1 1 99"),
+];
+
+const KEY: [u8; 32] = [5; 32];
+
+const OTHER_KEY: [u8; 32] = [6; 32];
+
+type Sealed = SealedLink<UdpLink>;
+
+type Asking = Driver<PacedLink<Sealed>>;
+
+/// Handler 1 waits here until client 8 has its answer.
+#[derive(Drop)]
+struct Held {
+    at_gate: AtomicBool,
+    answered: AtomicBool,
+}
+
+// Looks at a flag every ten milliseconds, for ten seconds.
+fn becomes_true<R: Wait + Clock>(rt: &R, flag: &AtomicBool) -> bool {
+    for _ in 0..1_000u32 {
+        if flag.load(Ordering::SeqCst) {
+            return true;
+        }
+        thread::sleep(rt, Duration::from_millis(10));
+    }
+    false
+}
+
+impl Gate for Held {
+    fn pass<R: Wait + Clock>(&self, rt: &R, handler: HandlerId) -> bool {
+        if handler != ONE {
+            return true;
+        }
+        self.at_gate.store(true, Ordering::SeqCst);
+        becomes_true(rt, &self.answered)
+    }
+}
+
+/// The links of forgers: one without a seal, and one sealed with another key.
+type Forgers = (UdpLink, Sealed);
+
+fn udp<R: Net>(rt: &R, alloc: Global, peers: Peers<'_>) -> Result<UdpLink, Bad> {
+    match UdpLink::open(rt, alloc, peers) {
+        Ok(link) => Ok(link),
+        Err(_) => Err(Bad::Memory),
+    }
+}
+
+// A client that asks a handler over a link.
+fn asking(alloc: Global, id: ClientId, at: HandlerId, link: UdpLink) -> Result<Asking, Bad> {
+    let Ok(client) = Client::begin(alloc, id, 1, &[at]) else {
+        return Err(Bad::Memory);
+    };
+    let link = PacedLink::new(alloc, SealedLink::new(link, Key::new(KEY)), 1, 1)?;
+    Ok(Driver::new(client, link, 2_000))
+}
+
+/// Holds a handler of a node over memory that is never refused.
+pub fn holds<R: Threads + Wait + Clock + Net + Sync>(
+    rt: &R,
+    roomy: Heap<'_>,
+    answer: &mut Vec<u8>,
+) -> Result<(), Bad> {
+    let alloc = *answer.allocator();
+    let Ok([node, seven, eight, bare, other]) = free_ports::<R, 5>(rt) else {
+        return Err(Bad::Memory);
+    };
+    let table = &[
+        (Party::Handler(ONE), node),
+        (Party::Handler(TWO), node),
+        (Party::Client(SEVEN), seven),
+        (Party::Client(EIGHT), eight),
+    ];
+    let link = udp(rt, alloc, Peers { own: node, table })?;
+    let mut link = SealedLink::new(link, Key::new(KEY));
+    let first = udp(rt, alloc, Peers { own: seven, table })?;
+    let second = udp(rt, alloc, Peers { own: eight, table })?;
+    let clients = (
+        asking(alloc, SEVEN, ONE, first)?,
+        asking(alloc, EIGHT, TWO, second)?,
+    );
+    let bare = udp(rt, alloc, Peers { own: bare, table })?;
+    let other = udp(rt, alloc, Peers { own: other, table })?;
+    let forgers = (bare, SealedLink::new(other, Key::new(OTHER_KEY)));
+    one_is_held(rt, roomy, &mut link, clients, forgers, answer)?;
+    write!(answer, ", {} refused", link.refused())?;
+    Ok(())
+}
+
+fn one_is_held<R: Threads + Wait + Clock + Sync>(
+    rt: &R,
+    roomy: Heap<'_>,
+    link: &mut Sealed,
+    clients: (Asking, Asking),
+    forgers: Forgers,
+    answer: &mut Vec<u8>,
+) -> Result<(), Bad> {
+    let alloc = *answer.allocator();
+    let opened = match opens(alloc, roomy, 3, MAX_HISTORY, u32::MAX) {
+        Ok(opened) => opened,
+        Err(error) => return tells(error, answer),
+    };
+    let gate = Held {
+        at_gate: AtomicBool::new(false),
+        answered: AtomicBool::new(false),
+    };
+    let stop = Stop::new();
+    let ((end, (node, passes)), (seven, eight)) = thread::join(
+        rt,
+        || serves(rt, opened, link, &gate, &stop, 100_000),
+        || both_ask(rt, alloc, clients, forgers, &gate, &stop),
+    );
+    if let Err(error) = node.close(rt, passes) {
+        return tells(error.cause, answer);
+    }
+    let none = Answer::Refused;
+    write!(
+        answer,
+        "{end}, {}, {}",
+        seven.unwrap_or(none),
+        eight.unwrap_or(none)
+    )?;
+    Ok(())
+}
+
+// Client 7 asks handler 1, and client 8 asks handler 2 once handler 1 is held; then the loop is to stop.
+fn both_ask<R: Threads + Wait + Clock + Sync>(
+    rt: &R,
+    alloc: Global,
+    clients: (Asking, Asking),
+    mut forgers: Forgers,
+    gate: &Held,
+    stop: &Stop,
+) -> (Option<Answer>, Option<Answer>) {
+    let (mut seven, mut eight) = clients;
+    let told = thread::join(
+        rt,
+        || asks(alloc, &mut seven, ONE, None),
+        || {
+            let _held = becomes_true(rt, &gate.at_gate);
+            let told = asks(alloc, &mut eight, TWO, Some(&mut forgers));
+            gate.answered.store(true, Ordering::SeqCst);
+            told
+        },
+    );
+    stop.ask();
+    told
+}
+
+// The balance that a client is told. What is forged comes just before its query, and so before the answer.
+fn asks(
+    alloc: Global,
+    driver: &mut Asking,
+    at: HandlerId,
+    forgers: Option<&mut Forgers>,
+) -> Option<Answer> {
+    for _ in 0..200u32 {
+        if let Ok(Some(_)) = driver.turn() {
+            break;
+        }
+    }
+    driver.reserve(&[at]).ok()?;
+    if let Some(forgers) = forgers {
+        forges(alloc, forgers).ok()?;
+    }
+    let args = Args::of(&[]).ok()?;
+    let answer = driver.query(at, Request { op: 3, args }).ok()?;
+    driver.end().ok()?;
+    Some(answer)
+}
+
+fn forges(alloc: Global, forgers: &mut Forgers) -> Result<(), Bad> {
+    let mut buffer = [0; BUFFER_LEN];
+    for (to, line) in FORGED {
+        let len = frame(alloc, line, &mut buffer)?;
+        let bytes = buffer.get(..len).unwrap_or(&[]);
+        if forgers.0.send(to, bytes).is_err() || forgers.1.send(to, bytes).is_err() {
+            return Err(Bad::Memory);
+        }
+    }
+    Ok(())
+}
