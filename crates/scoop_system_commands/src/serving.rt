@@ -244,11 +244,7 @@ fn serve_at<T: Threads + Wait + Clock + Net + Sync, O: Objects + Sync>(
 }
 
 // Serves the node over the store of this choice, if there is one.
-fn serve_over<
-    L: Link + Send,
-    T: Threads + Wait + Clock + Net + Sync,
-    O: Objects + Sync,
->(
+fn serve_over<L: Link + Send, T: Threads + Wait + Clock + Net + Sync, O: Objects + Sync>(
     rt: &HostRuntime,
     threads: &T,
     choice: StoreChoice<'_>,
@@ -271,11 +267,7 @@ fn serve_over<
 
 // Serves the node over this store, and closes it. A function that names the files' type does one thing alone: the prover
 // takes too many steps at more.
-fn serve_stored<
-    L: Link + Send,
-    T: Threads + Wait + Clock + Net + Sync,
-    O: Objects + Sync,
->(
+fn serve_stored<L: Link + Send, T: Threads + Wait + Clock + Net + Sync, O: Objects + Sync>(
     rt: &HostRuntime,
     threads: &T,
     choice: StoreChoice<'_>,
@@ -325,11 +317,7 @@ where
 }
 
 // Serves the node over its store at this place in an etcd. It ends if another program takes the store over.
-fn serve_shared<
-    L: Link + Send,
-    T: Threads + Wait + Clock + Net + Sync,
-    O: Objects + Sync,
->(
+fn serve_shared<L: Link + Send, T: Threads + Wait + Clock + Net + Sync, O: Objects + Sync>(
     rt: &HostRuntime,
     threads: &T,
     choice: StoreChoice<'_>,
@@ -386,11 +374,7 @@ fn copy_of(alloc: Global, handlers: &[HandlerId]) -> Result<Vec<HandlerId>, OutO
 }
 
 // Serves the node over a record that is in memory alone.
-fn serve_unstored<
-    L: Link + Send,
-    T: Threads + Wait + Clock + Net + Sync,
-    O: Objects + Sync,
->(
+fn serve_unstored<L: Link + Send, T: Threads + Wait + Clock + Net + Sync, O: Objects + Sync>(
     rt: &HostRuntime,
     threads: &T,
     served: &Served<'_, O>,

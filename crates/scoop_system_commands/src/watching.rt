@@ -17,8 +17,7 @@ use scoop_status::{About, Log};
 use scoop_status_server::{Server, show};
 use scoop_system::{NodePlace, System};
 use scoop_watch::{
-    LogLevel, Settings, Watch, WatchedKeeper, WatchedLink, WatchedOutput,
-    WatchedStrangers,
+    LogLevel, Settings, Watch, WatchedKeeper, WatchedLink, WatchedOutput, WatchedStrangers,
 };
 use std::alloc::Global;
 use std::hash::RandomState;
