@@ -147,7 +147,7 @@ fn acts<R: Threads + Wait + Sync>(
         return Err(Bad::Command);
     };
     if name == b"work".as_slice() {
-        return both_work(rt, node, &mut nodes.passes, answer);
+        return both_work(rt, node, nodes.passes.as_mut_slice(), answer);
     }
     let (at, line) = first(line)?;
     let Some(pass) = nodes.passes.get_mut(number(at)? as usize) else {

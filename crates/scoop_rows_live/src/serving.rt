@@ -71,7 +71,8 @@ pub fn serves_tape<R: Threads + Wait + Clock + Sync>(
         return Err(Bad::Words);
     }
     let mut tape = HoldingLink::new(nodes.alloc, tape, line.ends_with(b"holding"));
-    let (heap, stop) = (*passes.allocator(), Stop::new());
+    let heap = *passes.allocator();
+    let stop = Stop::new();
     let (end, passes) = if line.ends_with(b"shut") {
         serve(rt, heap, &node, &mut tape, passes, &Shut, &stop, turns)
     } else {
