@@ -4,16 +4,21 @@
 //!   client 8 has its answer from handler 2. Meanwhile forgers send what would cut the block of client 7 and answer both
 //!   queries with 99. Answers the loop's end, both answers, and how many messages the node refused.
 
-use crate::nodes::{ONE, TWO, opens};
-use crate::serving::{frame, serves};
+use crate::nodes::{ONE, TWO};
+use crate::serving::frame;
+use scoop_book::{Node, Pass};
+use scoop_classes::DemoClass;
 use scoop_client::Client;
 use scoop_driver::Driver;
 use scoop_free_ports::free_ports;
+use scoop_keeper::MemoryKeeper;
 use scoop_link::{Link, PacedLink, Party, Peers, UdpLink};
-use scoop_message::limits::{BUFFER_LEN, MAX_HISTORY};
+use scoop_message::limits::BUFFER_LEN;
 use scoop_message::{Answer, Args, ClientId, HandlerId, Request};
-use scoop_netloop::{Gate, Stop};
-use scoop_row_player::{Bad, Heap};
+use scoop_netloop::{Gate, ServeEnd, Stop, serve};
+use scoop_object::Table;
+use scoop_row_player::Bad;
+use scoop_rows_parts::handlers::objects;
 use scoop_rows_parts::printing::tells;
 use scoop_seal::{Key, SealedLink};
 use std::alloc::Global;
@@ -48,6 +53,7 @@ type Asking = Driver<PacedLink<Sealed>>;
 struct Held {
     at_gate: AtomicBool,
     answered: AtomicBool,
+    stop: Stop,
 }
 
 // Looks at a flag every ten milliseconds, for ten seconds.
@@ -90,16 +96,16 @@ fn asking(alloc: Global, id: ClientId, at: HandlerId, link: UdpLink) -> Result<A
     Ok(Driver::new(client, link, 2_000))
 }
 
-/// Holds a handler of a node over memory that is never refused.
+/// Holds a handler of a node.
 pub fn holds<R: Threads + Wait + Clock + Net + Sync>(
     rt: &R,
-    roomy: Heap<'_>,
     answer: &mut Vec<u8>,
 ) -> Result<(), Bad> {
     let alloc = *answer.allocator();
-    let Ok([node, seven, eight, bare, other]) = free_ports::<R, 5>(rt) else {
+    let Ok(ports) = free_ports::<R, 5>(rt) else {
         return Err(Bad::Memory);
     };
+    let [node, seven, eight, bare, other] = ports;
     let table = &[
         (Party::Handler(ONE), node),
         (Party::Handler(TWO), node),
@@ -117,33 +123,33 @@ pub fn holds<R: Threads + Wait + Clock + Net + Sync>(
     let bare = udp(rt, alloc, Peers { own: bare, table })?;
     let other = udp(rt, alloc, Peers { own: other, table })?;
     let forgers = (bare, SealedLink::new(other, Key::new(OTHER_KEY)));
-    one_is_held(rt, roomy, &mut link, clients, forgers, answer)?;
+    one_is_held(rt, &mut link, clients, forgers, answer)?;
     write!(answer, ", {} refused", link.refused())?;
     Ok(())
 }
 
 fn one_is_held<R: Threads + Wait + Clock + Sync>(
     rt: &R,
-    roomy: Heap<'_>,
     link: &mut Sealed,
     clients: (Asking, Asking),
     forgers: Forgers,
     answer: &mut Vec<u8>,
 ) -> Result<(), Bad> {
     let alloc = *answer.allocator();
-    let opened = match opens(alloc, roomy, 3, MAX_HISTORY, u32::MAX) {
+    let handlers = objects(alloc, DemoClass::Account, &[ONE, TWO])?;
+    let (node, passes) = match Node::open(alloc, handlers, MemoryKeeper::new(alloc), 3) {
         Ok(opened) => opened,
         Err(error) => return tells(error, answer),
     };
     let gate = Held {
         at_gate: AtomicBool::new(false),
         answered: AtomicBool::new(false),
+        stop: Stop::new(),
     };
-    let stop = Stop::new();
-    let ((end, (node, passes)), (seven, eight)) = thread::join(
+    let ((end, passes), (seven, eight)) = thread::join(
         rt,
-        || serves(rt, opened, link, &gate, &stop, 100_000),
-        || both_ask(rt, alloc, clients, forgers, &gate, &stop),
+        || serves(rt, &node, link, passes, &gate),
+        || both_ask(rt, alloc, clients, forgers, &gate),
     );
     if let Err(error) = node.close(rt, passes) {
         return tells(error.cause, answer);
@@ -158,6 +164,21 @@ fn one_is_held<R: Threads + Wait + Clock + Sync>(
     Ok(())
 }
 
+// All passes come back. A node of fewer than two isn't served.
+fn serves<R: Threads + Wait + Clock + Sync>(
+    rt: &R,
+    node: &Node<Table, MemoryKeeper>,
+    link: &mut Sealed,
+    passes: Vec<Pass>,
+    gate: &Held,
+) -> (ServeEnd, Vec<Pass>) {
+    if passes.len() < 2 {
+        return (ServeEnd::NoThread, passes);
+    }
+    let alloc = *passes.allocator();
+    serve(rt, alloc, node, link, passes, gate, &gate.stop, 100_000)
+}
+
 // Client 7 asks handler 1, and client 8 asks handler 2 once handler 1 is held; then the loop is to stop.
 fn both_ask<R: Threads + Wait + Clock + Sync>(
     rt: &R,
@@ -165,7 +186,6 @@ fn both_ask<R: Threads + Wait + Clock + Sync>(
     clients: (Asking, Asking),
     mut forgers: Forgers,
     gate: &Held,
-    stop: &Stop,
 ) -> (Option<Answer>, Option<Answer>) {
     let (mut seven, mut eight) = clients;
     let told = thread::join(
@@ -178,11 +198,11 @@ fn both_ask<R: Threads + Wait + Clock + Sync>(
             told
         },
     );
-    stop.ask();
+    gate.stop.ask();
     told
 }
 
-// The balance that a client is told. What is forged comes just before its query, and so before the answer.
+// Returns the balance. Forged messages come just before the query, and so before the answer.
 fn asks(
     alloc: Global,
     driver: &mut Asking,

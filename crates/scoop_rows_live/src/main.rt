@@ -70,13 +70,7 @@ fn plays_case<R: Threads + Wait + Clock + Net + Sync>(
 ) -> Result<(), Bad> {
     let alloc = sheet.alloc();
     let roomy = Refusing::new(alloc, 0);
-    let mut nodes = Nodes {
-        alloc,
-        heap,
-        roomy: &roomy,
-        opened: None,
-        fed: Vec::new(alloc),
-    };
+    let mut nodes = Nodes::new(alloc, heap, &roomy);
     let mut rows = Rows::new(alloc, case, heap);
     let (mut shown, mut answer) = (Vec::new(alloc), Vec::new(alloc));
     for _ in 0..u64::MAX {

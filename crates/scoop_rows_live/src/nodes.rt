@@ -31,18 +31,19 @@ use std::alloc::Global;
 use std::io::Write;
 use std::net::Net;
 use std::sync::Wait;
-use std::thread;
 use std::thread::Threads;
 use std::time::Clock;
+use std::{mem, thread};
 
 pub const ONE: HandlerId = HandlerId(1);
 
 pub const TWO: HandlerId = HandlerId(2);
 
-type HeapNode<'a> = Node<Table, FailingKeeper<MemoryKeeper<Heap<'a>>>, Heap<'a>>;
+/// A node of a row.
+pub type HeapNode<'a> = Node<Table, FailingKeeper<MemoryKeeper<Heap<'a>>>, Heap<'a>>;
 
-/// A node with its passes.
-pub type Opened<'a> = (HeapNode<'a>, Vec<Pass<Heap<'a>>, Heap<'a>>);
+/// The passes of a node.
+pub type Passes<'a> = Vec<Pass<Heap<'a>>, Heap<'a>>;
 
 /// A node with its passes, and the messages for its loop, a line each.
 #[derive(Drop)]
@@ -50,11 +51,23 @@ pub struct Nodes<'a> {
     pub alloc: Global,
     pub heap: Heap<'a>,
     pub roomy: Heap<'a>,
-    pub opened: Option<Opened<'a>>,
+    pub node: Option<HeapNode<'a>>,
+    pub passes: Passes<'a>,
     pub fed: Vec<u8>,
 }
 
 impl<'a> Nodes<'a> {
+    pub fn new(alloc: Global, heap: Heap<'a>, roomy: Heap<'a>) -> Nodes<'a> {
+        Nodes {
+            alloc,
+            heap,
+            roomy,
+            node: None,
+            passes: Vec::new(roomy),
+            fed: Vec::new(alloc),
+        }
+    }
+
     fn opens(&mut self, heap: Heap<'a>, line: &[u8], answer: &mut Vec<u8>) -> Result<(), Bad> {
         let (passes, line) = first(line)?;
         let mut limit = setting(line, "limit", u32::MAX)? as usize;
@@ -63,8 +76,9 @@ impl<'a> Nodes<'a> {
         }
         let calls = setting(line, "calls", u32::MAX)?;
         match opens(self.alloc, heap, number(passes)?, limit, calls) {
-            Ok(opened) => {
-                self.opened = Some(opened);
+            Ok((node, passes)) => {
+                self.node = Some(node);
+                self.passes = passes;
                 tells("ok", answer)
             }
             Err(error) => tells(error, answer),
@@ -73,10 +87,7 @@ impl<'a> Nodes<'a> {
 
     /// Adds how many events each pass has.
     pub fn shows(&self, text: &mut Vec<u8>) -> Result<(), Bad> {
-        let Some((_, passes)) = &self.opened else {
-            return Ok(());
-        };
-        for pass in passes.as_slice() {
+        for pass in self.passes.as_slice() {
             write!(text, "{} ", pass.events().len())?;
         }
         Ok(())
@@ -90,7 +101,7 @@ pub fn opens<'a>(
     passes: u32,
     limit: usize,
     calls: u32,
-) -> Result<Opened<'a>, OpenError>
+) -> Result<(HeapNode<'a>, Passes<'a>), OpenError>
     requires { limit ≤ MAX_HISTORY }
 {
     let Ok(handlers) = objects(alloc, DemoClass::Account, &[ONE, TWO]) else {
@@ -118,7 +129,7 @@ pub fn does<R: Threads + Wait + Clock + Net + Sync>(
             tells("ok", answer)
         }
         b"serve" => serves_tape(rt, nodes, line, answer),
-        b"held" => holds(rt, nodes.roomy, answer),
+        b"held" => holds(rt, answer),
         b"paint" => paints(answer),
         _ => acts(rt, nodes, name, line, answer),
     }
@@ -132,14 +143,14 @@ fn acts<R: Threads + Wait + Sync>(
     line: &[u8],
     answer: &mut Vec<u8>,
 ) -> Result<(), Bad> {
-    let Some((node, passes)) = nodes.opened.as_mut() else {
+    let Some(node) = &nodes.node else {
         return Err(Bad::Command);
     };
     if name == b"work".as_slice() {
-        return both_work(rt, node, passes, answer);
+        return both_work(rt, node, nodes.passes.as_mut_slice(), answer);
     }
     let (at, line) = first(line)?;
-    let Some(pass) = passes.get_mut(number(at)? as usize) else {
+    let Some(pass) = nodes.passes.get_mut(number(at)? as usize) else {
         return Err(Bad::Number);
     };
     match name {
@@ -190,7 +201,10 @@ fn both_work<'a, R: Threads + Wait + Sync>(
     passes: &mut [Pass<Heap<'a>>],
     answer: &mut Vec<u8>,
 ) -> Result<(), Bad> {
-    let [first, second] = passes else {
+    let Some((first, others)) = passes.split_first_mut() else {
+        return Err(Bad::Words);
+    };
+    let Some(second) = others.first_mut() else {
         return Err(Bad::Words);
     };
     let done = thread::join(
@@ -239,10 +253,10 @@ fn closes<R: Wait>(
     line: &[u8],
     answer: &mut Vec<u8>,
 ) -> Result<(), Bad> {
-    let Some((node, passes)) = nodes.opened.take() else {
+    let Some(node) = nodes.node.take() else {
         return Err(Bad::Command);
     };
-    let (given, own) = match last(line) {
+    let given = match last(line) {
         Ok(count) => match opens(
             nodes.alloc,
             nodes.roomy,
@@ -250,15 +264,15 @@ fn closes<R: Wait>(
             MAX_HISTORY,
             u32::MAX,
         ) {
-            Ok((_, others)) => (others, Some(passes)),
+            Ok((_, others)) => others,
             Err(error) => return tells(error, answer),
         },
-        Err(_) => (passes, None),
+        Err(_) => mem::replace(&mut nodes.passes, Vec::new(nodes.roomy)),
     };
     match node.close(rt, given) {
         Ok(_) => tells("ok", answer),
         Err(error) => {
-            nodes.opened = Some((error.node, own.unwrap_or(error.passes)));
+            nodes.node = Some(error.node);
             tells(error.cause, answer)
         }
     }

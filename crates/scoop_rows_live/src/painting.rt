@@ -37,7 +37,7 @@ struct Painter {
     // the node's end
     end: ScriptLink,
     number: ClientId,
-    // what it does to each cell
+    // its call to each cell
     set: Request,
     // blocks that it hasn't begun
     left: u32,
@@ -90,7 +90,7 @@ impl Painter {
         }
     }
 
-    // What its block asks for, and else a turn.
+    // The next call of the block, or a turn while it waits.
     fn calls(&mut self) -> Result<(), DriverError> {
         match self.driver.phase() {
             Phase::Idle if self.left > 0 => {
