@@ -92,7 +92,7 @@ fn asking(alloc: Global, id: ClientId, at: HandlerId, link: UdpLink) -> Result<A
     let Ok(client) = Client::begin(alloc, id, 1, &[at]) else {
         return Err(Bad::Memory);
     };
-    let link = PacedLink::new(alloc, SealedLink::new(link, Key::new(KEY)), 1, 1)?;
+    let link = PacedLink::new(alloc, SealedLink::new(link, Some(Key::new(KEY))), 1, 1)?;
     Ok(Driver::new(client, link, 2_000))
 }
 
@@ -113,7 +113,7 @@ pub fn holds<R: Threads + Wait + Clock + Net + Sync>(
         (Party::Client(EIGHT), eight),
     ];
     let link = udp(rt, alloc, Peers { own: node, table })?;
-    let mut link = SealedLink::new(link, Key::new(KEY));
+    let mut link = SealedLink::new(link, Some(Key::new(KEY)));
     let first = udp(rt, alloc, Peers { own: seven, table })?;
     let second = udp(rt, alloc, Peers { own: eight, table })?;
     let clients = (
@@ -122,7 +122,7 @@ pub fn holds<R: Threads + Wait + Clock + Net + Sync>(
     );
     let bare = udp(rt, alloc, Peers { own: bare, table })?;
     let other = udp(rt, alloc, Peers { own: other, table })?;
-    let forgers = (bare, SealedLink::new(other, Key::new(OTHER_KEY)));
+    let forgers = (bare, SealedLink::new(other, Some(Key::new(OTHER_KEY))));
     one_is_held(rt, &mut link, clients, forgers, answer)?;
     write!(answer, ", {} refused", link.refused())?;
     Ok(())
