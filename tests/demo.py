@@ -76,6 +76,13 @@ def the_demo_shows_its_rounds_at_a_terminal():
 
 
 @test
+def a_demo_whose_output_is_full_ends():
+    with alone():
+        ran = run("-c", 'exec "$0" demo > /dev/full', SCOOP, program="/bin/sh")
+    same("its status and notes", (ran.status, ran.notes), (3, "scoop: write fault\n"))
+
+
+@test
 def the_demo_refuses_numbers_that_are_none():
     same("the status of --rounds x", run("demo", "--rounds", "x").status, 2)
 

@@ -1,10 +1,12 @@
 """Kills at every moment: what was answered stays, and the rest goes on as if nothing had happened."""
 import os
+import pty
 import sqlite3
 import struct
+import subprocess
 import time
 
-from systems import SCOOP, TOP, Ran, System, run, same, test
+from systems import SCOOP, TOP, Ran, System, holds, run, same, test
 
 # A greeting, a lock, an opening, an unlock, a call that sets the cell to 5, a query, its repeat, and the end of the block.
 with open(os.path.join(TOP, "examples", "block.hex")) as _file:
@@ -163,3 +165,19 @@ def sqlite_finds_the_stores_of_killed_and_ended_runs_sound():
             same("a check of the file", database.execute("PRAGMA integrity_check").fetchall(), [("ok",)])
             database.close()
             same("the words after sqlite had it", goes_on(store, []), Ran(0, "words 5\n", ""))
+
+
+@test
+def a_run_whose_output_is_full_says_how_to_go_on():
+    with System({1: (1, "cell", [0])}, {}) as system:
+        ours, theirs = pty.openpty()
+        with open("/dev/full", "wb") as full:
+            words = [SCOOP, "answer", "--new", system.path("full.db")]
+            answer = subprocess.Popen(words, stdin=subprocess.PIPE, stdout=full, stderr=theirs)
+        os.close(theirs)
+        answer.communicate(LINES[0].encode())
+        notes = os.read(ours, 4096).decode()
+        os.close(ours)
+        same("its status", answer.returncode, 3)
+        for wanted in ("scoop: write fault", "hint: ", "--store", "repeat the lines without an answer"):
+            holds(f"it says {wanted!r}", wanted in notes, notes)

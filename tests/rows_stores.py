@@ -19,6 +19,7 @@ class Nodes(System):
     - `stored H` answers the word of a handler in the store.
     - `new` takes another store. `unnamed` removes the text beside the store, which names its owner.
     - `client` makes a store that has no handlers: that of client 7.
+    - `ask` runs client 7 over the store, and answers why it ended.
     - `emptied N` takes a store in an etcd, in which nothing of the handlers stands any more after N loads.
     """
 
@@ -41,6 +42,11 @@ class Nodes(System):
     def do_client(self, _):
         ran = self.asks(7, "", "--new", self.store, "--turns", "1")
         same("a client without a node", (ran.status, first_note(ran)), (3, "link: TurnsOver"))
+
+    def do_ask(self, _):
+        ran = self.asks(7, "", "--store", self.store, "--turns", "1")
+        same("its status", ran.status, 3)
+        return last_note(ran, self.store)
 
     def do_emptied(self, loads):
         self.members.append(Member(Memory(int(loads))))

@@ -17,6 +17,7 @@ BAD = {
     "bytes": (bytes(range(256)), b"HTTP/1.1 400"),
     "another path": (b"GET /etc/passwd HTTP/1.1\r\nHost: h\r\n\r\n", b"HTTP/1.1 404"),
     "another method": (b"DELETE / HTTP/1.1\r\nHost: h\r\n\r\n", b"HTTP/1.1 405"),
+    "another method of another page": (b"DELETE /metrics HTTP/1.1\r\nHost: h\r\n\r\n", b"HTTP/1.1 405"),
     "a body": (b"POST / HTTP/1.1\r\nHost: h\r\nContent-Length: 5\r\n\r\nhello", b"HTTP/1.1 4"),
     "a long head": (b"GET / HTTP/1.1\r\nX: " + b"a" * 100_000, b"HTTP/1.1 4"),
     "a long path": (b"GET /" + b"a" * 100_000 + b" HTTP/1.1\r\n\r\n", b"HTTP/1.1 4"),

@@ -4,7 +4,7 @@ import os
 import socket
 import struct
 
-from systems import Relay, System, equal_to, holds, run, same, test, until
+from systems import Relay, System, equal_to, free_ports, holds, run, same, test, until
 
 LINES = "reserve 1\ncall 1 set 5\nquery 1 get\nend\n"
 HEAD = '[system]\nname = "bank"\nlife = 1\n'
@@ -160,3 +160,15 @@ def a_store_without_its_text_goes_on_with_a_note():
         wanted = f"scoop: {store}.system: it was missing, and names the store's owner from now on\n"
         holds(f"it says {wanted!r}", wanted in system.serving.notes(), system.serving.notes())
         system.is_answered(system.file("client", 7))
+
+
+@test
+def a_store_that_another_program_has_open_is_refused():
+    with Sealed() as system:
+        system.serves(system.file("node", 1))
+        # Its own addresses are in use too, so the second node has others.
+        system.ports["node", 1], system.statuses[1] = free_ports(1), free_ports(1)[0]
+        ran = run(*system.words("node", 1, [])[1:])
+        same("the status and output of a second node", ran.result, (3, ""))
+        for wanted in ("scoop: store: Refused\n", "has it open", "end that one"):
+            holds(f"it says {wanted!r}", wanted in ran.notes, ran.notes)
