@@ -1,5 +1,5 @@
 #!/usr/bin/env python3
-"""Tries mutations: python3 bench/mutations.py [--rows] [CRATE ..]
+"""Tries mutations: python3 bench/mutations.py [--rows] [--program NAME] [CRATE ..]
 
 Without --rows, the prover has to refuse those that the gate leaves out, in bench/mutations/CRATE. A gate checks a crate with
 mutations twice, so it tries those of a few cheap crates alone. The script puts the others into crates/CRATE/must-fail, calls
@@ -8,7 +8,8 @@ mutations twice, so it tries those of a few cheap crates alone. The script puts 
 With --rows, it shows which of them rows notice, and which of the gate's own, in must-fail. It compiles the program of rows
 without proof, with all mutations in them (bench/mutants.py), and plays all rows with each. It prints a line for each mutation:
 the first row that it makes wrong, or that no row notices it, or that it can't be chosen. It ends with 1 if rows are wrong
-without a mutation.
+without a mutation. With --program scoop_rows_live it plays the rows of that program. With --program scoop it runs tests of
+processes, half a minute each, so name crates then.
 
 Without names it takes all crates that have mutations.
 """
@@ -28,7 +29,9 @@ import mutants
 
 TOP = pathlib.Path(__file__).resolve().parent.parent
 KEPT = TOP / 'bench' / 'mutations'
-PROGRAM = 'scoop_rows'
+# The programs of rows, and the one of which tests of processes are made.
+PROGRAMS = ['scoop_rows', 'scoop_rows_live', 'scoop']
+TESTS = ['rows', 'leaving', 'status', 'strangers', 'demo', 'kills']
 # A run that takes longer hangs.
 SECONDS = 120
 
@@ -74,8 +77,8 @@ def with_choices(tree, crates):
     return unfit
 
 
-def compiled(crates, folder):
-    """Compiles the program of rows with the mutations of the crates as choices. Returns it, and why some can't be chosen."""
+def compiled(crates, folder, program):
+    """Compiles the program with the mutations of the crates as choices. Returns it, and why some can't be chosen."""
     loader = importlib.machinery.SourceFileLoader('tools_compile', str(TOP / 'tools' / 'compile'))
     tool = importlib.util.module_from_spec(importlib.util.spec_from_loader(loader.name, loader))
     loader.exec_module(tool)
@@ -88,14 +91,23 @@ def compiled(crates, folder):
 
     tool.copy_sources = copy_sources
     tool.without_checks = lambda text: mutants.with_answers(drop(text))
-    out = folder / PROGRAM
-    tool.compile_to(str(out), PROGRAM, tool.kit())
+    out = folder / program
+    tool.compile_to(str(out), program, tool.kit())
     return out, unfit
+
+
+def tested(out, number):
+    """What is wrong with the program's tests under a mutation: the first that fails, or None."""
+    run = subprocess.run([TOP / 'test', '--program', out, *TESTS], env={**os.environ, 'MUTANT': str(number)},
+                         capture_output=True, text=True)
+    return next((line for line in run.stdout.splitlines() if line.startswith('FAILED ')), None)
 
 
 def played(out, number):
     """What is wrong with the rows under a mutation: the first line of their report, or None."""
-    at = TOP / 'crates' / PROGRAM
+    if out.name == 'scoop':
+        return tested(out, number)
+    at = TOP / 'crates' / out.name
     with tempfile.TemporaryDirectory() as room:
         shutil.copytree(at / 'data', room, dirs_exist_ok=True)
         words = (at / 'args').read_text().split()
@@ -115,10 +127,11 @@ def played(out, number):
     return f'status {status}'
 
 
-def noticed(crates):
-    """Prints what rows notice. Returns whether all rows are right without a mutation."""
-    with tempfile.TemporaryDirectory() as folder, ThreadPoolExecutor(os.cpu_count()) as pool:
-        out, unfit = compiled(crates, pathlib.Path(folder))
+def noticed(crates, program):
+    """Prints what the program's rows notice. Returns whether all are right without a mutation."""
+    jobs = 1 if program == 'scoop' else os.cpu_count()
+    with tempfile.TemporaryDirectory() as folder, ThreadPoolExecutor(jobs) as pool:
+        out, unfit = compiled(crates, pathlib.Path(folder), program)
         wrong = played(out, 0)
         if wrong:
             print(f'without a mutation: {wrong}')
@@ -138,6 +151,7 @@ def noticed(crates):
 def main():
     flags = argparse.ArgumentParser(description=__doc__, formatter_class=argparse.RawDescriptionHelpFormatter)
     flags.add_argument('--rows', action='store_true', help='which of them rows notice')
+    flags.add_argument('--program', choices=PROGRAMS, default=PROGRAMS[0], help='whose rows')
     flags.add_argument('crates', nargs='*', metavar='CRATE')
     given = flags.parse_args()
     every = {crate for crate, _ in edits()} if given.rows else {it.name for it in KEPT.iterdir()}
@@ -146,7 +160,7 @@ def main():
         flags.error(f'no mutations are kept for {", ".join(unknown)}; there are some for {", ".join(sorted(every))}')
     crates = set(given.crates) or every
     if given.rows:
-        sys.exit(0 if noticed(crates) else 1)
+        sys.exit(0 if noticed(crates, given.program) else 1)
     sys.exit(0 if all([refused(it) for it in sorted(crates)]) else 1)
 
 
