@@ -109,10 +109,10 @@ class Script:
 
 class Memory:
     """Pairs as an etcd keeps them: each key's value and revision. From the load of a handler after `loads` of them, the handlers are
-    gone."""
+    gone. If it disowns, the owners' tokens are gone after the first put of a handler."""
 
-    def __init__(self, loads):
-        self.loads, self.revision, self.pairs = loads, 1, {}
+    def __init__(self, loads=-1, disowns=False):
+        self.loads, self.disowns, self.revision, self.pairs = loads, disowns, 1, {}
 
     def __call__(self, path, body):
         asked = json.loads(body)
@@ -130,8 +130,11 @@ class Memory:
 
     def load(self):
         if self.loads == 0:
-            self.pairs = {key: pair for key, pair in self.pairs.items() if b"/handlers/" not in key}
+            self.lose(b"/handlers/")
         self.loads -= 1
+
+    def lose(self, part):
+        self.pairs = {key: pair for key, pair in self.pairs.items() if part not in key}
 
     def made(self, asked):
         if not all(map(self.is_so, asked["compare"])):
@@ -140,6 +143,8 @@ class Memory:
         for put in asked["success"]:
             key, value = (base64.b64decode(put["request_put"].get(name, "")) for name in ("key", "value"))
             self.pairs[key] = self.revision, value
+            if self.disowns and b"/handlers/" in key:
+                self.lose(b"/owner/")
         return {"succeeded": True}
 
     def is_so(self, compare):

@@ -1,6 +1,8 @@
 """The commands of nodes.rows and members.rows: a node's store, and parties over the member of an etcd."""
 import os
 import re
+import socket
+import subprocess
 import time
 
 from member import Member, Memory, Script
@@ -9,6 +11,8 @@ from systems import System, free_ports, run, same
 
 # A call over a member may take five seconds.
 LIMIT = 6
+# `Lock 1 7.1.1`, of a client that hasn't greeted.
+LOCK_FRAME = bytes.fromhex("5351010300000001000000070000000100000001000000000000")
 
 
 class Nodes(System):
@@ -16,11 +20,13 @@ class Nodes(System):
 
     - `serve WORD..` makes the store, and serves for one turn a node whose handlers 1, 2 .. are cells with these words. It answers `ok`
       if the node said that it was ready. `resume WORD..` is the same for a node that goes on with the store.
+    - `dropped` serves a node over a new store, which hears a Lock that it drops, and answers why the node ended.
     - `stored H` answers the word of a handler in the store.
     - `new` takes another store. `unnamed` removes the text beside the store, which names its owner.
     - `client` makes a store that has no handlers: that of client 7.
     - `ask` runs client 7 over the store, and answers why it ended.
-    - `emptied N` takes a store in an etcd, in which nothing of the handlers stands any more after N loads.
+    - `emptied N` takes a store in an etcd, in which nothing of the handlers stands any more after N loads. `disowned` takes one in
+      which no owner stands any more after the first put of a handler.
     """
 
     def __init__(self):
@@ -49,7 +55,13 @@ class Nodes(System):
         return last_note(ran, self.store)
 
     def do_emptied(self, loads):
-        self.members.append(Member(Memory(int(loads))))
+        self.takes(Memory(int(loads)))
+
+    def do_disowned(self, _):
+        self.takes(Memory(disowns=True))
+
+    def takes(self, memory):
+        self.members.append(Member(memory))
         self.store = f"etcd://127.0.0.1:{self.members[-1].port}/bank"
 
     def do_serve(self, words):
@@ -64,6 +76,14 @@ class Nodes(System):
         handlers = " ".join(map(str, self.handlers))
         ready = f"node 1 at 127.0.0.1:{self.ports['node', 1][0]}: handlers {handlers}\nnode 1 closed\n"
         return "ok" if ran.result == (0, ready) else last_note(ran, self.store)
+
+    def do_dropped(self, _):
+        self.handlers = {1: (1, "cell", [0])}
+        node = self.begin(self.words("node", 1, ["--new", self.store, "--turns", "1000"]), subprocess.DEVNULL)
+        node.expect("node 1 at ")
+        with socket.socket(socket.AF_INET, socket.SOCK_DGRAM) as out:
+            out.sendto(LOCK_FRAME, ("127.0.0.1", self.ports["node", 1][0]))
+        return last_note(node.end(), self.store)
 
     def do_stored(self, handler):
         return re.search(rf"^handler {handler}: words (\d+)$", run("store", self.store).output, re.M)[1]
