@@ -1,7 +1,9 @@
 """Stores that are lost, changed under a running node, or put back from an old copy: each is noticed, and nothing is made worse."""
+import contextlib
 import os
 import re
 import shutil
+import sqlite3
 import time
 
 from systems import Ran, System, holds, run, same, test
@@ -131,6 +133,21 @@ def a_store_that_is_deleted_late_is_missed_at_the_end():
         system.does()
         os.remove(system.store)
         is_told(node)
+
+
+@test
+def a_damaged_state_has_no_repair():
+    with Cells() as system:
+        node = system.node(1)
+        system.does()
+        node.kill()
+        with contextlib.closing(sqlite3.connect(system.store)) as store:
+            store.execute("UPDATE handlers SET image = x'00' WHERE h = 1")
+            store.commit()
+        ran = run(*system.words("node", 1, [])[1:])
+        same("the status of the node", ran.status, 3)
+        for wanted in ("scoop: store: BadImage 1\n", "hint: ", "changed or damaged", "new stores for all nodes and clients"):
+            holds(f"it says {wanted!r}", wanted in ran.notes, ran.notes)
 
 
 # ---- old copies

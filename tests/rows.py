@@ -15,7 +15,7 @@ from systems import TOP, same, test
 
 FOLDER = os.path.join(TOP, "tests", "rows")
 AREAS = {"running": Running, "reopening": Reopening, "nodes": Nodes, "members": Members}
-ROWS = {"running.rows": 24, "reopening.rows": 1, "nodes.rows": 26, "members.rows": 159}
+ROWS = {"running.rows": 24, "reopening.rows": 1, "nodes.rows": 28, "members.rows": 164}
 
 Case = collections.namedtuple("Case", "area name rows")
 Row = collections.namedtuple("Row", "place command wanted")

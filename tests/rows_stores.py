@@ -24,6 +24,7 @@ class Nodes(System):
     - `stored H` answers the word of a handler in the store.
     - `new` takes another store. `unnamed` removes the text beside the store, which names its owner.
     - `client` makes a store that has no handlers: that of client 7.
+    - `number N` runs a node with this number, which the file lacks, and answers the text.
     - `ask` runs client 7 over the store, and answers why it ended.
     - `emptied N` takes a store in an etcd, in which nothing of the handlers stands any more after N loads. `disowned` takes one in
       which no owner stands any more after the first put of a handler.
@@ -48,6 +49,12 @@ class Nodes(System):
     def do_client(self, _):
         ran = self.asks(7, "", "--new", self.store, "--turns", "1")
         same("a client without a node", (ran.status, first_note(ran)), (3, "link: TurnsOver"))
+
+    def do_number(self, number):
+        path = self.file("node", 1)
+        ran = run("node", number, "--system", path, "--volatile", "--turns", "1")
+        same("its status", ran.status, 1)
+        return first_note(ran).replace(path, "FILE")
 
     def do_ask(self, _):
         ran = self.asks(7, "", "--store", self.store, "--turns", "1")
@@ -99,7 +106,8 @@ class Members(System):
     """The member of an etcd that follows a script. Node 1 of the system has handler 1, and client 7 uses it.
 
     - `answers STATUS BODY`, `tells PART BODY` (to a request that has PART), `cuts-off`, `closes`, `waits MS` and `hangs` (on this
-      request and all after it) add to the script. `body NAME BODY` names a body: `@NAME` stands for it.
+      request and all after it) add to the script. `body NAME BODY` names a body: `@NAME` stands for it. `blank NAME N BODY` does so with
+      N spaces before it.
     - Each command below begins with the script, and clears it. If it ended early, or more was asked, the answer says so.
     - `look` prints what stands under the name `bank`. `look N` does so over N members, of which only the last is there.
     - `create` and `adopt` run node 1 for one turn, over a new store or the old one.
@@ -123,6 +131,10 @@ class Members(System):
     def do_body(self, words):
         name, _, text = words.partition(" ")
         self.bodies[name] = text
+
+    def do_blank(self, words):
+        name, count, text = words.split(" ", 2)
+        self.bodies[name] = " " * int(count) + text
 
     def do_answers(self, words):
         status, _, text = words.partition(" ")
