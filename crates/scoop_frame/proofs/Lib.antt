@@ -4,3 +4,4 @@ pub mod Entries
 pub mod Frames
 pub mod Refusals
 pub mod Exact
+pub mod Places

@@ -9,3 +9,4 @@ pub mod Kind
 pub mod Header
 pub mod Fault
 pub mod Text
+pub mod Peek

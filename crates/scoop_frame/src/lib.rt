@@ -28,6 +28,7 @@ mod header;
 mod kind;
 mod law;
 mod log;
+mod naming;
 mod number;
 mod version;
 
@@ -37,5 +38,6 @@ pub use encoding::encode;
 pub use entry::{MAX_ENTRY, entry_from, entry_to};
 pub use error::FrameError;
 pub use law::{reframed, same_frame};
+pub use naming::{Names, peek};
 pub use number::{u32_at, u64_at};
 pub use version::Version;

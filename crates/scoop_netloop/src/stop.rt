@@ -54,6 +54,11 @@ impl Stop {
         self.asked.store(true, Ordering::SeqCst);
     }
 
+    /// Takes back what was asked, before the next loop.
+    pub fn renew(&self) {
+        self.asked.store(false, Ordering::SeqCst);
+    }
+
     pub(crate) fn is_asked(&self) -> bool {
         self.asked.load(Ordering::SeqCst)
     }

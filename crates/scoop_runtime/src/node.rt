@@ -3,7 +3,7 @@
 ghost use Rattle.std.specs.Prelude.{IfOk};
 ghost use Rattle.scoop_runtime.specs.NodeLives.{GoesFurther, GoesOn, NodeRan};
 
-use crate::ending::{Ending, EndingLink};
+use crate::ending::Ending;
 use crate::objects::Objects;
 use crate::pending::{Resting, open_node, run_all, run_first};
 use crate::plan::{NodePlan, Serving};
@@ -11,7 +11,7 @@ use scoop_errors::PartyError;
 use scoop_keeper::Keeper;
 use scoop_link::Link;
 use scoop_links::PatientLink;
-use scoop_netloop::{OpenGate, ServeEnd, Stop, serve};
+use scoop_netloop::{OpenGate, ServeEnd, serve};
 use scoop_texts::{RuntimeError, print_closed, print_ready, print_reopened};
 use std::alloc::Global;
 use std::io;
@@ -48,9 +48,8 @@ where
     ensures { IfOk result (λ r. GoesFurther K.handlers K.is_honest resting.stood resting.keeper r.1.stood r.1.keeper) }
 {
     let (node, passes) = open_node(alloc, plan, serving, resting)?;
-    let stop = Stop::new();
-    let mut link = EndingLink::new(link, ending, &stop);
-    let (end, passes) = serve(rt, alloc, &node, &mut link, passes, &OpenGate, &stop, turns);
+    let stop = ending.next_stop();
+    let (end, passes) = serve(rt, alloc, &node, link, passes, &OpenGate, stop, turns);
     let end = if node.commit(rt).is_ok() {
         end
     } else {
