@@ -13,4 +13,4 @@ mod opening;
 mod shared;
 
 pub use journaled::{JournaledKeeper, Storage};
-pub use shared::{SharedJournaledKeeper, SharedKeeper};
+pub use shared::SharedJournaledKeeper;

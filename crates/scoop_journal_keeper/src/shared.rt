@@ -12,32 +12,11 @@ use crate::journaled::{Storage, note_run};
 use crate::opening::gather_opening;
 use scoop_handler::{HandlerState, Heard, Note};
 use scoop_journal::{Journal, Line};
-use scoop_keeper::{Keeper, KeeperError};
+use scoop_keeper::{Keeper, KeeperError, SharedKeeper};
 use scoop_message::{ClientId, HandlerId, Message};
 use std::alloc::{Allocator, Global};
 use std::io::Write;
 use std::marker::Model;
-
-/// A keeper of a record that another program may take over. It owns the record until then.
-pub trait SharedKeeper<A: Allocator>: Keeper<A> {
-    ghost use Rattle.std.specs.Prelude.{Result};
-    ghost use Rattle.scoop_keeper.specs.declared.keeper.KeeperError.{KeeperError};
-    ghost use Rattle.scoop_keeper.specs.Keeper.{IsPutError, IsSame, Stays};
-
-    // The relation that an answer gives between the keeper before the call, the result and the keeper after it.
-    ghost confirm_gives: { Self → Result (Unit {0}) KeeperError → Self → Type 0 };
-
-    /// Asks whether the keeper still owns its record.
-    ///
-    /// Refused with nothing changed: `OutOfMemory`; `Refused` if it doesn't, or there is no answer.
-    fn confirm(&mut self) -> Result<(), KeeperError>
-        ensures gives { confirm_gives self.old result self.new }
-        ensures handlers { Self.is_honest self.new → Stays (Self.handlers self.old) (Self.handlers self.new) }
-        ensures outlasting { Self.is_honest self.new → Stays (Self.outlasting self.old) (Self.outlasting self.new) }
-        ensures incarnations { Self.is_honest self.new → IsSame (Self.incarnations self.old) (Self.incarnations self.new) }
-        ensures named { IfErr result IsPutError }
-        ensures honest { Self.is_honest self.new → Self.is_honest self.old };
-}
 
 /// A keeper that writes the journal of a node, and stores by the keeper under it, whose record another program may take over.
 ///

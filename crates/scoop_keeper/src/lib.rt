@@ -26,12 +26,14 @@ mod advice;
 mod failing;
 mod keeper;
 mod memory;
+mod shared;
 mod storing;
 
 pub use advice::memory_advice;
 pub use failing::FailingKeeper;
 pub use keeper::{Keeper, KeeperError};
 pub use memory::MemoryKeeper;
+pub use shared::SharedKeeper;
 pub use storing::{
     JobRefusal, Unfinished, finish_and_store, finish_beside, hear_and_store, hear_beside,
 };

@@ -8,4 +8,3 @@ pub mod ScriptEnd
 pub mod Udp
 pub mod Pace
 pub mod Paced
-pub mod Holding

@@ -1,10 +1,9 @@
 //! Links: ways to send and receive datagrams, none of which is sure to arrive.
 //!
 //! [`Link`] is the contract of every link. [`UdpLink`] carries datagrams over UDP, to addresses that can change
-//! ([`SetsAddress`]), and [`PacedLink`] holds repeated ones back while an earlier one may be on its way. A [`HoldingLink`] sends nothing before it is flushed. The
-//! others are for tests. The two ends of a
-//! [`ScriptLink`] share lanes that drop and double by a script, and a [`TapeLink`] plays datagrams to its user and
-//! records those sent. No send and no receive takes memory.
+//! ([`SetsAddress`]), and [`PacedLink`] holds repeated ones back while an earlier one may be on its way. The others are
+//! for tests. The two ends of a [`ScriptLink`] share lanes that drop and double by a script, and a [`TapeLink`] plays datagrams
+//! to its user and records those sent. No send and no receive takes memory.
 //!
 //! ```
 //! // every third datagram of the client is lost, and every second one comes twice
@@ -26,7 +25,6 @@
 #![tactic(auto)]
 
 mod datagram;
-mod holding_link;
 mod lane;
 mod link;
 mod pace;
@@ -39,9 +37,8 @@ mod tape_link;
 mod udp_link;
 
 pub use datagram::Datagram;
-pub use holding_link::{HoldingLink, MAX_HELD};
 pub use lane::Lane;
-pub use link::{Link, LinkFault};
+pub use link::{Link, LinkFault, MAX_HELD};
 pub use paced_link::{PacedLink, REPEATS};
 pub use party::Party;
 pub use script::Script;

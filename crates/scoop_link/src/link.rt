@@ -7,6 +7,9 @@ use crate::party::Party;
 use scoop_message::limits::BUFFER_LEN;
 use thiserror::Error;
 
+/// The most datagrams that a link holds back until it is flushed.
+pub const MAX_HELD: usize = 64;
+
 /// A send or a receive that failed, and had no other effect.
 #[derive(Clone, Copy, Debug, PartialEq, Eq, Error)]
 #[error("LinkFault")]

@@ -4,7 +4,6 @@ use crate::scripted::LentEtcd;
 use crate::telling::{tell, tell_done};
 use scoop_etcd_stores::FatefulKeeper;
 use scoop_handler::{HandlerState, Heard, Note, Reason};
-use scoop_journal_keeper::SharedKeeper;
 use scoop_keeper::{Keeper, KeeperError};
 use scoop_lines::decimal;
 use scoop_message::{ClientId, HandlerId, Message, Words};

@@ -1,10 +1,9 @@
 //! Links in layers over a tape, and the two ends of a pair.
 
-use scoop_admission::{AdmittingLink, BudgetLink, NoReport};
-use scoop_link::{Datagram, HoldingLink, PacedLink, ScriptLink, TapeLink};
+use scoop_link::{Datagram, PacedLink, ScriptLink, TapeLink};
 use scoop_message::OutOfMemory;
 use scoop_pacing::{MeasuredLink, Times};
-use scoop_recall::RecallingLink;
+use scoop_node_link::{AdmittingLink, BudgetLink, HoldingLink, NoReport, RecallingLink};
 use scoop_row_player::Heap;
 use scoop_seal::SealedLink;
 

@@ -16,7 +16,7 @@ use links::Links;
 use objects::Objects;
 use owners::Owners;
 use queues::Queues;
-use scoop_recall::Changes;
+use scoop_node_link::Changes;
 use scoop_row_player::{Areas, Bad, Case, Heap, Sheet, play_rows};
 use seals::Seals;
 

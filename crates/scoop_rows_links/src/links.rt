@@ -22,16 +22,17 @@
 use crate::bytes::{numbers, put_bytes, read_bytes, tells, told};
 use crate::layers::{Layers, Steps, Tape, tape_of};
 use crate::seals::system_key;
-use scoop_admission::{AdmittingLink, BudgetLink, NoReport};
 use scoop_handler::HandlerState;
 use scoop_keeper::{Keeper, MemoryKeeper};
 use scoop_lines::{decimal, is};
-use scoop_link::{Datagram, HoldingLink, Link, PacedLink, Party, Script, ScriptLink};
+use scoop_link::{Datagram, Link, PacedLink, Party, Script, ScriptLink};
 use scoop_message::limits::BUFFER_LEN;
 use scoop_message::{ClientId, HandlerId, OutOfMemory, Words};
 use scoop_pacing::MeasuredLink;
 use scoop_queue::QueueOfQueues;
-use scoop_recall::{Changes, CountingKeeper, RecallingLink};
+use scoop_node_link::{
+    AdmittingLink, BudgetLink, Changes, CountingKeeper, HoldingLink, NoReport, RecallingLink,
+};
 use scoop_row_player::words::{first, last, number};
 use scoop_row_player::{Bad, Heap, Subject};
 use scoop_seal::SealedLink;

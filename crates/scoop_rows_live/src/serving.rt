@@ -7,7 +7,8 @@
 
 use crate::nodes::{Nodes, opens};
 use scoop_frame::encode;
-use scoop_link::{HoldingLink, TapeLink};
+use scoop_link::TapeLink;
+use scoop_node_link::HoldingLink;
 use scoop_message::HandlerId;
 use scoop_message::limits::{BUFFER_LEN, MAX_HISTORY};
 use scoop_netloop::{Gate, OpenGate, ServeEnd, Stop, serve};

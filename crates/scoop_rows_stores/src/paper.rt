@@ -3,7 +3,6 @@
 ghost use Rattle.std.specs.Prelude.{◌≡◌, IfErr};
 
 use scoop_handler::HandlerState;
-use scoop_journal_keeper::SharedKeeper;
 use scoop_keeper::{Keeper, KeeperError};
 use scoop_message::{ClientId, HandlerId};
 use std::alloc::Global;

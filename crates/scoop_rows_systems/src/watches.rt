@@ -12,7 +12,7 @@
 //! [`crate::shown`] has the commands that show it.
 
 use crate::text::{numbers, read_text, tells, told};
-use scoop_admission::Strangers;
+use scoop_node_link::Strangers;
 use scoop_demo::read_message;
 use scoop_handler::{Handler, Heard, Note};
 use scoop_keeper::{FailingKeeper, Keeper, MemoryKeeper};

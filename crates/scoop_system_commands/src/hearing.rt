@@ -1,11 +1,12 @@
 //! A node that hears the clients of its file alone, each within its budget.
 
-use scoop_admission::{AdmittingLink, BudgetLink, Strangers};
 use scoop_keeper::Keeper;
 use scoop_link::Link;
 use scoop_message::{ClientId, OutOfMemory};
 use scoop_pacing::SystemTimes;
-use scoop_recall::{Changes, CountingKeeper, RecallingLink};
+use scoop_node_link::{
+    AdmittingLink, BudgetLink, Changes, CountingKeeper, RecallingLink, Strangers,
+};
 use scoop_runtime::{Ending, NodePlan, Objects, RuntimeError, Serving, node_run_until};
 use std::alloc::Global;
 use std::io::Write;

@@ -3,7 +3,7 @@
 use crate::ending::{Party, node_end, report_end};
 use crate::hearing::run_hearing;
 use crate::watching::clients_of;
-use scoop_admission::NoReport;
+use scoop_node_link::NoReport;
 use scoop_files::{NamedKeeper, StoreName};
 use scoop_keeper::Keeper;
 use scoop_link::UdpLink;

@@ -15,10 +15,11 @@ use scoop_etcd_place::EtcdPlace;
 use scoop_etcd_stores::{Fate, FatefulKeeper};
 use scoop_files::{FiledStore, NamedKeeper, StoreName, close_named};
 use scoop_journal::{JournalFile, Owner};
-use scoop_journal_keeper::{JournaledKeeper, SharedJournaledKeeper, SharedKeeper, Storage};
-use scoop_keeper::{Keeper, MemoryKeeper};
-use scoop_link::{HoldingLink, Link, UdpLink};
+use scoop_journal_keeper::{JournaledKeeper, SharedJournaledKeeper, Storage};
+use scoop_keeper::{Keeper, MemoryKeeper, SharedKeeper};
+use scoop_link::{Link, UdpLink};
 use scoop_message::{HandlerId, OutOfMemory};
+use scoop_node_link::HoldingLink;
 use scoop_record::{GatheringStore, Store};
 use scoop_report::{Hints, Status, hint, report};
 use scoop_runtime::{

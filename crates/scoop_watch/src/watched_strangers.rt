@@ -1,7 +1,7 @@
 //! Watched frames of unknown clients.
 
 use crate::watch::Watch;
-use scoop_admission::Strangers;
+use scoop_node_link::Strangers;
 use scoop_message::{ClientId, HandlerId};
 use std::sync::Wait;
 

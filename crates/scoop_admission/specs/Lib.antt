@@ -1,4 +1,0 @@
-pub mod Taking
-pub mod Admission
-pub mod Budget
-pub use Rattle.scoop_link.specs.Link

@@ -1,0 +1,3 @@
+mod Releasing
+mod Taking
+mod Recalling

@@ -1,2 +1,0 @@
-pub mod Recall
-pub use Rattle.scoop_link.specs.Link
