@@ -1,33 +1,51 @@
--- How what was taken is put together.
-use Rattle.std.proofs.Common.{◌≡◌, ℕ, List, [], ◌∷◌, ◌++◌, Option, true, refl, sym, subst, ◌∙◌}
-use Rattle.std.proofs.lemmas.List.{append-nil}
+-- The datagrams of several receives, one after another.
+use Rattle.std.proofs.Common.{◌≡◌, ℕ, List, [], ◌∷◌, ◌++◌, map, fold, Option, true, refl, sym, subst, ap, ◌∙◌}
+use Rattle.std.proofs.lemmas.List.{append-nil, map-append}
 use Rattle.std.proofs.lemmas.List.Folds.{list_all-append}
+use Rattle.std.proofs.lemmas.List.Sums.{fold-append}
 use Rattle.scoop_link.specs.Link.{Told, Exchanges}
 use Rattle.scoop_link.proofs.Exchanges.{exchanges_nothing, exchanges-append}
-use Rattle.scoop_links.specs.declared.news_link.Talk.{Talk}
-use Rattle.scoop_links.specs.News.{TakesBehind, is_old_to}
+use Rattle.scoop_links.specs.Client.{Arrival, ClientValue, Takes, TakesBehind, bytes_of, heard_by, roads_after, pacing_hearing, sender_in}
+use Rattle.scoop_links.specs.Roads.{heard_from}
+use Rattle.scoop_links.specs.Talks.{is_old_to}
 
-pub takes_nothing : (talks : List Talk) (a : Option Told) → TakesBehind talks a a []
-takes_nothing talks a = record { over = []; are_old = refl; exchanges = exchanges_nothing a }
-
-joined : (a b c : Option Told) (over taken : List (List ℕ)) → Exchanges a b (over ++ []) [] → Exchanges b c taken [] → Exchanges a c (over ++ taken) []
-joined a b c over taken first second =
-    subst (λ xs. Exchanges a c (xs ++ taken) []) (append-nil over) (exchanges-append a b c (over ++ []) taken [] [] first second)
-
--- these were taken next
-pub takes_then : (talks : List Talk) (a b c : Option Told) (taken : List (List ℕ)) → TakesBehind talks a b [] → Exchanges b c taken []
-    → TakesBehind talks a c taken
-takes_then talks a b c taken so_far next = record {
-  over = so_far.over;
-  are_old = so_far.are_old;
-  exchanges = joined a b c so_far.over taken so_far.exchanges next;
+-- nothing came yet
+pub takes_nothing : {L C : Type 0} (told : L → Option Told) (a : ClientValue L C) → TakesBehind told a a []
+takes_nothing told a = record {
+  over = [];
+  are_old = refl;
+  takes = record { exchanges = exchanges_nothing (told a.inner); roads = refl; pacing = refl };
 }
 
--- a reply that is no news was taken next, and is passed over
-pub takes_old : (talks : List Talk) (a b c : Option Told) (d : List ℕ) → TakesBehind talks a b [] → Exchanges b c (d ∷ []) []
-    → is_old_to talks d ≡ true → TakesBehind talks a c []
-takes_old talks a b c d so_far next is_old = record {
-  over = so_far.over ++ d ∷ [];
-  are_old = list_all-append (is_old_to talks) so_far.over (d ∷ []) ∙ rw so_far.are_old (rw is_old refl);
-  exchanges = subst (λ xs. Exchanges a c xs []) (sym (append-nil (so_far.over ++ d ∷ []))) (joined a b c so_far.over (d ∷ []) so_far.exchanges next);
+-- these came, and then those
+pub takes_both : {L C : Type 0} (told : L → Option Told) (a b c : ClientValue L C) (xs ys : List Arrival)
+    → Takes told a b xs → Takes told b c ys → Takes told a c (xs ++ ys)
+takes_both told a b c xs ys first second = record {
+  exchanges = subst (λ bs. Exchanges (told a.inner) (told c.inner) bs []) (sym (map-append (λ (x : Arrival). x.bytes) xs ys))
+      (exchanges-append (told a.inner) (told b.inner) (told c.inner) (bytes_of xs) (bytes_of ys) [] [] first.exchanges second.exchanges);
+  roads = second.roads ∙ ap (λ r. roads_after r ys) first.roads ∙ sym (fold-append (λ r (x : Arrival). heard_from r x.origin) a.roads xs ys);
+  pacing = second.pacing ∙ ap (λ p. pacing_hearing p ys) first.pacing
+      ∙ sym (fold-append (λ p (x : Arrival). heard_by p x.time (sender_in x.bytes)) a.pacing xs ys);
+}
+
+over_alone : {L C : Type 0} (told : L → Option Told) (a b : ClientValue L C) (so_far : TakesBehind told a b []) → Takes told a b so_far.over
+over_alone told a b so_far = subst (Takes told a b) (append-nil so_far.over) so_far.takes
+
+-- these came next
+pub takes_then : {L C : Type 0} (told : L → Option Told) (a b c : ClientValue L C) (came : List Arrival)
+    → TakesBehind told a b [] → Takes told b c came → TakesBehind told a c came
+takes_then told a b c came so_far next = record {
+  over = so_far.over;
+  are_old = so_far.are_old;
+  takes = takes_both told a b c so_far.over came (over_alone told a b so_far) next;
+}
+
+-- a stale reply came next
+pub takes_old : {L C : Type 0} (told : L → Option Told) (a b c : ClientValue L C) (x : Arrival)
+    → TakesBehind told a b [] → Takes told b c (x ∷ []) → is_old_to a.talks x.bytes ≡ true → TakesBehind told a c []
+takes_old told a b c x so_far next is_old = record {
+  over = so_far.over ++ x ∷ [];
+  are_old = list_all-append (λ (y : Arrival). is_old_to a.talks y.bytes) so_far.over (x ∷ []) ∙ rw so_far.are_old (rw is_old refl);
+  takes = subst (Takes told a c) (sym (append-nil (so_far.over ++ x ∷ [])))
+      (takes_both told a b c so_far.over (x ∷ []) (over_alone told a b so_far) next);
 }

@@ -1,5 +1,5 @@
--- A link whose handlers stand at one of several addresses, and when it turns to the next one.
-use Rattle.std.specs.Prelude.{◌≡◌, ℕ, ◌+◌, ◌-◌, ◌==◌, nat_lt, flat_map, List, [], ◌∷◌, length, map, find, position, bytes_eq, if◌then◌else◌, Option, Some, None, Result, Ok, Err}
+-- The roads to handlers whose nodes stand at one of several addresses, and when a road turns to the next one.
+use Rattle.std.specs.Prelude.{◌≡◌, ℕ, ◌+◌, ◌-◌, ◌==◌, nat_lt, flat_map, List, [], ◌∷◌, length, map, find, position, bytes_eq, if◌then◌else◌, Option, Some, None}
 use Rattle.std.specs.List.{slice_get}
 use Rattle.std.specs.Option.{option_and_then}
 use Rattle.std.specs.declared.net.socket_addr.SocketAddr.{SocketAddr}
@@ -7,14 +7,13 @@ use Rattle.scoop_message.specs.declared.name.HandlerId.{HandlerId}
 use Rattle.scoop_message.specs.Message.{same_handler}
 use Rattle.scoop_link.specs.declared.party.Party.{Party}
 use Rattle.scoop_link.specs.declared.party.Party.TheVariants.{Handler, Client}
-use Rattle.scoop_link.specs.declared.link.LinkFault.{LinkFault}
 use Rattle.scoop_link.specs.Link.{Datagrams, Told, Exchanges}
 use Rattle.scoop_link.specs.Udp.{Address, address_of, moved_all}
 use Rattle.scoop_system.specs.Address.{same_address}
 use Rattle.scoop_system.specs.declared.place.NodePlace.{NodePlace}
 use Rattle.scoop_system.specs.declared.place.HandlerPlace.{HandlerPlace}
-use Rattle.scoop_links.specs.declared.turning_link.Road.{Road}
-use Rattle.scoop_links.specs.declared.turning_link.TheConstants.{TIMEOUTS}
+use Rattle.scoop_links.specs.declared.roads.Road.{Road}
+use Rattle.scoop_links.specs.declared.roads.TheConstants.{TIMEOUTS}
 
 -- the road to a handler before anything is sent, at the first address
 abbrev pub fresh_road : HandlerId → List SocketAddr → Road
@@ -46,18 +45,15 @@ heard_at r (Some place) = record r { at = place; unanswered = []; timeouts = 0 }
 abbrev pub heard : SocketAddr → Road → Road
 heard from r = heard_at r (position (λ own. same_address own from) r.addresses)
 
-abbrev pub after_send : List Road → Party → List ℕ → List Road
-after_send roads (Handler h) datagram = map (asked h datagram) roads
-after_send roads (Client c) datagram = roads
+-- the roads after a datagram to a party
+abbrev pub roads_after_send : List Road → Party → List ℕ → List Road
+roads_after_send roads (Handler h) datagram = map (asked h datagram) roads
+roads_after_send roads (Client c) datagram = roads
 
+-- the roads after a datagram that came from this address
 abbrev pub heard_from : List Road → Option SocketAddr → List Road
 heard_from roads None = roads
 heard_from roads (Some from) = map (heard from) roads
-
-abbrev pub after_receive : List Road → Result (Option ℕ) LinkFault → Option SocketAddr → List Road
-after_receive roads (Ok (Some n)) from = heard_from roads from
-after_receive roads (Ok None) from = roads
-after_receive roads (Err fault) from = roads
 
 -- the current address on the road to a party, if it has one
 abbrev pub address_on : List Road → Party → Option SocketAddr
@@ -75,11 +71,6 @@ pub record SendsAt {L : Type 0} (addresses : L → List (Party × Address)) (tol
   pub at_it : addresses set ≡ set_to at to (addresses old)
   pub sent : Exchanges (told set) (told new) [] gone
 
--- the link below, and the road to each handler whose node has several addresses
-pub record TurningValue (L : Type 0) : Type 0 where
-  pub inner : L
-  pub roads : List Road
-
 abbrev pub road_to : HandlerPlace → Option NodePlace → List Road
 road_to h None = []
 road_to h (Some n) = if nat_lt 1 (length n.addresses) then fresh_road h.handler n.addresses ∷ [] else []
@@ -91,6 +82,3 @@ road_among nodes h = road_to h (find (λ n. n.number == h.node) nodes)
 -- the roads to these handlers, in their order
 abbrev pub roads_to : List NodePlace → List HandlerPlace → List Road
 roads_to nodes handlers = flat_map (road_among nodes) handlers
-
-abbrev pub turning : {L : Type 0} → L → List Road → TurningValue L
-turning inner roads = record { inner = inner; roads = roads }

@@ -1,7 +1,7 @@
--- Stale replies, and the state of a link that drops them.
-use Rattle.std.specs.Prelude.{◌≡◌, ℕ, not, ◌&&◌, Bool, false, List, [], map, ◌++◌, bytes_eq, IsTrue, IsFalse, Option, Some, None, Result, Ok, Err}
+-- The talks with handlers, and which replies are stale.
+use Rattle.std.specs.Prelude.{◌≡◌, ℕ, not, ◌&&◌, Bool, false, List, [], map, bytes_eq, IsFalse, Option, Some, None}
 use Rattle.std.specs.Prelude.{if◌then◌else◌}
-use Rattle.std.specs.List.{list_any, list_all}
+use Rattle.std.specs.List.{list_any}
 use Rattle.scoop_message.specs.declared.name.HandlerId.{HandlerId}
 use Rattle.scoop_message.specs.declared.message.Message.{Message}
 use Rattle.scoop_message.specs.Message.{handler_of, same_handler}
@@ -9,10 +9,9 @@ use Rattle.scoop_frame.specs.declared.version.Version.{Version}
 use Rattle.scoop_frame.specs.Frame.{IsFrame}
 use Rattle.scoop_link.specs.declared.party.Party.{Party}
 use Rattle.scoop_link.specs.declared.party.Party.TheVariants.{Handler, Client}
-use Rattle.scoop_link.specs.declared.link.LinkFault.{LinkFault}
 use Rattle.scoop_link.specs.Datagram.{kept}
-use Rattle.scoop_link.specs.Link.{Told, Exchanges}
-use Rattle.scoop_links.specs.declared.news_link.Talk.{Talk}
+use Rattle.scoop_system.specs.declared.place.HandlerPlace.{HandlerPlace}
+use Rattle.scoop_links.specs.declared.talks.Talk.{Talk}
 
 -- The reply repeats the handler's last one, though the datagram was not sent again since.
 abbrev pub is_old : Talk → List ℕ → Bool
@@ -25,6 +24,10 @@ is_old_to talks reply = list_any (λ t. is_old t reply) talks
 abbrev pub fresh_talk : HandlerId → Talk
 fresh_talk h = record { handler = h; asked = []; heard = []; again = false }
 
+-- the talks with these handlers before anything is sent
+abbrev pub fresh_talks : List HandlerPlace → List Talk
+fresh_talks handlers = map (λ h. fresh_talk h.handler) handlers
+
 -- a talk after a datagram was sent to its handler
 abbrev pub asked : HandlerId → List ℕ → Talk → Talk
 asked h datagram t =
@@ -34,15 +37,15 @@ asked h datagram t =
 abbrev pub heard : HandlerId → List ℕ → Talk → Talk
 heard h reply t = if same_handler t.handler h then record t { heard = reply; again = false } else t
 
-abbrev pub after_send : List Talk → Party → List ℕ → Result (Unit {0}) LinkFault → List Talk
-after_send talks (Handler h) datagram (Ok done) = map (asked h datagram) talks
-after_send talks (Handler h) datagram (Err fault) = talks
-after_send talks (Client c) datagram (Ok done) = talks
-after_send talks (Client c) datagram (Err fault) = talks
+-- the talks after a datagram was sent to a party
+abbrev pub talks_after_send : List Talk → Party → List ℕ → List Talk
+talks_after_send talks (Handler h) datagram = map (asked h datagram) talks
+talks_after_send talks (Client c) datagram = talks
 
-abbrev pub after_hearing : List Talk → Option HandlerId → List ℕ → List Talk
-after_hearing talks None reply = talks
-after_hearing talks (Some h) reply = map (heard h reply) talks
+-- the talks after a reply of this sender was passed on
+abbrev pub talks_after_reply : List Talk → Option HandlerId → List ℕ → List Talk
+talks_after_reply talks None reply = talks
+talks_after_reply talks (Some h) reply = map (heard h reply) talks
 
 -- The sender of a reply: the handler that it names, and none if the bytes are no frame.
 abbrev pub Sends : Option HandlerId → List ℕ → Type 0
@@ -54,15 +57,4 @@ pub record IsNews (old new : List Talk) (reply : List ℕ) : Type 0 where
   pub is_new : IsFalse (is_old_to old reply)
   pub sender : Option HandlerId
   pub sends : Sends sender reply
-  pub noted : new ≡ after_hearing old sender (kept reply)
-
--- A link that records its datagrams took stale replies, and then these datagrams.
-pub record TakesBehind (talks : List Talk) (before after : Option Told) (taken : List (List ℕ)) : Type 0 where
-  pub over : List (List ℕ)
-  pub are_old : IsTrue (list_all (is_old_to talks) over)
-  pub exchanges : Exchanges before after (over ++ taken) []
-
--- the link below, and the talk with each handler
-pub record NewsValue (L : Type 0) : Type 0 where
-  pub inner : L
-  pub talks : List Talk
+  pub noted : new ≡ talks_after_reply old sender (kept reply)

@@ -1,18 +1,17 @@
-//! A link that turns to the next address of a node that doesn't reply.
+//! The roads to handlers whose nodes stand at one of several addresses.
 
-ghost use Rattle.std.specs.Prelude.{◌≡◌, ◌≤◌, ◌++◌, [], find, map, position, IfOk, IfSome, OnOk};
+ghost use Rattle.std.specs.Prelude.{◌≡◌, ◌++◌, [], find, map, position, IfOk, OnOk};
 ghost use Rattle.std.specs.Option.{option_copied};
 ghost use Rattle.scoop_message.specs.Message.{same_handler};
 ghost use Rattle.scoop_link.specs.Datagram.{kept};
-ghost use Rattle.scoop_link.specs.Link.{CountsFault, Exchanges, sent_by, taken_by};
+ghost use Rattle.scoop_link.specs.Link.{CountsFault, Exchanges, sent_by};
 ghost use Rattle.scoop_system.specs.Address.{same_address};
-ghost use Rattle.scoop_links.specs.Turning.{SendsAt, address_on, after_receive, after_send, asked, asked_now, current, fresh_road, heard, heard_from, next_place, road_among, roads_to, set_to, timed_out, turning};
+ghost use Rattle.scoop_links.specs.Roads.{SendsAt, address_on, asked, asked_now, current, fresh_road, heard, heard_from, next_place, road_among, roads_after_send, roads_to, set_to, timed_out};
 
-use scoop_link::{Datagram, Link, LinkFault, Party, SetsAddress};
-use scoop_message::limits::BUFFER_LEN;
+use scoop_link::{Datagram, LinkFault, Party, SetsAddress};
 use scoop_message::{HandlerId, OutOfMemory};
 use scoop_system::{HandlerPlace, NodeAddresses, System};
-use std::alloc::Global;
+use std::alloc::Allocator;
 use std::marker::Model;
 use std::net::SocketAddr;
 
@@ -136,10 +135,10 @@ fn hear_all(roads: &mut [Road], from: SocketAddr)
 }
 
 // Adds the roads to these handlers.
-fn add_roads(
+fn add_roads<A: Allocator>(
     system: &System,
     handlers: &[HandlerPlace],
-    roads: &mut Vec<Road>,
+    roads: &mut Vec<Road, A>,
 ) -> Result<(), OutOfMemory>
     ensures { OnOk result (roads.new.items ≡ roads.old.items ++ roads_to system.now.nodes handlers.now) }
 {
@@ -153,8 +152,12 @@ fn add_roads(
 }
 
 // Adds the road to a handler, if its node has several addresses.
-#[tactic(auto, unfolding(crate::specs::Turning::road_among))]
-fn add_road(system: &System, place: &HandlerPlace, roads: &mut Vec<Road>) -> Result<(), OutOfMemory>
+#[tactic(auto, unfolding(crate::specs::Roads::road_among))]
+fn add_road<A: Allocator>(
+    system: &System,
+    place: &HandlerPlace,
+    roads: &mut Vec<Road, A>,
+) -> Result<(), OutOfMemory>
     ensures { OnOk result (roads.new.items ≡ roads.old.items ++ road_among system.now.nodes place.now) }
 {
     match system.node(place.node) {
@@ -199,78 +202,67 @@ fn point<L: SetsAddress>(inner: &mut L, to: Party, address: Option<SocketAddr>)
     }
 }
 
-/// A client's link to nodes, each of which stands at one of several addresses. It sends to the current address. A repeated
-/// datagram is a timeout if none came from the node since. After three in a row the link turns to the node's next address, and
-/// after the last to the first. An address from which a datagram comes is the node's current one.
-///
-/// The link that decides when to repeat a datagram stands around this one, and a seal within, so that no forged datagram turns it.
-/// Contracts see the link below it, and the road to each handler.
+/// The roads to the handlers whose nodes have several addresses. Datagrams go to a road's current address. A repeated datagram is a
+/// timeout if none came from the node since. After three in a row the road turns to the node's next address, and after the last to
+/// the first. An address from which a datagram comes is the node's current one. Contracts see the road to each handler.
 #[derive(Drop)]
-pub struct TurningLink<L> {
-    inner: L,
-    roads: Vec<Road>,
+pub(crate) struct Roads<A: Allocator> {
+    roads: Vec<Road, A>,
 }
 
-impl<L> Model for TurningLink<L> {
-    ghost use Rattle.scoop_links.specs.Turning.{TurningValue};
+impl<A: Allocator> Model for Roads<A> {
+    ghost use Rattle.std.specs.Prelude.{List};
+    ghost use Rattle.scoop_links.specs.declared.roads.Road.{Road};
 
-    ghost Value = { TurningValue L };
+    ghost Value = { List Road };
 
-    ghost view = { λ t. record { inner = t.inner; roads = t.roads.items } };
+    ghost view = { λ r. r.roads.items };
 }
 
-impl<L: SetsAddress> TurningLink<L> {
-    /// The link to the handlers of this system. It sends to other parties, and to handlers whose node has one address, as the link
-    /// below does. `OutOfMemory` means that the memory was refused.
-    pub fn new(alloc: Global, inner: L, system: &System) -> Result<TurningLink<L>, OutOfMemory>
-        ensures { IfOk result (λ t. t ≡ turning inner (roads_to system.now.nodes system.now.handlers)) }
+impl<A: Allocator> Roads<A> {
+    /// The roads to the handlers of this system.
+    pub(crate) fn new(alloc: A, system: &System) -> Result<Roads<A>, OutOfMemory>
+        ensures { IfOk result (λ r. r ≡ roads_to system.now.nodes system.now.handlers) }
     {
         let mut roads = Vec::new(alloc);
         match add_roads(system, system.handlers(), &mut roads) {
-            Ok(()) => Ok(TurningLink { inner, roads }),
+            Ok(()) => Ok(Roads { roads }),
             Err(error) => Err(error),
         }
     }
-}
 
-impl<L: SetsAddress> Link for TurningLink<L> {
-    ghost told = { λ t. L.told t.inner };
-
-    ghost fault_count = { λ t. L.fault_count t.inner };
-
-    fn send(&mut self, to: Party, bytes: &[u8]) -> Result<(), LinkFault>
-        ensures faults { CountsFault result (L.fault_count self.old.inner) (L.fault_count self.new.inner) }
-        ensures told { Exchanges (L.told self.old.inner) (L.told self.new.inner) [] (sent_by result to bytes.now) }
-
-        ensures asked { self.new.roads ≡ after_send self.old.roads to (kept bytes.now) }
-        ensures sent { SendsAt L.addresses L.told self.old.inner self.new.inner (address_on self.new.roads to) to (sent_by result to bytes.now) }
+    // Records a datagram to a party.
+    fn ask(&mut self, to: Party, bytes: &[u8])
+        ensures { self.new ≡ roads_after_send self.old to (kept bytes.now) }
     {
         if let Party::Handler(handler) = to {
             ask_all(&mut self.roads, handler, bytes);
         }
-        point(&mut self.inner, to, address_on(&self.roads, to));
-        self.inner.send(to, bytes)
     }
 
-    fn receive(&mut self, buffer: &mut [u8; BUFFER_LEN]) -> Result<Option<usize>, LinkFault>
-        ensures in_bounds { IfOk result (λ got. IfSome got (λ n. n ≤ BUFFER_LEN)) }
-        ensures faults { CountsFault result (L.fault_count self.old.inner) (L.fault_count self.new.inner) }
-        ensures told { Exchanges (L.told self.old.inner) (L.told self.new.inner) (taken_by result buffer.new) [] }
-
-        ensures heard { self.new.roads ≡ after_receive self.old.roads result (L.came_from self.new.inner) }
+    /// Sends by this link to the party's current address. To a party without a road it sends as the link does.
+    pub(crate) fn send<L: SetsAddress>(
+        &mut self,
+        inner: &mut L,
+        to: Party,
+        bytes: &[u8],
+    ) -> Result<(), LinkFault>
+        ensures asked { self.new ≡ roads_after_send self.old to (kept bytes.now) }
+        ensures faults { CountsFault result (L.fault_count inner.old) (L.fault_count inner.new) }
+        ensures told { Exchanges (L.told inner.old) (L.told inner.new) [] (sent_by result to bytes.now) }
+        ensures sent { SendsAt L.addresses L.told inner.old inner.new (address_on self.new to) to (sent_by result to bytes.now) }
     {
-        match self.inner.receive(buffer) {
-            Ok(Some(len)) => {
-                if let Some(from) = self.inner.origin() {
-                    hear_all(&mut self.roads, from);
-                }
-                Ok(Some(len))
-            }
-            got => got,
-        }
+        self.ask(to, bytes);
+        point(inner, to, address_on(&self.roads, to));
+        inner.send(to, bytes)
     }
 
-    fn faults(&self) -> u64 {
-        self.inner.faults()
+    /// Records a datagram that came from this address.
+    pub(crate) fn hear(&mut self, from: Option<SocketAddr>)
+        ensures { self.new ≡ heard_from self.old from }
+    {
+        if let Some(from) = from {
+            hear_all(&mut self.roads, from);
+        }
     }
 }

@@ -1,41 +1,22 @@
-//! A link that reports the handlers that a client waits for.
+//! The handlers that a client waits for, and the report on them.
 
-ghost use Rattle.std.specs.Prelude.{◌≡◌, ◌≤◌, ◌++◌, ◌∷◌, [], None, IfOk, IfSome, OnOk};
+ghost use Rattle.std.specs.Prelude.{◌≡◌, ◌≤◌, ◌++◌, ◌∷◌, IfOk, OnOk, vec_len, vec_capacity};
 ghost use Rattle.std.specs.Io.KnownBytes.{Appends};
-ghost use Rattle.scoop_link.specs.Link.{CountsFault, Exchanges, sent_by, taken_by};
-ghost use Rattle.scoop_links.specs.Waiting.{Says, awaited_of, greets, refuses_lock};
+ghost use Rattle.scoop_link.specs.Datagram.{kept};
+ghost use Rattle.scoop_links.specs.Waits.{Awaits, Reports, Says, asked_too, asking_none, awaited_of, fresh_waits, greets, is_asked, is_due, refuses_lock, waits_after_hearing, waits_after_send, waits_after_silence};
 ghost use Rattle.scoop_links.specs.Texts.{awaited_advice, awaited_text, waiting_text};
 
 use crate::numbers::print_numbers;
 use scoop_frame::decode;
-use scoop_link::{Datagram, Link, LinkFault, Party};
-use scoop_message::limits::BUFFER_LEN;
+use scoop_link::{Datagram, Party};
 use scoop_message::{HandlerId, Message, OutOfMemory};
-use std::alloc::Global;
+use std::alloc::Allocator;
 use std::io;
 use std::io::Write;
 use std::marker::Model;
 
-// The link reports after this many empty polls without news between them. Over UDP they take 0.4 to 0.8 seconds.
+// A client reports after this many empty polls without news between them. Over UDP they take 0.4 to 0.8 seconds.
 const PATIENCE: u32 = 100;
-
-/// A client's link that reports the handlers that the client waits for: those to which it sent since its last receive.
-/// It reports them after a hundred empty polls without news between them; over UDP that takes less than a second. A
-/// datagram that repeats the last one is no news. So the link also reports a handler that repeats the same reply, for
-/// example because another client's block stands in front. It distinguishes such a handler from one that sends nothing.
-/// It reports once until news comes. A report that can't be written is lost. Contracts see the link below it. It
-/// doesn't record its datagrams.
-#[derive(Drop)]
-pub struct WaitingLink<L: Link, E: Write + Drop> {
-    inner: L,
-    notes: E,
-    asked: Vec<HandlerId>,
-    is_greeting: bool,
-    heard: Datagram,
-    // Whether the last datagram came again since it was news.
-    is_repeated: bool,
-    silences: u32,
-}
 
 /// The reply that a client waits for.
 #[derive(Clone, Copy, Debug, PartialEq, Eq)]
@@ -50,52 +31,80 @@ pub enum Awaited {
     Reply,
 }
 
-impl<L: Link, E: Write + Drop> Model for WaitingLink<L, E> {
-    ghost Value = { L };
-
-    ghost view = { λ w. w.inner };
+/// The handlers that a client waits for: those to which it sent since its last receive. They are reported after a hundred
+/// empty polls without news between them; over UDP that takes less than a second. A datagram that repeats the last one is no
+/// news. So a handler that repeats the same reply is reported too, for example because another client's block stands in front.
+/// The report distinguishes such a handler from one that sends nothing. There is one report until news comes.
+#[derive(Drop)]
+pub(crate) struct Waits<A: Allocator> {
+    asked: Vec<HandlerId, A>,
+    room: usize,
+    // The last datagram to a handler.
+    sent: Datagram,
+    heard: Datagram,
+    // Whether the last datagram came again since it was news.
+    is_repeated: bool,
+    silences: u32,
 }
 
-impl<L: Link, E: Write + Drop> WaitingLink<L, E> {
-    /// The link, with room for this many handlers; it doesn't report further ones. `OutOfMemory` means that the memory was
-    /// refused.
-    pub fn new(
-        alloc: Global,
-        inner: L,
-        notes: E,
-        handlers: usize,
-    ) -> Result<WaitingLink<L, E>, OutOfMemory>
-        ensures { IfOk result (λ w. w ≡ inner) }
+impl<A: Allocator> Model for Waits<A> {
+    ghost use Rattle.std.specs.Prelude.{◌≤◌, vec_len, vec_capacity};
+    ghost use Rattle.scoop_links.specs.Waits.{WaitsValue};
+
+    ghost Value = { WaitsValue };
+
+    ghost view = { λ w. record { asked = w.asked.items; room = w.room; sent = w.sent; heard = w.heard; is_repeated = w.is_repeated; silences = w.silences } };
+
+    ghost invariant = { λ w. (vec_len w.asked ≤ w.room) × (w.room ≤ vec_capacity w.asked) };
+}
+
+// Adds a handler, if it isn't there and there is room.
+fn ask<A: Allocator>(asked: &mut Vec<HandlerId, A>, room: usize, handler: HandlerId)
+    requires { room ≤ vec_capacity asked.old }
+    ensures items { asked.new.items ≡ asked_too room handler asked.old.items }
+    ensures len { vec_len asked.old ≤ room → vec_len asked.new ≤ room }
+    ensures capacity { vec_capacity asked.new ≡ vec_capacity asked.old }
+{
+    if asked.len() < room && !is_asked(asked, handler) {
+        asked.push_reserved(handler);
+    }
+}
+
+fn is_asked(asked: &[HandlerId], handler: HandlerId) -> bool
+    ensures { result ≡ is_asked asked.now handler }
+{
+    asked.iter().any(|known| *known == handler)
+}
+
+impl<A: Allocator> Waits<A> {
+    /// Before the first send, with room for this many handlers; further ones aren't reported.
+    pub(crate) fn new(alloc: A, room: usize) -> Result<Waits<A>, OutOfMemory>
+        ensures { IfOk result (λ w. w ≡ fresh_waits room) }
     {
-        let asked = Vec::with_capacity(alloc, handlers)?;
-        Ok(WaitingLink {
-            inner,
-            notes,
+        let asked = Vec::with_capacity(alloc, room)?;
+        Ok(Waits {
             asked,
-            is_greeting: false,
+            room,
+            sent: Datagram::of(&[]),
             heard: Datagram::of(&[]),
             is_repeated: false,
             silences: 0,
         })
     }
 
-    // Records a send. Whether it is a greeting matters only if the next poll may report it.
-    fn note(&mut self, to: Party, bytes: &[u8])
-        ensures { self.new ≡ self.old }
+    /// Records a send.
+    pub(crate) fn note(&mut self, to: Party, bytes: &[u8])
+        ensures { self.new ≡ waits_after_send self.old to (kept bytes.now) }
     {
         if let Party::Handler(handler) = to {
-            if self.silences == PATIENCE - 1 {
-                self.is_greeting = is_greeting(bytes);
-            }
-            if self.asked.len() < self.asked.capacity() && !self.asked.contains(&handler) {
-                self.asked.push_reserved(handler);
-            }
+            self.sent = Datagram::of(bytes);
+            ask(&mut self.asked, self.room, handler);
         }
     }
 
-    // Records a receive. A datagram that repeats the last one is no news.
-    fn hear(&mut self, bytes: &[u8])
-        ensures { self.new ≡ self.old }
+    /// Records a datagram that came.
+    pub(crate) fn hear(&mut self, bytes: &[u8])
+        ensures { self.new ≡ waits_after_hearing self.old bytes.now }
     {
         self.is_repeated = self.heard.as_slice() == bytes;
         if !self.is_repeated {
@@ -104,18 +113,42 @@ impl<L: Link, E: Write + Drop> WaitingLink<L, E> {
         }
     }
 
-    // Records an empty poll.
-    fn wait(&mut self)
-        ensures { self.new ≡ self.old }
+    /// Records an empty poll. Returns the reply that the client waits for if that is to be reported.
+    pub(crate) fn wait(&mut self) -> Option<Awaited>
+        ensures next { self.new ≡ waits_after_silence self.old }
+        ensures report { Reports self.old result }
     {
         if self.silences >= PATIENCE {
-            return;
+            return None;
         }
         self.silences += 1;
         if self.silences == PATIENCE && !self.asked.is_empty() {
-            let is_busy = is_busy(self.heard.as_slice());
-            let awaited = awaited_of(self.is_greeting, self.is_repeated, is_busy);
-            tell_waiting(awaited, &self.asked, &mut self.notes);
+            Some(self.awaited())
+        } else {
+            None
+        }
+    }
+
+    // The reply that the client waits for.
+    fn awaited(&self) -> Awaited
+        ensures { Awaits self.now result }
+    {
+        let is_greeting = is_greeting(self.sent.as_slice());
+        let is_busy = is_busy(self.heard.as_slice());
+        awaited_of(is_greeting, self.is_repeated, is_busy)
+    }
+
+    /// Forgets the handlers, since a receive has ended.
+    pub(crate) fn clear(&mut self)
+        ensures { self.new ≡ asking_none self.old }
+    {
+        self.asked.clear();
+    }
+
+    /// Writes the report, and flushes. A report that can't be written is lost.
+    pub(crate) fn tell<W: Write>(&self, awaited: Awaited, writer: &mut W) {
+        if print_waiting(awaited, &self.asked, writer).is_ok() {
+            let _flushed = writer.flush();
         }
     }
 }
@@ -207,45 +240,4 @@ fn print_waiting<W: Write>(
 {
     writer.write_all(b"scoop: waiting for handlers")?;
     print_awaited(awaited, handlers, writer)
-}
-
-// Writes the same and flushes. A report that can't be written is lost.
-fn tell_waiting<W: Write>(awaited: Awaited, handlers: &[HandlerId], writer: &mut W) {
-    if print_waiting(awaited, handlers, writer).is_ok() {
-        let _flushed = writer.flush();
-    }
-}
-
-impl<L: Link, E: Write + Drop> Link for WaitingLink<L, E> {
-    ghost told = { λ _. None };
-
-    ghost fault_count = { λ w. L.fault_count w };
-
-    fn send(&mut self, to: Party, bytes: &[u8]) -> Result<(), LinkFault>
-        ensures faults { CountsFault result (L.fault_count self.old) (L.fault_count self.new) }
-
-        ensures sent { Exchanges (L.told self.old) (L.told self.new) [] (sent_by result to bytes.now) }
-    {
-        self.note(to, bytes);
-        self.inner.send(to, bytes)
-    }
-
-    fn receive(&mut self, buffer: &mut [u8; BUFFER_LEN]) -> Result<Option<usize>, LinkFault>
-        ensures in_bounds { IfOk result (λ got. IfSome got (λ n. n ≤ BUFFER_LEN)) }
-        ensures faults { CountsFault result (L.fault_count self.old) (L.fault_count self.new) }
-
-        ensures taken { Exchanges (L.told self.old) (L.told self.new) (taken_by result buffer.new) [] }
-    {
-        let got = self.inner.receive(buffer)?;
-        match got {
-            Some(len) => self.hear(&buffer[..len]),
-            None => self.wait(),
-        }
-        self.asked.clear();
-        Ok(got)
-    }
-
-    fn faults(&self) -> u64 {
-        self.inner.faults()
-    }
 }

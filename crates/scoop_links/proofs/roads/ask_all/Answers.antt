@@ -2,8 +2,8 @@ use Rattle.std.proofs.Common.{arith}
 use Rattle.std.proofs.lemmas.List.{get_or_default}
 use Rattle.std.proofs.lemmas.List.Edits.{map_over_more}
 use Rattle.scoop_link.specs.Datagram.{kept}
-use Rattle.scoop_links.specs.Turning.{asked}
-use Rattle.scoop_links.proofs.turning_link.ask_all.Goals as goal
+use Rattle.scoop_links.specs.Roads.{asked}
+use Rattle.scoop_links.proofs.roads.ask_all.Goals as goal
 
 pub loop-road-preserved : goal.loop-road-preserved
 loop-road-preserved c =

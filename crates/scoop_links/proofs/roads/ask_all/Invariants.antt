@@ -1,7 +1,7 @@
 use Rattle.std.proofs.Common.{◌≡◌, ◌++◌, map, take, drop}
 use Rattle.scoop_link.specs.Datagram.{kept}
-use Rattle.scoop_links.specs.Turning.{asked}
-use Rattle.scoop_links.proofs.turning_link.ask_all.Given as goal
+use Rattle.scoop_links.specs.Roads.{asked}
+use Rattle.scoop_links.proofs.roads.ask_all.Given as goal
 
 -- the roads before the index know of it
 abbrev pub invariant-loop-road : goal.invariant-loop-road

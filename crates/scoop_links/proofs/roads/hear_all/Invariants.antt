@@ -1,6 +1,6 @@
 use Rattle.std.proofs.Common.{◌≡◌, ◌++◌, map, take, drop}
-use Rattle.scoop_links.specs.Turning.{heard}
-use Rattle.scoop_links.proofs.turning_link.hear_all.Given as goal
+use Rattle.scoop_links.specs.Roads.{heard}
+use Rattle.scoop_links.proofs.roads.hear_all.Given as goal
 
 -- the roads before the index know of it
 abbrev pub invariant-loop-road : goal.invariant-loop-road

@@ -1,7 +1,7 @@
 use Rattle.std.proofs.Common.{◌≡◌, ◌++◌, map, take, drop}
 use Rattle.scoop_link.specs.Datagram.{kept}
-use Rattle.scoop_links.specs.News.{asked}
-use Rattle.scoop_links.proofs.news_link.ask_all.Given as goal
+use Rattle.scoop_links.specs.Talks.{asked}
+use Rattle.scoop_links.proofs.talks.ask_all.Given as goal
 
 -- the talks before the index know of it
 abbrev pub invariant-loop-talk : goal.invariant-loop-talk

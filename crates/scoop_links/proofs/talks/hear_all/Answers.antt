@@ -2,8 +2,8 @@ use Rattle.std.proofs.Common.{arith}
 use Rattle.std.proofs.lemmas.List.{get_or_default}
 use Rattle.std.proofs.lemmas.List.Edits.{map_over_more}
 use Rattle.scoop_link.specs.Datagram.{kept}
-use Rattle.scoop_links.specs.News.{heard}
-use Rattle.scoop_links.proofs.news_link.hear_all.Goals as goal
+use Rattle.scoop_links.specs.Talks.{heard}
+use Rattle.scoop_links.proofs.talks.hear_all.Goals as goal
 
 pub loop-talk-preserved : goal.loop-talk-preserved
 loop-talk-preserved c =

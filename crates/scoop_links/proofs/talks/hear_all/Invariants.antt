@@ -1,7 +1,7 @@
 use Rattle.std.proofs.Common.{◌≡◌, ◌++◌, map, take, drop}
 use Rattle.scoop_link.specs.Datagram.{kept}
-use Rattle.scoop_links.specs.News.{heard}
-use Rattle.scoop_links.proofs.news_link.hear_all.Given as goal
+use Rattle.scoop_links.specs.Talks.{heard}
+use Rattle.scoop_links.proofs.talks.hear_all.Given as goal
 
 -- the talks before the index know of it
 abbrev pub invariant-loop-talk : goal.invariant-loop-talk

@@ -1,7 +1,7 @@
 use Rattle.std.specs.Prelude.{codes}
 use Rattle.scoop_links.specs.Texts.{awaited_text}
 use Rattle.scoop_links.proofs.Writing.{appends_behind}
-use Rattle.scoop_links.proofs.waiting_link.print_waiting.Goals as goal
+use Rattle.scoop_links.proofs.waits.print_waiting.Goals as goal
 
 -- the handlers after the first words
 pub returns : goal.returns

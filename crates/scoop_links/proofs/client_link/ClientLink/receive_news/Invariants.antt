@@ -1,11 +1,13 @@
+-- Stale replies came, and nothing else has changed.
 use Rattle.std.proofs.Common.{◌≡◌, []}
-use Rattle.scoop_links.specs.News.{TakesBehind}
-use Rattle.scoop_links.proofs.news_link.receive_news.Given as goal
+use Rattle.scoop_links.specs.Client.{TakesBehind}
+use Rattle.scoop_links.proofs.client_link.ClientLink.receive_news.Given as goal
 
--- replies that are no news were taken, and nothing else has changed
 abbrev pub invariant-loop : goal.invariant-loop
 invariant-loop g l = record {
-  taken : TakesBehind l.initial.talks (g.L.Link.told l.initial.inner) (g.L.Link.told l.inner) [];
-  talks : l.talks ≡ l.initial.talks;
-  inner : g.L.Link.fault_count l.inner ≡ g.L.Link.fault_count l.initial.inner;
+  taken : TakesBehind g.L.Link.told l.initial.self l.self [];
+  talks : l.self.talks ≡ l.initial.self.talks;
+  waits : l.self.waits ≡ l.initial.self.waits;
+  faults : l.self.faults ≡ l.initial.self.faults;
+  below : g.L.Link.fault_count l.self.inner ≡ g.L.Link.fault_count l.initial.self.inner;
 }
