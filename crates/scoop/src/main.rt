@@ -21,11 +21,16 @@ mod objects;
 use clap::ArgMatches;
 use objects::{answer_with_object, show_with_objects};
 use scoop_classes::DemoClass;
+use scoop_client_command::run_client;
 use scoop_command_line::{Asked, asked_in, parse};
 use scoop_local_commands::{frame, play};
+use scoop_node_command::serve_node;
+use scoop_opening::make_key;
 use scoop_report::Status;
+use scoop_runtime::Tables;
 use scoop_start::{report_command_line, words};
-use scoop_system_commands::{check, explain, make_key, run_client, run_up, serve_node, store};
+use scoop_store_commands::{check, explain, store};
+use scoop_up_command::run_up;
 use std::net::Net;
 use std::process::ExitCode;
 use std::sync::Wait;
@@ -66,7 +71,7 @@ fn run<T: Threads + Wait + Clock + Net + Sync>(
         Asked::Demo(options) => return show_with_objects(rt, threads, &options),
         Asked::Check(path) => check(rt, path)?,
         Asked::Key(path) => make_key(rt, path)?,
-        Asked::Node(options) => serve_node(rt, threads, &options)?,
+        Asked::Node(options) => serve_node(rt, threads, &options, Tables)?,
         Asked::Client(options) => run_client(rt, threads, &options)?,
         Asked::Up(options) => run_up(rt, threads, &options)?,
         Asked::Audit(options) => explain(rt, &options)?,
