@@ -1,6 +1,6 @@
 //! The first lines of a node's life.
 
-ghost use Rattle.std.specs.Prelude.{◌≡◌, [], IfErr, OnErr};
+ghost use Rattle.std.specs.Prelude.{◌≡◌, IfErr};
 ghost use Rattle.scoop_keeper.specs.Keeper.{IsPutError, IsSame, Stays};
 
 use hex::encode;
@@ -9,11 +9,11 @@ use scoop_journal::{AppendError, Journal, Line};
 use scoop_keeper::{Keeper, KeeperError};
 use scoop_message::{HandlerId, OutOfMemory};
 use scoop_record::{image, pending_row};
-use std::alloc::Allocator;
+use std::alloc::Global;
 use std::io::Write;
 
-/// The keeper's refusal for a line that isn't appended.
-pub(crate) fn refusal(error: AppendError) -> KeeperError
+// The keeper's refusal for a line that isn't gathered.
+fn refusal(error: AppendError) -> KeeperError
     ensures { IsPutError result }
 {
     match error {
@@ -22,11 +22,7 @@ pub(crate) fn refusal(error: AppendError) -> KeeperError
     }
 }
 
-// The lines of a state are gathered together, and written by one call of the writer.
-fn gather<W: Write + Drop, A: Allocator>(
-    journal: &mut Journal<W, A>,
-    line: &Line<'_>,
-) -> Result<(), KeeperError>
+fn gather<W: Write + Drop>(journal: &mut Journal<W>, line: &Line<'_>) -> Result<(), KeeperError>
     ensures named { IfErr result IsPutError }
     ensures writer { journal.new.writer ≡ journal.old.writer }
     ensures failed { journal.new.has_failed ≡ journal.old.has_failed }
@@ -37,51 +33,11 @@ fn gather<W: Write + Drop, A: Allocator>(
     }
 }
 
-/// Writes the first lines of a life of this node.
-pub(crate) fn write_opening<A: Allocator + Copy, K: Keeper<A>, W: Write + Drop>(
-    alloc: A,
-    keeper: &mut K,
-    journal: &mut Journal<W, A>,
-    node: u32,
-    handlers: &[HandlerId],
-) -> Result<(), KeeperError>
-    ensures forgotten { journal.new.text ≡ [] }
-    ensures named { IfErr result IsPutError }
-    ensures handlers { K.is_honest keeper.new → Stays (K.handlers keeper.old) (K.handlers keeper.new) }
-    ensures incarnations { K.is_honest keeper.new → IsSame (K.incarnations keeper.old) (K.incarnations keeper.new) }
-    ensures honest { K.is_honest keeper.new → K.is_honest keeper.old }
-{
-    let gathered = gather_opening(alloc, keeper, journal, node, handlers);
-    commit(journal, gathered)
-}
-
-// Writes what was gathered, or forgets it.
-fn commit<W: Write + Drop, A: Allocator>(
-    journal: &mut Journal<W, A>,
-    gathered: Result<(), KeeperError>,
-) -> Result<(), KeeperError>
-    requires { IfErr gathered IsPutError }
-    ensures forgotten { journal.new.text ≡ [] }
-    ensures named { IfErr result IsPutError }
-{
-    match gathered {
-        Ok(()) => {}
-        Err(error) => {
-            journal.forget();
-            return Err(error);
-        }
-    }
-    match journal.commit() {
-        Ok(()) => Ok(()),
-        Err(error) => Err(refusal(error)),
-    }
-}
-
 /// Gathers the first lines of a life of this node: that it begins, and the state that the keeper has of each handler.
-pub(crate) fn gather_opening<A: Allocator + Copy, K: Keeper<A>, W: Write + Drop>(
-    alloc: A,
+pub(crate) fn gather_opening<K: Keeper<Global>, W: Write + Drop>(
+    alloc: Global,
     keeper: &mut K,
-    journal: &mut Journal<W, A>,
+    journal: &mut Journal<W>,
     node: u32,
     handlers: &[HandlerId],
 ) -> Result<(), KeeperError>
@@ -99,10 +55,10 @@ pub(crate) fn gather_opening<A: Allocator + Copy, K: Keeper<A>, W: Write + Drop>
 }
 
 // Gathers the lines of the handlers' states.
-fn gather_states<A: Allocator + Copy, K: Keeper<A>, W: Write + Drop>(
-    alloc: A,
+fn gather_states<K: Keeper<Global>, W: Write + Drop>(
+    alloc: Global,
     keeper: &mut K,
-    journal: &mut Journal<W, A>,
+    journal: &mut Journal<W>,
     handlers: &[HandlerId],
 ) -> Result<(), KeeperError>
     ensures named { IfErr result IsPutError }
@@ -122,10 +78,10 @@ fn gather_states<A: Allocator + Copy, K: Keeper<A>, W: Write + Drop>(
 }
 
 // Gathers the line of a handler's state.
-fn gather_handler<A: Allocator + Copy, K: Keeper<A>, W: Write + Drop>(
-    alloc: A,
+fn gather_handler<K: Keeper<Global>, W: Write + Drop>(
+    alloc: Global,
     keeper: &mut K,
-    journal: &mut Journal<W, A>,
+    journal: &mut Journal<W>,
     handler: HandlerId,
 ) -> Result<(), KeeperError>
     ensures named { IfErr result IsPutError }
@@ -144,11 +100,11 @@ fn gather_handler<A: Allocator + Copy, K: Keeper<A>, W: Write + Drop>(
 }
 
 // Gathers the line of this state.
-fn gather_state<A: Allocator + Copy, W: Write + Drop>(
-    alloc: A,
-    journal: &mut Journal<W, A>,
+fn gather_state<W: Write + Drop>(
+    alloc: Global,
+    journal: &mut Journal<W>,
     handler: HandlerId,
-    state: &HandlerState<A>,
+    state: &HandlerState,
 ) -> Result<(), KeeperError>
     ensures named { IfErr result IsPutError }
     ensures writer { journal.new.writer ≡ journal.old.writer }
@@ -164,10 +120,7 @@ fn gather_state<A: Allocator + Copy, W: Write + Drop>(
     gather(journal, &line)
 }
 
-fn image_digits<A: Allocator + Copy>(
-    alloc: A,
-    state: &HandlerState<A>,
-) -> Result<String<A>, OutOfMemory> {
+fn image_digits(alloc: Global, state: &HandlerState) -> Result<String, OutOfMemory> {
     let bytes = image(alloc, state)?;
     match encode(alloc, bytes.as_slice()) {
         Ok(digits) => Ok(digits),
@@ -175,10 +128,7 @@ fn image_digits<A: Allocator + Copy>(
     }
 }
 
-fn pending_digits<A: Allocator + Copy>(
-    alloc: A,
-    state: &HandlerState<A>,
-) -> Result<String<A>, OutOfMemory> {
+fn pending_digits(alloc: Global, state: &HandlerState) -> Result<String, OutOfMemory> {
     let bytes = pending_row(alloc, state)?;
     match encode(alloc, bytes.as_slice()) {
         Ok(digits) => Ok(digits),
