@@ -5,12 +5,12 @@ use crate::tasks::{ClientTask, Cut, Input, Program, Script};
 use crate::typed_lines::TypedLines;
 use scoop_command_line::{ClientOptions, StoreChoice};
 use scoop_etcd_stores::Fate;
-use scoop_files::{FiledStore, StoreName, close};
+use scoop_files::{FiledStore, Named, StoreName, close};
 use scoop_journal::JournalFile;
 use scoop_link::UdpLink;
 use scoop_links::{ClientLink, ClientNotes};
 use scoop_message::ClientId;
-use scoop_observed::ObservedKeeper;
+use scoop_observed::{NodeJournal, ObservedKeeper, Observers};
 use scoop_opening::{
     End, OpenStore, check_choice, client_keeper, fated_end, note_owner, open_client, open_journal,
     read_system, read_text, report_end, report_fault, report_plainly, store_in_client, store_name,
@@ -22,6 +22,7 @@ use scoop_report::{Hints, Status, hint, report};
 use scoop_runtime::{ClientProgram, FileFault, check_script, open_client_link};
 use scoop_seal::SealedLink;
 use scoop_system::System;
+use scoop_watch::Unwatched;
 use sqlite::Alter;
 use std::io::{IsTerminal, Stderr};
 use std::net::Net;
@@ -227,7 +228,16 @@ pub fn run_over<S: Alter + Drop, C: ClientTask>(
     note_owner(rt, config.store, config.plan.system(), config.owner());
     let fate = Fate::new();
     let keeper = client_keeper(rt.alloc(), store, &fate);
-    let mut keeper = ObservedKeeper::named(rt, keeper, name);
+    let observers = Observers {
+        name: match name {
+            Some(name) => Some(Named::new(rt, name)),
+            None => None,
+        },
+        counts: None,
+        journal: None::<NodeJournal<&JournalFile>>,
+        watcher: Unwatched,
+    };
+    let mut keeper = ObservedKeeper::new(keeper, observers);
     let ran = task.run(rt, &config.plan, &mut keeper, journal, link);
     let store = store_in_client(keeper.into_inner());
     match ran {

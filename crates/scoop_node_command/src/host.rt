@@ -9,14 +9,14 @@ use scoop_link::UdpLink;
 use scoop_links::PatientLink;
 use scoop_message::{ClientId, HandlerId, OutOfMemory};
 use scoop_node_link::NodeLink;
-use scoop_observed::{NodeJournal, ObservedKeeper};
+use scoop_observed::{NodeJournal, ObservedKeeper, Observers};
 use scoop_pacing::{SlowNotes, SystemTimes};
 use scoop_opening::{End, go_on};
 use scoop_report::{Hints, Status, hint, report};
 use scoop_runtime::{Around, Ending, NodePlan, Objects, RuntimeError, node_run, open_node_link};
 use scoop_seal::SealedLink;
 use scoop_system::System;
-use scoop_watch::{Watch, WatchedOutput};
+use scoop_watch::{Watch, Watched, WatchedOutput};
 use std::alloc::Global;
 use std::io::{BufWriter, Stderr, Write};
 use std::net::{Net, SocketAddr};
@@ -137,6 +137,33 @@ impl<'a, O: Objects> Host<'a, O> {
         Ok(PatientLink::new(link, "node", notes))
     }
 
+    // Who observes the keeper of the node: the name of its file, its counts, its journal, and its watch.
+    fn observers<'s, T: Wait>(
+        &'s self,
+        rt: &'s HostRuntime,
+        threads: &'s T,
+    ) -> Result<Observers<'s, Watched<'s, T>, &'s JournalFile>, OutOfMemory> {
+        let alloc = rt.alloc();
+        let journal = match self.journal {
+            Some(file) => {
+                let handlers = copy_of(alloc, self.plan.handlers())?;
+                let number = self.config.about.place.number;
+                Some(NodeJournal::new(alloc, file, number, handlers))
+            }
+            None => None,
+        };
+        let name = match self.name {
+            Some(name) => Some(Named::new(rt, name)),
+            None => None,
+        };
+        Ok(Observers {
+            name,
+            counts: Some(self.watch.counts()),
+            journal,
+            watcher: Watched::new(threads, &self.watch),
+        })
+    }
+
     // Runs the node over its link.
     fn serve<K, W, T>(
         &self,
@@ -160,7 +187,8 @@ impl<'a, O: Objects> Host<'a, O> {
             lines: &mut lines,
             ending,
         };
-        let keeper = self.observed(rt, threads, keeper)?;
+        let observers = self.observers(rt, threads)?;
+        let keeper = ObservedKeeper::new(keeper, observers);
         match node_run(threads, alloc, &self.plan, keeper, link, &mut around) {
             Ok(keeper) => Ok(keeper.into_inner()),
             Err(error) => Err(error),
