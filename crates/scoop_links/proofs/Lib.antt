@@ -1,2 +1,2 @@
-mod News
+mod Taking
 pub mod Writing

@@ -1,5 +1,7 @@
+pub mod Client
 pub mod Forwarding
-pub mod News
+pub mod Patience
+pub mod Roads
+pub mod Talks
 pub mod Texts
-pub mod Turning
-pub mod Waiting
+pub mod Waits

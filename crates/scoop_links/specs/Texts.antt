@@ -2,8 +2,8 @@
 use Rattle.std.specs.Prelude.{ℕ, List, [], ◌∷◌, ◌++◌, codes}
 use Rattle.std.specs.Fmt.{decimal}
 use Rattle.scoop_message.specs.declared.name.HandlerId.{HandlerId}
-use Rattle.scoop_links.specs.declared.waiting_link.Awaited.{Awaited}
-use Rattle.scoop_links.specs.declared.waiting_link.Awaited.TheVariants.{Welcome, Lock, Turn, Reply}
+use Rattle.scoop_links.specs.declared.waits.Awaited.{Awaited}
+use Rattle.scoop_links.specs.declared.waits.Awaited.TheVariants.{Welcome, Lock, Turn, Reply}
 
 -- numbers, with a space before each
 abbrev pub numbers_text : List HandlerId → List ℕ

@@ -1,24 +1,16 @@
 //! A link that tolerates faults.
 
-ghost use Rattle.std.specs.Prelude.{◌≡◌, ◌≤◌, ◌<◌, ◌+◌, ◌++◌, ◌∷◌, [], None, IfOk, IfSome, OnErr, OnOk};
-ghost use Rattle.std.specs.Io.KnownBytes.{Appends};
+ghost use Rattle.std.specs.Prelude.{◌≡◌, ◌≤◌, ◌<◌, ◌+◌, [], None, IfOk, IfSome, OnErr};
 ghost use Rattle.scoop_link.specs.Link.{CountsFault, Exchanges, taken_by};
 ghost use Rattle.scoop_links.specs.Forwarding.{Forwards};
-ghost use Rattle.scoop_links.specs.Texts.{fault_text};
 
+use crate::patience::Patience;
 use scoop_link::{Link, LinkFault, MAX_HELD, Party};
 use scoop_message::limits::BUFFER_LEN;
-use std::io;
 use std::io::Write;
 use std::marker::Model;
 
-// At this many failed calls in a row this link fails too.
-const MAX_IN_A_ROW: u32 = 1_000;
-
-// The number of receives between two notes on failed calls. Over UDP they take at most a second.
-const NOTE_EVERY: u64 = 100;
-
-/// A node's or a client's link that tolerates faults. A call of the link below may fail, as a send to a party that can't be
+/// A node's link that tolerates faults. A call of the link below may fail, as a send to a party that can't be
 /// reached. The datagram is lost then; only the thousandth failure in a row is a fault. It writes a note on the first
 /// failure, and later ones at least a hundred receives apart. Notes that can't be written are lost. It counts its receives,
 /// each of which is a turn of its party, and doesn't record its datagrams. Contracts see the link below it, and how many
@@ -28,10 +20,7 @@ pub struct PatientLink<L: Link, E: Write + Drop> {
     inner: L,
     party: &'static str,
     notes: E,
-    quiet_until: u64,
-    in_a_row: u32,
-    receives: u64,
-    faults: u64,
+    patience: Patience,
 }
 
 impl<L: Link, E: Write + Drop> Model for PatientLink<L, E> {
@@ -39,7 +28,7 @@ impl<L: Link, E: Write + Drop> Model for PatientLink<L, E> {
 
     ghost Value = { PatientValue L };
 
-    ghost view = { λ p. record { inner = p.inner; faults = p.faults } };
+    ghost view = { λ p. record { inner = p.inner; faults = p.patience.faults } };
 }
 
 impl<L: Link, E: Write + Drop> PatientLink<L, E> {
@@ -51,55 +40,21 @@ impl<L: Link, E: Write + Drop> PatientLink<L, E> {
             inner,
             party,
             notes,
-            quiet_until: 0,
-            in_a_row: 0,
-            receives: 0,
-            faults: 0,
+            patience: Patience::new(),
         }
     }
 
     /// The number of receives. The count stops at 2^64-1.
     pub fn receives(&self) -> u64 {
-        self.receives
+        self.patience.receives
     }
 
-    // Writes that a call has failed, unless another note was written just before.
-    fn tell(&mut self)
-        ensures inner { self.new.inner ≡ self.old.inner }
-        ensures faults { self.new.faults ≡ self.old.faults }
-    {
-        if self.receives >= self.quiet_until {
-            self.quiet_until = self.receives.saturating_add(NOTE_EVERY);
-            tell_fault(self.party, &mut self.notes);
-        }
-    }
-
-    // Counts a failed call.
+    // Records a failed call.
     fn fail(&mut self) -> Result<(), LinkFault>
         ensures counted { CountsFault result self.old.faults self.new.faults }
         ensures inner { self.new.inner ≡ self.old.inner }
     {
-        self.tell();
-        self.in_a_row = self.in_a_row.saturating_add(1);
-        if self.in_a_row < MAX_IN_A_ROW || self.faults == u64::MAX {
-            return Ok(());
-        }
-        self.faults += 1;
-        Err(LinkFault)
-    }
-}
-
-// Writes that a call has failed.
-fn print_fault<W: Write>(party: &str, writer: &mut W) -> io::Result<()>
-    ensures { OnOk result (Appends (W.contents writer.old) (W.contents writer.new) (fault_text party.now)) }
-{
-    writeln!(writer, "scoop: link: LinkFault, and the {party} goes on")
-}
-
-// Writes the same and flushes. A note that can't be written is lost.
-fn tell_fault<W: Write>(party: &str, writer: &mut W) {
-    if print_fault(party, writer).is_ok() {
-        let _flushed = writer.flush();
+        self.patience.fail(self.party, &mut self.notes)
     }
 }
 
@@ -116,7 +71,7 @@ impl<L: Link, E: Write + Drop> Link for PatientLink<L, E> {
     {
         match self.inner.send(to, bytes) {
             Ok(()) => {
-                self.in_a_row = 0;
+                self.patience.succeed();
                 Ok(())
             }
             Err(_) => self.fail(),
@@ -130,10 +85,10 @@ impl<L: Link, E: Write + Drop> Link for PatientLink<L, E> {
         ensures taken { Exchanges (L.told self.old.inner) (L.told self.new.inner) (taken_by result buffer.new) [] }
         ensures failed { OnErr result (L.fault_count self.new.inner ≡ L.fault_count self.old.inner + 1) }
     {
-        self.receives = self.receives.saturating_add(1);
+        self.patience.count_receive();
         match self.inner.receive(buffer) {
             Ok(got) => {
-                self.in_a_row = 0;
+                self.patience.succeed();
                 Ok(got)
             }
             Err(_) => {
@@ -160,6 +115,6 @@ impl<L: Link, E: Write + Drop> Link for PatientLink<L, E> {
     }
 
     fn faults(&self) -> u64 {
-        self.faults
+        self.patience.faults
     }
 }

@@ -7,12 +7,20 @@ ghost use Rattle.scoop_pacing.specs.Pacing.{fresh_pacing, last_to, passes, place
 use crate::ask::Ask;
 use scoop_link::{Datagram, Party};
 use scoop_message::OutOfMemory;
-use std::alloc::Allocator;
+use std::alloc::{Allocator, Global};
 use std::marker::Model;
 
-/// The last datagram to each party, as far as there is room, and the seed of the parts at random.
+/// Which datagrams may go. It knows the last datagram to each party, as far as it has room.
+///
+/// A datagram that differs from the last one to its party goes at once. A repeat of the last one goes in two cases:
+/// - no reply of the party came, and the timeout is over;
+/// - a reply came: the repeat goes at once, and after eight repeats once a round trip.
+///
+/// A timeout is 200 ms at first. Later RFC 6298 gives it, from the round trips of datagrams that went once; it stays
+/// within 5 ms to 2 s. It doubles with each repeat without a reply, until a round trip is measured. Up to an eighth is
+/// added at random. Times are in microseconds. Contracts see the last datagrams with their times, the room, and the seed.
 #[derive(Drop)]
-pub(crate) struct Pacing<A: Allocator> {
+pub struct Pacing<A: Allocator = Global> {
     asks: Vec<Ask, A>,
     room: usize,
     seed: u32,
@@ -93,16 +101,17 @@ fn hear_all(asks: &mut [Ask], from: Party, now: u64)
 }
 
 impl<A: Allocator> Pacing<A> {
-    /// Makes one before the first send, with memory for the last datagrams of `room` parties.
-    pub(crate) fn new(alloc: A, room: usize, seed: u32) -> Result<Pacing<A>, OutOfMemory>
+    /// A pace before the first send, with memory for the last datagrams of `room` parties; datagrams to others always go. The
+    /// seed chooses the parts at random. `OutOfMemory` means that the memory was refused.
+    pub fn new(alloc: A, room: usize, seed: u32) -> Result<Pacing<A>, OutOfMemory>
         ensures { IfOk result (λ p. p ≡ fresh_pacing room seed) }
     {
         let asks = Vec::with_capacity(alloc, room)?;
         Ok(Pacing { asks, room, seed })
     }
 
-    /// Whether a datagram is passed on at this time.
-    pub(crate) fn passes(&self, now: u64, to: Party, datagram: &Datagram) -> bool
+    /// Whether a datagram may go at this time.
+    pub fn passes(&self, now: u64, to: Party, datagram: &Datagram) -> bool
         ensures { result ≡ passes self.now now to datagram.now }
     {
         match last_to(&self.asks, to) {
@@ -111,8 +120,8 @@ impl<A: Allocator> Pacing<A> {
         }
     }
 
-    /// Notes a datagram that was passed on.
-    pub(crate) fn pass(&mut self, now: u64, to: Party, datagram: Datagram)
+    /// Notes a datagram that went.
+    pub fn pass(&mut self, now: u64, to: Party, datagram: Datagram)
         ensures { self.new ≡ after_passing self.old now to datagram }
     {
         let ask = next(&self.asks, to, datagram, now, self.seed);
@@ -121,7 +130,7 @@ impl<A: Allocator> Pacing<A> {
     }
 
     /// Notes a reply of a party.
-    pub(crate) fn hear(&mut self, now: u64, from: Party)
+    pub fn hear(&mut self, now: u64, from: Party)
         ensures { self.new ≡ after_reply self.old now from }
     {
         hear_all(&mut self.asks, from, now);

@@ -13,10 +13,10 @@ ghost use Rattle.scoop_session.specs.Obeying.{Drives, RunsBlock};
 ghost use Rattle.scoop_runtime.specs.Calling.{asks_for};
 
 use crate::client::begin_client;
+use crate::client_parts::{ClientRecord, Setting};
 use crate::cutting::{Remains, cut_left, tell_unended};
 use crate::plan::ClientPlan;
 use scoop_driver::{BodyEntry, ConditionPart, DriverError, Pause};
-use scoop_journal::Journal;
 use scoop_keeper::Keeper;
 use scoop_link::Link;
 use scoop_message::{Answer, Args, Block, HandlerId, Request};
@@ -84,7 +84,7 @@ pub trait Calls {
 /// A client whose commands are calls. If it is let go with a block open, it cuts the block: it greets the block's handlers with
 /// its next incarnation. It writes to its notes `cut 7.1.1`, or the handlers that don't answer and how to free them. A block
 /// whose handlers aren't all locked is given up. Each takes at most 500 turns.
-pub struct Caller<'p, 's, 'h, 'k, 'j, K, L, J, P, N>
+pub struct Caller<'p, 's, 'k, 'j, K, L, J, P, N>
 where
     K: Keeper<Global>,
     L: Link,
@@ -94,14 +94,14 @@ where
 {
     alloc: Global,
     plan: &'p ClientPlan<'s>,
-    known: &'h [HandlerId],
+    known: Vec<HandlerId>,
     keeper: &'k mut K,
     session: Session<'j, L, J>,
     pause: P,
     notes: N,
 }
 
-impl<'p, 's, 'h, 'k, 'j, K, L, J, P, N> Caller<'p, 's, 'h, 'k, 'j, K, L, J, P, N>
+impl<'p, 's, 'k, 'j, K, L, J, P, N> Caller<'p, 's, 'k, 'j, K, L, J, P, N>
 where
     K: Keeper<Global>,
     L: Link,
@@ -109,26 +109,30 @@ where
     P: Pause + Drop,
     N: Write + Drop,
 {
-    /// Begins the client of this plan: it takes its next incarnation from the keeper, and greets the handlers that it
-    /// knows. It writes its journal, if there is one. Refused: the keeper's refusal, before anything is sent;
+    /// Begins the client of this plan: it takes its next incarnation from the store, and greets the handlers that it
+    /// uses. It writes its journal, if there is one. Refused: the store's refusal, before anything is sent;
     /// `NotWelcomed` when the turns are over, and `link: LinkFault`; `write fault`, and `out of memory`.
-    pub fn begin(
+    pub fn begin<'r>(
         alloc: Global,
         plan: &'p ClientPlan<'s>,
-        known: &'h [HandlerId],
-        keeper: &'k mut K,
+        record: &'r mut ClientRecord<K, J>,
         link: L,
-        journal: &'j mut Option<Journal<J>>,
         pause: P,
         notes: N,
-    ) -> Result<Caller<'p, 's, 'h, 'k, 'j, K, L, J, P, N>, RuntimeError> {
-        let client = begin_client(alloc, plan, &mut *keeper, known, &mut *journal)?;
-        let session = Session::new(alloc, client, link, plan.turns(), journal);
+    ) -> Result<Caller<'p, 's, 'r, 'r, K, L, J, P, N>, RuntimeError> {
+        let known = plan.system().known_to(alloc, &plan.place())?;
+        let setting = Setting {
+            alloc,
+            plan,
+            known: &known,
+        };
+        let client = begin_client(&setting, &mut record.store, &mut record.journal)?;
+        let session = Session::new(alloc, client, link, plan.turns(), &mut record.journal);
         let mut caller = Caller {
             alloc,
             plan,
             known,
-            keeper,
+            keeper: &mut record.store,
             session,
             pause,
             notes,
@@ -139,7 +143,7 @@ where
 
     // Greets the handlers that the client knows.
     fn greet(&mut self) -> Result<(), RuntimeError> {
-        let greeted = self.session.greet(self.known, self.plan.turns());
+        let greeted = self.session.greet(&self.known, self.plan.turns());
         self.told(greeted)
     }
 
@@ -171,15 +175,18 @@ where
         let last = session.last_block();
         let (mut link, journal) = session.into_parts();
         let remains = Remains { left, last };
-        let unended = cut_left(
-            alloc, plan, keeper, &mut link, journal, known, remains, &mut notes,
-        );
+        let setting = Setting {
+            alloc,
+            plan,
+            known: &known,
+        };
+        let unended = cut_left(&setting, keeper, journal, &mut link, remains, &mut notes);
         tell_unended(unended, &mut notes);
         unended
     }
 }
 
-impl<'p, 's, 'h, 'k, 'j, K, L, J, P, N> Drop for Caller<'p, 's, 'h, 'k, 'j, K, L, J, P, N>
+impl<'p, 's, 'k, 'j, K, L, J, P, N> Drop for Caller<'p, 's, 'k, 'j, K, L, J, P, N>
 where
     K: Keeper<Global>,
     L: Link,
@@ -203,7 +210,7 @@ fn asks_for(op: u16, args: &[u64]) -> Request
     Request { op, args }
 }
 
-impl<'p, 's, 'h, 'k, 'j, K, L, J, P, N> Calls for Caller<'p, 's, 'h, 'k, 'j, K, L, J, P, N>
+impl<'p, 's, 'k, 'j, K, L, J, P, N> Calls for Caller<'p, 's, 'k, 'j, K, L, J, P, N>
 where
     K: Keeper<Global>,
     L: Link,

@@ -11,6 +11,7 @@ ghost use Rattle.scoop_session.specs.Parting.{owes};
 ghost use Rattle.scoop_session.specs.Endings.{input_ended};
 ghost use Rattle.scoop_session.specs.Settling.{HasFor};
 
+use crate::client_parts::{ClientRecord, Console, Setting};
 use crate::cutting::{Remains, cut_left, tell_unended};
 use crate::plan::ClientPlan;
 use crate::trying::Between;
@@ -22,8 +23,8 @@ use scoop_journal::{Journal, Line};
 use scoop_keeper::{Keeper, KeeperError};
 use scoop_lines::{LineBytes, LineSource};
 use scoop_link::Link;
-use scoop_links::{LentLink, client_link};
-use scoop_message::{HandlerId, OutOfMemory};
+use scoop_links::LentLink;
+use scoop_message::{Answer, HandlerId, OutOfMemory};
 use scoop_session::{Session, unwritten};
 use scoop_system::{ClientLine, ClientPlace, read_line};
 use scoop_texts::{
@@ -50,18 +51,17 @@ fn begin_journal<J: Write + Drop>(
 /// A client with its next incarnation, which hasn't greeted any handler. The first line of its life is in its journal, if
 /// there is one.
 pub(crate) fn begin_client<K: Keeper<Global>, J: Write + Drop>(
-    alloc: Global,
-    plan: &ClientPlan<'_>,
+    setting: &Setting<'_, '_>,
     keeper: &mut K,
-    known: &[HandlerId],
     journal: &mut Option<Journal<J>>,
 ) -> Result<Client, RuntimeError>
-    ensures begins { IfOk result (BeginsNext plan.now.place.client plan.now.place.batch known.now (K.incarnations keeper.old) (K.incarnations keeper.new) (K.is_honest keeper.new)) }
-    ensures none { OnErr result (BeginsNone plan.now.place.client (K.incarnations keeper.old) (K.incarnations keeper.new) (K.is_honest keeper.new)) }
+    ensures begins { IfOk result (BeginsNext setting.now.plan.now.place.client setting.now.plan.now.place.batch setting.now.known.now
+        (K.incarnations keeper.old) (K.incarnations keeper.new) (K.is_honest keeper.new)) }
+    ensures none { OnErr result (BeginsNone setting.now.plan.now.place.client (K.incarnations keeper.old) (K.incarnations keeper.new) (K.is_honest keeper.new)) }
     ensures handlers { K.is_honest keeper.new → Stays (K.handlers keeper.old) (K.handlers keeper.new) }
     ensures honest { K.is_honest keeper.new → K.is_honest keeper.old }
 {
-    let ClientPlace { client, batch, .. } = plan.place();
+    let ClientPlace { client, batch, .. } = setting.plan.place();
     let inc = match keeper.next_incarnation(client) {
         Ok(0) => return Err(RuntimeError::from(KeeperError::Refused)),
         Ok(inc) => inc,
@@ -71,7 +71,7 @@ pub(crate) fn begin_client<K: Keeper<Global>, J: Write + Drop>(
         Ok(()) => {}
         Err(error) => return Err(error),
     }
-    match Client::begin_batched(alloc, client, inc, known, batch) {
+    match Client::begin_batched(setting.alloc, client, inc, setting.known, batch) {
         Ok(client) => Ok(client),
         Err(error) => Err(unbegun(error)),
     }
@@ -132,29 +132,36 @@ enum Next {
 }
 
 // Does what the line of this number asks, and writes the reply to it.
-fn read_and_obey<L: Link, J: Write + Drop, P: Pause, I: Interrupt, W: Write, N: Write>(
+fn read_and_obey<L, J, I, W, N, P>(
     plan: &ClientPlan<'_>,
     session: &mut Session<'_, L, J>,
     line: &LineBytes,
     number: u32,
+    console: &mut Console<I, W, N, P>,
     progress: &mut Progress,
-    pause: &mut P,
-    interrupt: &mut I,
-    writer: &mut W,
-    notes: &mut N,
 ) -> Result<Next, RuntimeError>
+where
+    L: Link,
+    J: Write + Drop,
+    I: LineSource + Interrupt,
+    W: Write + Drop,
+    N: Write + Drop,
+    P: Pause + Drop,
     ensures { Drives session.old.driver.seen session.new.driver.seen }
 {
     match read_line(plan.system(), line) {
         Ok(asked) => match plan.place().unused(&asked) {
-            Some(handler) => refuse_line(plan, RuntimeError::NotUsed(number, handler), notes),
+            Some(handler) => {
+                let error = RuntimeError::NotUsed(number, handler);
+                refuse_line(plan, error, &mut console.notes)
+            }
             None => {
                 progress.has_begun = true;
-                obey_line(plan, session, &asked, pause, interrupt, writer, notes)
+                obey_line(plan, session, &asked, console)
             }
         },
         Err(fault) if plan.is_typed() => {
-            tell_misread(plan.system(), number, fault, notes);
+            tell_misread(plan.system(), number, fault, &mut console.notes);
             Ok(Next::Line)
         }
         Err(fault) => Err(RuntimeError::Line(number, fault)),
@@ -176,29 +183,30 @@ fn refuse_line<N: Write>(
 
 // Does what each line of the input asks, writes one reply for each, and records the progress. Returns the lines that were
 // refused. The input itself is the interrupt of a line that it has given.
-fn obey_lines<L: Link, J: Write + Drop, I: LineSource + Interrupt, P: Pause, W: Write, N: Write>(
+fn obey_lines<L, J, I, W, N, P>(
     plan: &ClientPlan<'_>,
     session: &mut Session<'_, L, J>,
-    lines: &mut I,
+    console: &mut Console<I, W, N, P>,
     progress: &mut Progress,
-    pause: &mut P,
-    writer: &mut W,
-    notes: &mut N,
 ) -> Result<Option<Refusals>, RuntimeError>
+where
+    L: Link,
+    J: Write + Drop,
+    I: LineSource + Interrupt,
+    W: Write + Drop,
+    N: Write + Drop,
+    P: Pause + Drop,
     ensures { Drives session.old.driver.seen session.new.driver.seen }
 {
     let mut line = ArrayVec::new();
     let mut refusals = None;
     for _ in 0..u64::MAX {
-        let number = match lines.next_line(&mut line) {
+        let number = match console.lines.next_line(&mut line) {
             Ok(Some(number)) => number,
             Ok(None) => break,
             Err(error) => return Err(RuntimeError::Input(error)),
         };
-        let obeyed = read_and_obey(
-            plan, session, &line, number, progress, pause, lines, writer, notes,
-        );
-        let next = match obeyed {
+        let next = match read_and_obey(plan, session, &line, number, console, progress) {
             Ok(next) => next,
             Err(error) => return Err(error),
         };
@@ -218,23 +226,25 @@ fn obey_lines<L: Link, J: Write + Drop, I: LineSource + Interrupt, P: Pause, W: 
 
 // Does what a line asks. There is no reply if the journal doesn't have all that it rests on. Only the lines that led to
 // `Logged`, `Reserved` and `Noted` may wait.
-fn obey<L: Link, J: Write + Drop, P: Pause, I: Interrupt, N: Write>(
+fn obey<L, J, I, W, N, P>(
     plan: &ClientPlan<'_>,
     session: &mut Session<'_, L, J>,
     line: &ClientLine,
-    pause: &mut P,
-    interrupt: &mut I,
-    notes: &mut N,
+    console: &mut Console<I, W, N, P>,
 ) -> Result<Option<Reply>, RuntimeError>
+where
+    L: Link,
+    J: Write + Drop,
+    I: LineSource + Interrupt,
+    W: Write + Drop,
+    N: Write + Drop,
+    P: Pause + Drop,
     ensures written { OnOk result (session.new.driver.diary.failure ≡ None) }
     ensures lines { IfOk result (λ replied. HasFor replied session.new.driver.diary.journal.now) }
     ensures drives { Drives session.old.driver.seen session.new.driver.seen }
 {
-    let obeyed = session.obey(
-        line,
-        &mut Between::new(pause, notes, plan.is_typed()),
-        interrupt,
-    );
+    let mut between = Between::new(&mut console.pause, &mut console.notes, plan.is_typed());
+    let obeyed = session.obey(line, &mut between, &mut console.lines);
     if let Some(unwritten) = session.unwritten() {
         return Err(unwritten);
     }
@@ -244,34 +254,51 @@ fn obey<L: Link, J: Write + Drop, P: Pause, I: Interrupt, N: Write>(
     }
 }
 
+// Writes the reply to a line, and flushes.
+fn print_reply_lines<W: Write>(
+    answers: &[Answer],
+    reply: &Reply,
+    output: &mut W,
+) -> Result<(), RuntimeError> {
+    if print_replies(answers, reply, output).is_err() || output.flush().is_err() {
+        return Err(RuntimeError::from(PartyError::Write));
+    }
+    Ok(())
+}
+
 // Does what a line asks and writes the reply.
-fn obey_line<L: Link, J: Write + Drop, P: Pause, I: Interrupt, W: Write, N: Write>(
+fn obey_line<L, J, I, W, N, P>(
     plan: &ClientPlan<'_>,
     session: &mut Session<'_, L, J>,
     line: &ClientLine,
-    pause: &mut P,
-    interrupt: &mut I,
-    writer: &mut W,
-    notes: &mut N,
+    console: &mut Console<I, W, N, P>,
 ) -> Result<Next, RuntimeError>
+where
+    L: Link,
+    J: Write + Drop,
+    I: LineSource + Interrupt,
+    W: Write + Drop,
+    N: Write + Drop,
+    P: Pause + Drop,
     ensures { Drives session.old.driver.seen session.new.driver.seen }
 {
     match line {
-        ClientLine::Help => tell_help(notes),
+        ClientLine::Help => tell_help(&mut console.notes),
         ClientLine::Quit => return Ok(Next::End),
         _ => {}
     }
-    let replied = match obey(plan, session, line, pause, interrupt, notes) {
+    let replied = match obey(plan, session, line, console) {
         Ok(replied) => replied,
         Err(error) => return Err(error),
     };
     let Some(reply) = replied else {
         return Ok(Next::Line);
     };
-    if print_replies(session.answers(), &reply, writer).is_err() || writer.flush().is_err() {
-        return Err(RuntimeError::from(PartyError::Write));
+    match print_reply_lines(session.answers(), &reply, &mut console.output) {
+        Ok(()) => {}
+        Err(error) => return Err(error),
     }
-    tell_note(&reply, plan.is_typed(), notes);
+    tell_note(&reply, plan.is_typed(), &mut console.notes);
     if reply.is_refusal() {
         Ok(Next::LineAfterRefusal)
     } else {
@@ -302,25 +329,29 @@ pub(crate) fn greet_all<L: Link, J: Write + Drop>(
 
 // Greets, and does what the lines ask. Borrows the session, so that no early return has to drop it.
 #[tactic(auto, using(crate::proofs::Names::drives_turned))]
-fn run_session<L: Link, J: Write + Drop, I: LineSource + Interrupt, P: Pause, W: Write, N: Write>(
-    plan: &ClientPlan<'_>,
+fn run_session<L, J, I, W, N, P>(
+    setting: &Setting<'_, '_>,
     session: &mut Session<'_, L, J>,
-    known: &[HandlerId],
-    lines: &mut I,
+    console: &mut Console<I, W, N, P>,
     progress: &mut Progress,
-    pause: &mut P,
-    writer: &mut W,
-    notes: &mut N,
 ) -> Result<(), RuntimeError>
+where
+    L: Link,
+    J: Write + Drop,
+    I: LineSource + Interrupt,
+    W: Write + Drop,
+    N: Write + Drop,
+    P: Pause + Drop,
     ensures drives { Drives session.old.driver.seen session.new.driver.seen }
     ensures ended { OnOk result (input_ended (is_some session.new.wish) (phase_of session.new.driver.seen.client) ≡ Ok (tt {0})) }
 {
-    match greet_all(plan, session, known, plan.turns()) {
+    let plan = setting.plan;
+    match greet_all(plan, session, setting.known, plan.turns()) {
         Ok(()) => progress.is_ready = true,
         Err(error) => return Err(error),
     }
-    tell_ready(plan.place().client, plan.is_typed(), notes);
-    let refusals = match obey_lines(plan, session, lines, progress, pause, writer, notes) {
+    tell_ready(plan.place().client, plan.is_typed(), &mut console.notes);
+    let refusals = match obey_lines(plan, session, console, progress) {
         Ok(refusals) => refusals,
         Err(error) => return Err(error),
     };
@@ -331,33 +362,27 @@ fn run_session<L: Link, J: Write + Drop, I: LineSource + Interrupt, P: Pause, W:
 }
 
 // Runs the client over its link, and gives its locks back at its end. Returns how it ended, and what it left.
-fn run_life<L: Link, J: Write + Drop, I: LineSource + Interrupt, P: Pause, W: Write, N: Write>(
-    alloc: Global,
-    plan: &ClientPlan<'_>,
+fn run_life<L, J, I, W, N, P>(
+    setting: &Setting<'_, '_>,
     client: Client,
     link: &mut L,
     journal: &mut Option<Journal<J>>,
-    known: &[HandlerId],
-    lines: &mut I,
+    console: &mut Console<I, W, N, P>,
     progress: &mut Progress,
-    pause: &mut P,
-    writer: &mut W,
-    notes: &mut N,
 ) -> (Result<(), RuntimeError>, Remains)
+where
+    L: Link,
+    J: Write + Drop,
+    I: LineSource + Interrupt,
+    W: Write + Drop,
+    N: Write + Drop,
+    P: Pause + Drop,
     ensures { LivesOn client result.0 result.1.left }
 {
     let link = LentLink::new(link);
-    let mut session = Session::new(alloc, client, link, plan.turns(), journal);
-    let ended = run_session(
-        plan,
-        &mut session,
-        known,
-        lines,
-        progress,
-        pause,
-        writer,
-        notes,
-    );
+    let turns = setting.plan.turns();
+    let mut session = Session::new(setting.alloc, client, link, turns, journal);
+    let ended = run_session(setting, &mut session, console, progress);
     let left = session.leave();
     let last = session.last_block();
     (ended, Remains { left, last })
@@ -382,101 +407,82 @@ fn unbegun_after(error: RuntimeError) -> Ran
 
 // Begins the client, runs it, and cuts the block that it left. Borrows what it runs over, so that no early return has to
 // drop it.
-fn run_lives<K, L, J, I, P, W, N>(
-    alloc: Global,
-    plan: &ClientPlan<'_>,
-    keeper: &mut K,
+fn run_lives<K, L, J, I, W, N, P>(
+    setting: &Setting<'_, '_>,
+    record: &mut ClientRecord<K, J>,
     link: &mut L,
-    journal: &mut Option<Journal<J>>,
-    known: &[HandlerId],
-    lines: &mut I,
+    console: &mut Console<I, W, N, P>,
     progress: &mut Progress,
-    pause: &mut P,
-    writer: &mut W,
-    notes: &mut N,
 ) -> Ran
 where
     K: Keeper<Global>,
     L: Link,
     J: Write + Drop,
     I: LineSource + Interrupt,
-    P: Pause,
-    W: Write,
-    N: Write,
-    ensures lives { RunsLives plan.now.place.client plan.now.place.batch known.now (K.incarnations keeper.old) (K.incarnations keeper.new)
-        (K.is_honest keeper.new) result.ended result.unended }
-    ensures honest { K.is_honest keeper.new → K.is_honest keeper.old }
+    W: Write + Drop,
+    N: Write + Drop,
+    P: Pause + Drop,
+    ensures lives { RunsLives setting.now.plan.now.place.client setting.now.plan.now.place.batch setting.now.known.now
+        (K.incarnations record.old.store) (K.incarnations record.new.store) (K.is_honest record.new.store) result.ended result.unended }
+    ensures honest { K.is_honest record.new.store → K.is_honest record.old.store }
 {
-    let client = match begin_client(alloc, plan, keeper, known, journal) {
+    let client = match begin_client(setting, &mut record.store, &mut record.journal) {
         Ok(client) => client,
         Err(error) => return unbegun_after(error),
     };
-    let (ended, remains) = run_life(
-        alloc, plan, client, link, journal, known, lines, progress, pause, writer, notes,
+    let (ended, remains) = run_life(setting, client, link, &mut record.journal, console, progress);
+    let unended = cut_left(
+        setting,
+        &mut record.store,
+        &mut record.journal,
+        link,
+        remains,
+        &mut console.notes,
     );
-    let unended = cut_left(alloc, plan, keeper, link, journal, known, remains, notes);
-    tell_unended(unended, writer);
+    tell_unended(unended, &mut console.output);
     Ran { ended, unended }
 }
 
-// Makes the client's link, begins the client, runs it, and cuts the block that it left.
+// Begins the client with the handlers that it knows, runs it, and cuts the block that it left.
 #[tactic(auto, using(crate::proofs::ClientLives::ran_nowhere))]
-fn run_begun<K, L, J, I, E, P, W, N>(
+fn run_begun<K, L, J, I, W, N, P>(
     alloc: Global,
     plan: &ClientPlan<'_>,
-    keeper: &mut K,
-    link: L,
-    mut journal: Option<Journal<J>>,
-    lines: &mut I,
+    record: &mut ClientRecord<K, J>,
+    link: &mut L,
+    console: &mut Console<I, W, N, P>,
     progress: &mut Progress,
-    waits: E,
-    faults: E,
-    pause: &mut P,
-    writer: &mut W,
-    notes: &mut N,
 ) -> Ran
 where
     K: Keeper<Global>,
     L: Link,
     J: Write + Drop,
     I: LineSource + Interrupt,
-    E: Write + Drop,
-    P: Pause,
-    W: Write,
-    N: Write,
-    ensures lives { RunsLives plan.now.place.client plan.now.place.batch (known_to plan.now.system.now plan.now.place) (K.incarnations keeper.old)
-        (K.incarnations keeper.new) (K.is_honest keeper.new) result.ended result.unended }
-    ensures honest { K.is_honest keeper.new → K.is_honest keeper.old }
+    W: Write + Drop,
+    N: Write + Drop,
+    P: Pause + Drop,
+    ensures lives { RunsLives plan.now.place.client plan.now.place.batch (known_to plan.now.system.now plan.now.place)
+        (K.incarnations record.old.store) (K.incarnations record.new.store) (K.is_honest record.new.store) result.ended result.unended }
+    ensures honest { K.is_honest record.new.store → K.is_honest record.old.store }
 {
     let known = match plan.system().known_to(alloc, &plan.place()) {
         Ok(known) => known,
         Err(error) => return unbegun_after(RuntimeError::from(error)),
     };
-    let mut link = match client_link(alloc, link, waits, faults, &known) {
-        Ok(link) => link,
-        Err(error) => return unbegun_after(RuntimeError::from(error)),
-    };
-    run_lives(
+    let setting = Setting {
         alloc,
         plan,
-        keeper,
-        &mut link,
-        &mut journal,
-        &known,
-        lines,
-        progress,
-        pause,
-        writer,
-        notes,
-    )
+        known: &known,
+    };
+    run_lives(&setting, record, link, console, progress)
 }
 
-/// Runs a client over a link. It takes its next incarnation from the keeper, greets every handler that it uses, and then does what
-/// each line of the input asks. It writes one line for each, at once; for a refusal it writes `refused` and why, and goes on.
+/// Runs a client over a link. It takes its next incarnation from the store, greets every handler that it uses, and then does what
+/// each line of the console asks. It writes one line for each, at once; for a refusal it writes `refused` and why, and goes on.
 /// It writes its journal, if there is one: a command and what it received before it sends a new message for them, and before it
-/// answers. Repeated datagrams are rate-limited. When nothing new comes for a second, the client writes to `waits` which handlers it
-/// waits for. A call of the link that fails is written to `faults`; only the thousandth in a row ends the client. Between
-/// the tries of a waiting block it pauses with `pause`.
+/// answers. It repeats a datagram at each turn until it is answered, and ends at the first failed call of the link: a
+/// [`ClientLink`](scoop_links::ClientLink) limits repeats, and tolerates failed calls. Between the tries of a waiting block it
+/// pauses.
 ///
 /// While a `reserve` waits for its locks, the input is asked whether its next line is `giveup` ([`Interrupt`]). Then the
 /// locks are given back, and `given up` is the reply to both lines. The input doesn't give that `giveup` again.
@@ -493,7 +499,7 @@ where
 /// - how many tries of a waiting block failed.
 ///
 /// Refused, each with the progress so far:
-/// - the keeper's refusal, before anything is sent;
+/// - the store's refusal, before anything is sent;
 /// - `NotWelcomed` and `NotAnswered` when the turns are over, and `link: LinkFault`;
 /// - the first line that can't be read or names a handler that the client doesn't use, unless a user types;
 /// - for a strict client the first line that is refused;
@@ -502,47 +508,27 @@ where
 /// - `SomeRefused` after the last line of a script, if lines of it were refused;
 /// - `write fault`, also of the journal, and `out of memory`.
 #[tactic(auto, using(crate::proofs::ClientLives::client_ran_well, crate::proofs::ClientLives::client_ran_early))]
-pub fn client_run<K, L, J, I, E, P, W, N>(
+pub fn client_run<K, L, J, I, W, N, P>(
     alloc: Global,
     plan: &ClientPlan<'_>,
-    keeper: &mut K,
-    link: L,
-    journal: Option<Journal<J>>,
-    lines: &mut I,
-    waits: E,
-    faults: E,
-    pause: &mut P,
-    writer: &mut W,
-    notes: &mut N,
+    record: &mut ClientRecord<K, J>,
+    link: &mut L,
+    console: &mut Console<I, W, N, P>,
 ) -> Result<(), ClientStop>
 where
     K: Keeper<Global>,
     L: Link,
     J: Write + Drop,
     I: LineSource + Interrupt,
-    E: Write + Drop,
-    P: Pause,
-    W: Write,
-    N: Write,
-    ensures ran { ClientRan plan.now.place.client plan.now.place.batch (known_to plan.now.system.now plan.now.place) (K.incarnations keeper.old)
-        (K.incarnations keeper.new) (K.is_honest keeper.new) result }
-    ensures honest { K.is_honest keeper.new → K.is_honest keeper.old }
+    W: Write + Drop,
+    N: Write + Drop,
+    P: Pause + Drop,
+    ensures ran { ClientRan plan.now.place.client plan.now.place.batch (known_to plan.now.system.now plan.now.place)
+        (K.incarnations record.old.store) (K.incarnations record.new.store) (K.is_honest record.new.store) result }
+    ensures honest { K.is_honest record.new.store → K.is_honest record.old.store }
 {
     let mut progress = Progress::new();
-    let ran = run_begun(
-        alloc,
-        plan,
-        keeper,
-        link,
-        journal,
-        lines,
-        &mut progress,
-        waits,
-        faults,
-        pause,
-        writer,
-        notes,
-    );
+    let ran = run_begun(alloc, plan, record, link, console, &mut progress);
     progress.unended = ran.unended;
     match ran.ended {
         Ok(()) => Ok(()),

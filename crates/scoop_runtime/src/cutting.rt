@@ -8,13 +8,14 @@ ghost use Rattle.scoop_runtime.specs.ClientLives.{LivesAtMostOnce};
 ghost use Rattle.scoop_runtime.specs.Cutting.{BecomesOf, Cuts, IsNotGivenUp, Parts, PartsFrom, cut_text, freeing_text, held_text, unended_line};
 
 use crate::client::{begin_client, greet_all};
+use crate::client_parts::{ClientRecord, Setting};
 use crate::plan::ClientPlan;
 use scoop_client::HandlerList;
 use scoop_errors::PartyError;
 use scoop_journal::Journal;
 use scoop_keeper::Keeper;
 use scoop_link::Link;
-use scoop_links::{LentLink, client_link, print_numbers};
+use scoop_links::{LentLink, print_numbers};
 use scoop_message::{Block, ClientId, HandlerId};
 use scoop_session::{Left, PARTING_TURNS, Session};
 use scoop_texts::{RuntimeError, Unended, send_out};
@@ -27,6 +28,13 @@ use std::io::Write;
 pub(crate) struct Remains {
     pub(crate) left: Left,
     pub(crate) last: Option<(Block, HandlerList)>,
+}
+
+// The handlers that are greeted, and the most turns for it.
+#[derive(Clone, Copy)]
+struct Greeting<'h> {
+    handlers: &'h [HandlerId],
+    turns: u64,
 }
 
 // Writes how to free handlers that may hold a block of the client.
@@ -68,23 +76,23 @@ fn tell_held<L: Link, J: Write + Drop, N: Write>(
 // Begins the client's next incarnation, and greets these handlers with it. That cuts the client's block at each of them.
 // Those that don't welcome it are written to `notes`.
 fn greet_anew<K: Keeper<Global>, L: Link, J: Write + Drop, N: Write>(
-    alloc: Global,
-    plan: &ClientPlan<'_>,
+    setting: &Setting<'_, '_>,
     keeper: &mut K,
-    link: &mut L,
     journal: &mut Option<Journal<J>>,
-    known: &[HandlerId],
-    handlers: &[HandlerId],
-    turns: u64,
+    link: &mut L,
+    greeting: &Greeting<'_>,
     notes: &mut N,
 ) -> Result<(), RuntimeError>
-    ensures cuts { OnOk result (Cuts plan.now.place.client plan.now.place.batch known.now handlers.now (K.incarnations keeper.old) (K.incarnations keeper.new) (K.is_honest keeper.new)) }
-    ensures lives { LivesAtMostOnce plan.now.place.client plan.now.place.batch known.now
+    ensures cuts { OnOk result (Cuts setting.now.plan.now.place.client setting.now.plan.now.place.batch setting.now.known.now
+        greeting.now.handlers.now (K.incarnations keeper.old) (K.incarnations keeper.new) (K.is_honest keeper.new)) }
+    ensures lives { LivesAtMostOnce setting.now.plan.now.place.client setting.now.plan.now.place.batch setting.now.known.now
         (K.incarnations keeper.old) (K.incarnations keeper.new) (K.is_honest keeper.new) }
     ensures handlers { K.is_honest keeper.new → Stays (K.handlers keeper.old) (K.handlers keeper.new) }
     ensures honest { K.is_honest keeper.new → K.is_honest keeper.old }
 {
-    let client = begin_client(alloc, plan, keeper, known, journal)?;
+    let Setting { alloc, plan, .. } = *setting;
+    let Greeting { handlers, turns } = *greeting;
+    let client = begin_client(setting, keeper, journal)?;
     let mut session = Session::new(alloc, client, LentLink::new(link), turns, journal);
     match greet_all(plan, &mut session, handlers, turns) {
         Ok(()) => Ok(()),
@@ -97,42 +105,39 @@ fn greet_anew<K: Keeper<Global>, L: Link, J: Write + Drop, N: Write>(
 
 // Cuts a block that the client's session left open.
 fn cut_block<K: Keeper<Global>, L: Link, J: Write + Drop, N: Write>(
-    alloc: Global,
-    plan: &ClientPlan<'_>,
+    setting: &Setting<'_, '_>,
     keeper: &mut K,
-    link: &mut L,
     journal: &mut Option<Journal<J>>,
-    known: &[HandlerId],
-    block: Block,
-    handlers: &[HandlerId],
+    link: &mut L,
+    last: &(Block, HandlerList),
     notes: &mut N,
 ) -> Unended
-    ensures parts { Parts plan.now.place.client plan.now.place.batch known.now handlers.now result
+    ensures parts { Parts setting.now.plan.now.place.client setting.now.plan.now.place.batch setting.now.known.now last.now.1 result
         (K.incarnations keeper.old) (K.incarnations keeper.new) (K.is_honest keeper.new) }
     ensures given_up { IsNotGivenUp result }
     ensures honest { K.is_honest keeper.new → K.is_honest keeper.old }
 {
-    let turns = PARTING_TURNS;
-    match greet_anew(
-        alloc, plan, keeper, link, journal, known, handlers, turns, notes,
-    ) {
-        Ok(()) => Unended::Cut(block),
-        Err(_) => Unended::Held(block),
+    let (block, handlers) = last;
+    let greeting = Greeting {
+        handlers: handlers.as_slice(),
+        turns: PARTING_TURNS,
+    };
+    match greet_anew(setting, keeper, journal, link, &greeting, notes) {
+        Ok(()) => Unended::Cut(*block),
+        Err(_) => Unended::Held(*block),
     }
 }
 
 /// Cuts the block that the client's session left, if it left one open.
 pub(crate) fn cut_left<K: Keeper<Global>, L: Link, J: Write + Drop, N: Write>(
-    alloc: Global,
-    plan: &ClientPlan<'_>,
+    setting: &Setting<'_, '_>,
     keeper: &mut K,
-    link: &mut L,
     journal: &mut Option<Journal<J>>,
-    known: &[HandlerId],
+    link: &mut L,
     remains: Remains,
     notes: &mut N,
 ) -> Unended
-    ensures parts { PartsFrom plan.now.place.client plan.now.place.batch known.now remains.last result
+    ensures parts { PartsFrom setting.now.plan.now.place.client setting.now.plan.now.place.batch setting.now.known.now remains.last result
         (K.incarnations keeper.old) (K.incarnations keeper.new) (K.is_honest keeper.new) }
     ensures left { BecomesOf remains.left result }
     ensures honest { K.is_honest keeper.new → K.is_honest keeper.old }
@@ -141,12 +146,7 @@ pub(crate) fn cut_left<K: Keeper<Global>, L: Link, J: Write + Drop, N: Write>(
         (Left::When, _) => Unended::When,
         (Left::Nothing, _) | (_, None) => Unended::Nothing,
         (Left::GivenUp, Some((block, _))) => Unended::GivenUp(block),
-        (Left::Open, Some((block, handlers))) => {
-            let handlers = handlers.as_slice();
-            cut_block(
-                alloc, plan, keeper, link, journal, known, block, handlers, notes,
-            )
-        }
+        (Left::Open, Some(last)) => cut_block(setting, keeper, journal, link, &last, notes),
     }
 }
 
@@ -176,56 +176,55 @@ fn print_cut<W: Write>(client: ClientId, handlers: &[HandlerId], writer: &mut W)
     writer.write_all(b"\n")
 }
 
-/// Cuts the block of a client that was killed: the client takes its next incarnation from the keeper, and greets every
+/// Cuts the block of a client that was killed: the client takes its next incarnation from the store, and greets every
 /// handler that it uses. Then no handler holds a block of its earlier incarnations, and it writes
 /// `cut client 7 at handlers 1 2`. It writes to `notes` the handlers that don't welcome it, and how to free them. It
-/// writes to `waits` the handlers that it waits for, and to `faults` the failed calls of the link. It writes its
-/// journal, if there is one.
+/// writes its journal, if there is one. Its link is that of [`client_run`](crate::client_run).
 ///
 /// Refused:
-/// - the keeper's refusal, before anything is sent;
+/// - the store's refusal, before anything is sent;
 /// - `NotWelcomed` when the turns are over, and `link: LinkFault`;
 /// - `write fault`, and `out of memory`.
-pub fn client_cut<K, L, J, E, W, N>(
+pub fn client_cut<K, L, J, W, N>(
     alloc: Global,
     plan: &ClientPlan<'_>,
-    keeper: &mut K,
-    link: L,
-    mut journal: Option<Journal<J>>,
-    waits: E,
-    faults: E,
-    writer: &mut W,
+    record: &mut ClientRecord<K, J>,
+    link: &mut L,
+    output: &mut W,
     notes: &mut N,
 ) -> Result<(), RuntimeError>
 where
     K: Keeper<Global>,
     L: Link,
     J: Write + Drop,
-    E: Write + Drop,
     W: Write,
     N: Write,
     ensures cuts { OnOk result (Cuts plan.now.place.client plan.now.place.batch (known_to plan.now.system.now plan.now.place)
-        (known_to plan.now.system.now plan.now.place) (K.incarnations keeper.old) (K.incarnations keeper.new) (K.is_honest keeper.new)) }
+        (known_to plan.now.system.now plan.now.place) (K.incarnations record.old.store) (K.incarnations record.new.store) (K.is_honest record.new.store)) }
     ensures lives { LivesAtMostOnce plan.now.place.client plan.now.place.batch (known_to plan.now.system.now plan.now.place)
-        (K.incarnations keeper.old) (K.incarnations keeper.new) (K.is_honest keeper.new) }
-    ensures honest { K.is_honest keeper.new → K.is_honest keeper.old }
+        (K.incarnations record.old.store) (K.incarnations record.new.store) (K.is_honest record.new.store) }
+    ensures honest { K.is_honest record.new.store → K.is_honest record.old.store }
 {
     let known = plan.system().known_to(alloc, &plan.place())?;
-    let mut link = client_link(alloc, link, waits, faults, &known)?;
-    let turns = plan.turns();
-    greet_anew(
+    let setting = Setting {
         alloc,
         plan,
-        keeper,
-        &mut link,
-        &mut journal,
-        &known,
-        &known,
-        turns,
+        known: &known,
+    };
+    let greeting = Greeting {
+        handlers: &known,
+        turns: plan.turns(),
+    };
+    greet_anew(
+        &setting,
+        &mut record.store,
+        &mut record.journal,
+        link,
+        &greeting,
         notes,
     )?;
-    let written = print_cut(plan.place().client, &known, writer);
-    if written.is_ok() && writer.flush().is_ok() {
+    let written = print_cut(plan.place().client, &known, output);
+    if written.is_ok() && output.flush().is_ok() {
         Ok(())
     } else {
         Err(RuntimeError::from(PartyError::Write))

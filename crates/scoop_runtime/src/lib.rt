@@ -6,7 +6,7 @@
 //! every handler that it uses, and replies line by line. At its end it leaves no block behind. The call [`client_cut`]
 //! cuts the block of a client that was killed. The call [`program_run`] runs a program as a client, whose commands are the
 //! calls of the program ([`Calls`]). The calls [`open_node_link`] and [`open_client_link`] bind their addresses, and a
-//! [`TurningLink`] follows a node to its other addresses. The call
+//! [`ClientLink`] is a client's link around that. The call
 //! [`print_reply`] writes the reply to a line. The call [`check_script`] reads all lines of a script before a client runs
 //! them.
 //!
@@ -19,24 +19,17 @@
 //! let ended = node_run(rt, alloc, &plan, &serving, keeper, link, notes, &mut output);
 //! // a client of it, whose commands are these lines
 //! let plan = ClientPlan::new(system, place, TURNS, is_typed).ok()?;
-//! let ended = client_run(
-//!     alloc,
-//!     &plan,
-//!     keeper,
-//!     link,
-//!     lines,
-//!     waits,
-//!     faults,
-//!     &mut Backoff::new(rt, client),
-//!     &mut output,
-//!     &mut notes,
-//! );
+//! let mut link = ClientLink::new(alloc, link, clock, ClientNotes { waits, faults }, system, client.0)?;
+//! let mut record = ClientRecord { store, journal };
+//! let mut console = Console { lines, output, notes, pause: Backoff::new(rt, client) };
+//! let ended = client_run(alloc, &plan, &mut record, &mut link, &mut console);
 //! ```
 #![tactic(auto)]
 
 mod backoff;
 mod calling;
 mod client;
+mod client_parts;
 mod cutting;
 mod ending;
 mod links;
@@ -51,15 +44,16 @@ mod trying;
 pub use backoff::Backoff;
 pub use calling::{Caller, Calls};
 pub use client::client_run;
+pub use client_parts::{ClientRecord, Console};
 pub use cutting::client_cut;
 pub use ending::Ending;
 pub use links::{open_client_link, open_node_link};
 pub use node::{Around, node_run};
 pub use objects::{Native, Objects, Tables};
 pub use plan::{ClientPlan, NodePlan, Serving};
-pub use program::{ClientProgram, ProgramEnd, program_run};
+pub use program::{ClientProgram, ProgramEnd, ProgramRun, program_run};
 pub use scoop_driver::Interrupt;
-pub use scoop_links::TurningLink;
+pub use scoop_links::{ClientLink, ClientNotes};
 pub use scoop_texts::{
     About, ClientStop, FileFault, MAX_EXECUTORS, MIN_HISTORY, OutOfRange, Progress, Reply,
     RuntimeError, Unended, check_script, print_reply,

@@ -3,13 +3,12 @@
 ghost use Rattle.std.specs.Prelude.{◌≡◌};
 
 use crate::calling::{Caller, Calls};
+use crate::client_parts::ClientRecord;
 use crate::plan::ClientPlan;
 use scoop_driver::Pause;
-use scoop_journal::Journal;
 use scoop_keeper::Keeper;
 use scoop_link::Link;
-use scoop_links::client_link;
-use scoop_message::HandlerId;
+use scoop_links::LentLink;
 use scoop_texts::{RuntimeError, Unended};
 use std::alloc::Global;
 use std::io::Write;
@@ -37,48 +36,37 @@ impl ProgramEnd {
     }
 }
 
+/// A program that runs as a client, with its pauses between the tries of a waiting block, and its notes.
+#[derive(Drop)]
+pub struct ProgramRun<'g, G: ClientProgram, P: Pause + Drop, N: Write + Drop> {
+    pub program: &'g mut G,
+    pub pause: P,
+    pub notes: N,
+}
+
 /// Runs a program as the client of this plan: the client begins ([`Caller::begin`]), the program makes its calls, and a block
-/// that it left open is cut ([`Caller::close`]). Repeated datagrams are rate-limited. When nothing new comes for a second, the
-/// client writes to `waits` which handlers it waits for. A call of the link that fails is written to `faults`.
-pub fn program_run<K, L, J, E, P, N, G>(
+/// that it left open is cut ([`Caller::close`]). Its link is that of [`client_run`](crate::client_run).
+pub fn program_run<K, L, J, G, P, N>(
     alloc: Global,
     plan: &ClientPlan<'_>,
-    keeper: &mut K,
-    link: L,
-    mut journal: Option<Journal<J>>,
-    program: &mut G,
-    waits: E,
-    faults: E,
-    pause: P,
-    notes: N,
+    record: &mut ClientRecord<K, J>,
+    link: &mut L,
+    run: ProgramRun<'_, G, P, N>,
 ) -> ProgramEnd
 where
     K: Keeper<Global>,
     L: Link,
     J: Write + Drop,
-    E: Write + Drop,
+    G: ClientProgram,
     P: Pause + Drop,
     N: Write + Drop,
-    G: ClientProgram,
 {
-    let known = match plan.system().known_to(alloc, &plan.place()) {
-        Ok(known) => known,
-        Err(error) => return ProgramEnd::unbegun(RuntimeError::from(error)),
-    };
-    let link = match client_link(alloc, link, waits, faults, &known) {
-        Ok(link) => link,
-        Err(error) => return ProgramEnd::unbegun(RuntimeError::from(error)),
-    };
-    match Caller::begin(
-        alloc,
-        plan,
-        &known,
-        keeper,
-        link,
-        &mut journal,
+    let ProgramRun {
+        program,
         pause,
         notes,
-    ) {
+    } = run;
+    match Caller::begin(alloc, plan, record, LentLink::new(link), pause, notes) {
         Ok(caller) => run_calls(program, caller),
         Err(error) => ProgramEnd::unbegun(error),
     }
@@ -87,7 +75,7 @@ where
 // Lets the program make its calls, and ends the client.
 fn run_calls<K, L, J, P, N, G>(
     program: &mut G,
-    mut caller: Caller<'_, '_, '_, '_, '_, K, L, J, P, N>,
+    mut caller: Caller<'_, '_, '_, '_, K, L, J, P, N>,
 ) -> ProgramEnd
 where
     K: Keeper<Global>,

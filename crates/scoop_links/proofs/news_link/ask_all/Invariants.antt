@@ -1,8 +1,0 @@
-use Rattle.std.proofs.Common.{◌≡◌, ◌++◌, map, take, drop}
-use Rattle.scoop_link.specs.Datagram.{kept}
-use Rattle.scoop_links.specs.News.{asked}
-use Rattle.scoop_links.proofs.news_link.ask_all.Given as goal
-
--- the talks before the index know of it
-abbrev pub invariant-loop-talk : goal.invariant-loop-talk
-invariant-loop-talk l = l.talks ≡ map (asked l.fn.handler (kept l.fn.bytes)) (take l.talk-index l.fn.talks) ++ drop l.talk-index l.fn.talks
