@@ -1,5 +1,5 @@
 -- The failed calls of a link, and how many in a row are tolerated.
-use Rattle.std.specs.Prelude.{ℕ, ◌+◌, ◌-◌, ◌^◌, min, nat_lt, nat_le, ◌&&◌, Bool, if◌then◌else◌}
+use Rattle.std.specs.Prelude.{◌+◌, ◌-◌, ◌^◌, min, nat_lt, nat_le, ◌&&◌, Bool, if◌then◌else◌}
 use Rattle.scoop_links.specs.declared.patience.Patience.{Patience}
 use Rattle.scoop_links.specs.declared.patience.TheConstants.{MAX_IN_A_ROW, NOTE_EVERY}
 

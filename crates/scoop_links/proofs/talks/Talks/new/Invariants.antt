@@ -1,4 +1,4 @@
-use Rattle.std.proofs.Common.{◌≡◌, length, map, take, vec_len, vec_capacity}
+use Rattle.std.proofs.Common.{◌≡◌, length, take, vec_len, vec_capacity}
 use Rattle.scoop_links.specs.Talks.{fresh_talks}
 use Rattle.scoop_links.proofs.talks.Talks.new.Given as goal
 
