@@ -6,7 +6,7 @@ use crate::typed_lines::TypedLines;
 use scoop_command_line::{ClientOptions, StoreChoice};
 use scoop_etcd_stores::Fate;
 use scoop_files::{FiledStore, Named, StoreName, close};
-use scoop_journal::JournalFile;
+use scoop_journal::{Journal, JournalFile};
 use scoop_link::UdpLink;
 use scoop_links::{ClientLink, ClientNotes};
 use scoop_message::ClientId;
@@ -19,7 +19,7 @@ use scoop_opening::{
 use scoop_pacing::{SlowNotes, SystemTimes};
 use scoop_record::Store;
 use scoop_report::{Hints, Status, hint, report};
-use scoop_runtime::{ClientProgram, FileFault, check_script, open_client_link};
+use scoop_runtime::{ClientProgram, ClientRecord, FileFault, check_script, open_client_link};
 use scoop_seal::SealedLink;
 use scoop_system::System;
 use scoop_watch::Unwatched;
@@ -223,7 +223,7 @@ pub fn run_over<S: Alter + Drop, C: ClientTask>(
         config,
         name,
         journal,
-        link,
+        mut link,
     } = asking;
     note_owner(rt, config.store, config.plan.system(), config.owner());
     let fate = Fate::new();
@@ -237,9 +237,16 @@ pub fn run_over<S: Alter + Drop, C: ClientTask>(
         journal: None::<NodeJournal<&JournalFile>>,
         watcher: Unwatched,
     };
-    let mut keeper = ObservedKeeper::new(keeper, observers);
-    let ran = task.run(rt, &config.plan, &mut keeper, journal, link);
-    let store = store_in_client(keeper.into_inner());
+    let mut record = ClientRecord {
+        store: ObservedKeeper::new(keeper, observers),
+        journal: match journal {
+            Some(file) => Some(Journal::new(rt.alloc(), file)),
+            None => None,
+        },
+    };
+    let ran = task.run(rt, &config.plan, &mut record, &mut link);
+    let ClientRecord { store, .. } = record;
+    let store = store_in_client(store.into_inner());
     match ran {
         Ok(()) => (Ok(()), store),
         Err(end) => (Err(fated_end(&fate, end)), store),

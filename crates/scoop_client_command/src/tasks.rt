@@ -1,39 +1,40 @@
 //! The tasks of a client: the lines of an input, the cut of a run that was killed, and the calls of a program.
 
-use crate::ending::End;
 use crate::keyboard::Keyboard;
 use crate::typed_lines::TypedLines;
-use scoop_journal::{Journal, JournalFile};
+use scoop_files::StoreName;
+use scoop_journal::JournalFile;
 use scoop_keeper::Keeper;
 use scoop_lines::LineSource;
 use scoop_link::Link;
 use scoop_message::OutOfMemory;
-use scoop_pacing::{SlowNotes, SystemTimes};
+use scoop_opening::End;
 use scoop_runtime::{
-    Backoff, ClientPlan, ClientProgram, Interrupt, Unended, client_cut, client_run, program_run,
+    Backoff, ClientPlan, ClientProgram, ClientRecord, Console, Interrupt, ProgramRun, Unended,
+    client_cut, client_run, program_run,
 };
 use std::alloc::Global;
 use std::io;
-use std::io::{BufWriter, Stderr};
+use std::io::BufWriter;
 use std::net::Net;
 
 /// The task of a client.
-pub(crate) trait ClientTask {
-    /// Runs the client of this plan over its store and its link. It writes its journal, if it has one.
+pub trait ClientTask {
+    /// Runs the client of this plan over its record and its link.
     fn run<K: Keeper<Global>, L: Link>(
         &mut self,
         rt: &HostRuntime,
         plan: &ClientPlan<'_>,
-        store: &mut K,
-        journal: Option<&JournalFile>,
-        link: L,
+        record: &mut ClientRecord<K, &JournalFile>,
+        link: &mut L,
     ) -> Result<(), End>;
 }
 
-/// The lines of standard input.
+/// The lines of standard input. The client ends when a store of these names is lost.
 #[derive(Drop)]
-pub(crate) struct Input<'n, T: Net> {
-    pub(crate) net: &'n T,
+pub struct Input<'n, T: Net> {
+    pub net: &'n T,
+    pub names: &'n [StoreName],
 }
 
 /// The lines of this text.
@@ -57,12 +58,11 @@ impl<'n, T: Net> ClientTask for Input<'n, T> {
         &mut self,
         rt: &HostRuntime,
         plan: &ClientPlan<'_>,
-        store: &mut K,
-        journal: Option<&JournalFile>,
-        link: L,
+        record: &mut ClientRecord<K, &JournalFile>,
+        link: &mut L,
     ) -> Result<(), End> {
-        let mut lines = Keyboard::new(rt, self.net, plan.system(), &[])?;
-        run_lines(rt, plan, store, journal, link, &mut lines)
+        let lines = Keyboard::new(rt, self.net, plan.system(), self.names)?;
+        run_lines(rt, plan, record, link, lines)
     }
 }
 
@@ -71,12 +71,11 @@ impl<'t> ClientTask for Script<'t> {
         &mut self,
         rt: &HostRuntime,
         plan: &ClientPlan<'_>,
-        store: &mut K,
-        journal: Option<&JournalFile>,
-        link: L,
+        record: &mut ClientRecord<K, &JournalFile>,
+        link: &mut L,
     ) -> Result<(), End> {
-        let mut lines = TypedLines::new(self.text.as_bytes());
-        run_lines(rt, plan, store, journal, link, &mut lines)
+        let lines = TypedLines::new(self.text.as_bytes());
+        run_lines(rt, plan, record, link, lines)
     }
 }
 
@@ -85,23 +84,12 @@ impl ClientTask for Cut {
         &mut self,
         rt: &HostRuntime,
         plan: &ClientPlan<'_>,
-        store: &mut K,
-        journal: Option<&JournalFile>,
-        link: L,
+        record: &mut ClientRecord<K, &JournalFile>,
+        link: &mut L,
     ) -> Result<(), End> {
         let alloc = rt.alloc();
         let mut output = BufWriter::new(alloc, io::writer(rt)).map_err(|_| OutOfMemory)?;
-        client_cut(
-            alloc,
-            plan,
-            store,
-            link,
-            journal.map(|file| Journal::new(alloc, file)),
-            slow_notes(rt),
-            slow_notes(rt),
-            &mut output,
-            &mut rt.stderr(),
-        )?;
+        client_cut(alloc, plan, record, link, &mut output, &mut rt.stderr())?;
         Ok(())
     }
 }
@@ -111,23 +99,15 @@ impl<'g, G: ClientProgram> ClientTask for Program<'g, G> {
         &mut self,
         rt: &HostRuntime,
         plan: &ClientPlan<'_>,
-        store: &mut K,
-        journal: Option<&JournalFile>,
-        link: L,
+        record: &mut ClientRecord<K, &JournalFile>,
+        link: &mut L,
     ) -> Result<(), End> {
-        let alloc = rt.alloc();
-        let end = program_run(
-            alloc,
-            plan,
-            store,
-            link,
-            journal.map(|file| Journal::new(alloc, file)),
-            self.program,
-            slow_notes(rt),
-            slow_notes(rt),
-            Backoff::new(rt, plan.place().client),
-            rt.stderr(),
-        );
+        let run = ProgramRun {
+            program: self.program,
+            pause: Backoff::new(rt, plan.place().client),
+            notes: rt.stderr(),
+        };
+        let end = program_run(rt.alloc(), plan, record, link, run);
         match (end.ended, end.unended) {
             (Err(error), _) => Err(End::Runtime(error)),
             (Ok(()), Unended::Nothing) => Ok(()),
@@ -136,34 +116,22 @@ impl<'g, G: ClientProgram> ClientTask for Program<'g, G> {
     }
 }
 
-// Standard error, for at most one line a second.
-fn slow_notes(rt: &HostRuntime) -> SlowNotes<Stderr, SystemTimes<'_, HostRuntime>> {
-    SlowNotes::new(rt.stderr(), SystemTimes::new(rt))
-}
-
 // Runs the client with these lines.
-fn run_lines<K: Keeper<Global>, L: Link, I: LineSource + Interrupt>(
+fn run_lines<K: Keeper<Global>, L: Link, I: LineSource + Interrupt + Drop>(
     rt: &HostRuntime,
     plan: &ClientPlan<'_>,
-    store: &mut K,
-    journal: Option<&JournalFile>,
-    link: L,
-    lines: &mut I,
+    record: &mut ClientRecord<K, &JournalFile>,
+    link: &mut L,
+    lines: I,
 ) -> Result<(), End> {
     let alloc = rt.alloc();
-    let mut output = BufWriter::new(alloc, io::writer(rt)).map_err(|_| OutOfMemory)?;
-    client_run(
-        alloc,
-        plan,
-        store,
-        link,
-        journal.map(|file| Journal::new(alloc, file)),
+    let output = BufWriter::new(alloc, io::writer(rt)).map_err(|_| OutOfMemory)?;
+    let mut console = Console {
         lines,
-        slow_notes(rt),
-        slow_notes(rt),
-        &mut Backoff::new(rt, plan.place().client),
-        &mut output,
-        &mut rt.stderr(),
-    )?;
+        output,
+        notes: rt.stderr(),
+        pause: Backoff::new(rt, plan.place().client),
+    };
+    client_run(alloc, plan, record, link, &mut console)?;
     Ok(())
 }

@@ -10,8 +10,8 @@ use scoop_links::PatientLink;
 use scoop_message::{ClientId, HandlerId, OutOfMemory};
 use scoop_node_link::NodeLink;
 use scoop_observed::{NodeJournal, ObservedKeeper, Observers};
-use scoop_pacing::{SlowNotes, SystemTimes};
 use scoop_opening::{End, go_on};
+use scoop_pacing::{SlowNotes, SystemTimes};
 use scoop_report::{Hints, Status, hint, report};
 use scoop_runtime::{Around, Ending, NodePlan, Objects, RuntimeError, node_run, open_node_link};
 use scoop_seal::SealedLink;
@@ -87,7 +87,13 @@ impl<'a, O: Objects> Host<'a, O> {
     /// how far it goes.
     pub fn go_on<K: Keeper<Global>>(&self, rt: &HostRuntime, keeper: &mut K) -> Result<(), Status> {
         let about = &self.config.about;
-        go_on(rt, self.config.store, about.system, about.place.number, keeper)
+        go_on(
+            rt,
+            self.config.store,
+            about.system,
+            about.place.number,
+            keeper,
+        )
     }
 
     /// Runs the node over this link and this keeper until its turns are over or it is asked to end, lets its watch end, and
@@ -255,8 +261,7 @@ where
     let ending = Ending::new();
     let ending = &ending;
     thread::scope(thread::scope_env(), threads, move |scope| {
-        let running =
-            scope.spawn(move || host.run(rt, threads, link, keeper, rt.stdout(), ending));
+        let running = scope.spawn(move || host.run(rt, threads, link, keeper, rt.stdout(), ending));
         match running {
             Ok(running) => {
                 task.run();

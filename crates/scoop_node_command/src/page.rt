@@ -1,6 +1,7 @@
 //! What shows a node while it runs: the server of its status, and its log.
 
 use crate::config::NodeConfig;
+use crate::host::Task;
 use mio::net::TcpListener;
 use scoop_opening::End;
 use scoop_report::report;
@@ -14,8 +15,6 @@ use std::io::Stderr;
 use std::net::SocketAddr;
 use std::sync::Wait;
 use std::time::Clock;
-
-use crate::host::Task;
 
 /// The status and the log of a node that another thread runs.
 #[derive(Drop)]
@@ -45,7 +44,10 @@ impl<'a, 's, T: Wait + Clock> Task<()> for Screen<'a, 's, T> {
 
 /// Opens the server of a node's status, if it has one. It says so if other machines can reach it, and if a node that may stand at
 /// another machine goes on without.
-pub(crate) fn open_server(rt: &HostRuntime, config: &NodeConfig<'_>) -> Result<Option<Server>, End> {
+pub(crate) fn open_server(
+    rt: &HostRuntime,
+    config: &NodeConfig<'_>,
+) -> Result<Option<Server>, End> {
     let Some(address) = config.status else {
         return Ok(None);
     };

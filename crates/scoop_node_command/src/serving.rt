@@ -10,8 +10,7 @@ use scoop_journal::Owner;
 use scoop_link::UdpLink;
 use scoop_opening::{
     End, OpenStore, check_choice, close_store, fated_end, node_end, node_keeper, open_journal,
-    read_system, report_end, store_in_node, store_name,
-    with_journal,
+    read_system, report_end, store_in_node, store_name, with_journal,
 };
 use scoop_record::Store;
 use scoop_report::{Hints, Status, hint, report};

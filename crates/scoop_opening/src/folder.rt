@@ -25,12 +25,7 @@ pub fn make_folder(rt: &HostRuntime, dir: &str) -> Result<(), Status> {
 }
 
 /// The file of a party's store in the folder.
-pub fn store_path(
-    rt: &HostRuntime,
-    dir: &str,
-    kind: &str,
-    number: u32,
-) -> Result<String, Status> {
+pub fn store_path(rt: &HostRuntime, dir: &str, kind: &str, number: u32) -> Result<String, Status> {
     match format!(in rt.alloc(); "{dir}/{kind}-{number}.db") {
         Ok(path) => Ok(path),
         Err(_) => Err(report_plainly(rt, RuntimeError::from(OutOfMemory))),

@@ -17,10 +17,7 @@ pub fn open_journal(
 }
 
 /// How a party ended: if a line of its journal wasn't written, that is why.
-pub fn with_journal(
-    journal: Option<&JournalFile>,
-    ended: Result<(), End>,
-) -> Result<(), End> {
+pub fn with_journal(journal: Option<&JournalFile>, ended: Result<(), End>) -> Result<(), End> {
     match journal {
         Some(journal) if journal.has_failed() => Err(End::Unwritten),
         _ => ended,

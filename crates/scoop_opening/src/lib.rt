@@ -15,9 +15,7 @@ mod places;
 mod stores;
 mod system_file;
 
-pub use ending::{
-    End, Party, fated_end, node_end, report_end, report_plainly, report_range,
-};
+pub use ending::{End, Party, fated_end, node_end, report_end, report_plainly, report_range};
 pub use folder::{choice_of, make_folder, store_path};
 pub use going_on::go_on;
 pub use journaling::{open_journal, with_journal};

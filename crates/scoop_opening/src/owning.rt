@@ -34,11 +34,7 @@ pub fn check_owner(
 }
 
 /// The text beside this owner's store, if there is one.
-pub fn found_text(
-    rt: &HostRuntime,
-    path: &str,
-    owner: Owner,
-) -> Result<Option<String>, Status> {
+pub fn found_text(rt: &HostRuntime, path: &str, owner: Owner) -> Result<Option<String>, Status> {
     match place_of(path) {
         Some(place) => match shared_text(rt, &place, owner) {
             Ok(text) => Ok(text),

@@ -82,7 +82,10 @@ pub fn store_in_client<'f, 'a, S: Alter + Drop>(
 }
 
 /// The name of the store that a choice names, if that is a file.
-pub fn store_name(alloc: Global, choice: StoreChoice<'_>) -> Result<Option<StoreName>, OutOfMemory> {
+pub fn store_name(
+    alloc: Global,
+    choice: StoreChoice<'_>,
+) -> Result<Option<StoreName>, OutOfMemory> {
     match (choice.path(), place_chosen(choice)) {
         (Some(path), None) => Ok(Some(StoreName::new(alloc, path)?)),
         _ => Ok(None),

@@ -31,8 +31,8 @@ mod arguments;
 
 pub use arguments::{report_command_line, report_memory, words};
 use clap::ArgMatches;
-use scoop_command_line::{client_options, node_options, parse_client, parse_node};
 use scoop_client_command::run_own_client;
+use scoop_command_line::{client_options, node_options, parse_client, parse_node};
 use scoop_node_command::serve_node;
 use scoop_report::Status;
 use scoop_runtime::{ClientProgram, Objects};

@@ -12,7 +12,8 @@ use scoop_keeper::Keeper;
 use scoop_lines::decimal_u32;
 use scoop_message::{ClientId, HandlerId, OutOfMemory};
 use scoop_opening::{
-    End, check_text, etcd_owner, found_text, place_of, put_shared, report_plainly, require_no_state, text_beside,
+    End, check_text, etcd_owner, found_text, place_of, put_shared, report_plainly,
+    require_no_state, text_beside,
 };
 use scoop_record::{GatheringStore, Store};
 use scoop_report::{Hints, Status, hint, report};

@@ -44,7 +44,10 @@ impl<'a, K: SharedKeeper<Global> + Send> Hosted<'a, K> {
         let (Some(link), Some(keeper)) = (self.link.take(), self.keeper.take()) else {
             return;
         };
-        match self.host.run(rt, threads, link, keeper, rt.stderr(), ending) {
+        match self
+            .host
+            .run(rt, threads, link, keeper, rt.stderr(), ending)
+        {
             Ok(keeper) => self.keeper = Some(keeper),
             Err(error) => {
                 let _told = writeln!(rt.stderr(), "scoop: a node has ended: {error}");

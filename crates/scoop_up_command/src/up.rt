@@ -183,10 +183,7 @@ fn paths_of(
 }
 
 // The stores in these files; new ones where there is no file.
-fn choices_of<'p>(
-    rt: &HostRuntime,
-    paths: &'p [String],
-) -> Result<Vec<StoreChoice<'p>>, Status> {
+fn choices_of<'p>(rt: &HostRuntime, paths: &'p [String]) -> Result<Vec<StoreChoice<'p>>, Status> {
     let mut choices = Vec::new(rt.alloc());
     for path in paths {
         put(rt, &mut choices, choice_of(rt, path.as_str())?)?;
@@ -314,7 +311,11 @@ fn run_parties<T: Threads + Wait + Clock + Net + Sync>(
     };
     let mut stores = Vec::new(rt.alloc());
     open_stores(rt, parties, &mut stores)?;
-    closed(rt, parties, run_over_stores(rt, threads, parties, hosts, asking, stores))
+    closed(
+        rt,
+        parties,
+        run_over_stores(rt, threads, parties, hosts, asking, stores),
+    )
 }
 
 // Runs the nodes and the client over their stores.
@@ -448,11 +449,7 @@ fn closed(
 }
 
 // Closes the store of this name, unless it has lost that.
-fn close_one(
-    rt: &HostRuntime,
-    name: &StoreName,
-    store: Option<FiledStore>,
-) -> Result<(), Status> {
+fn close_one(rt: &HostRuntime, name: &StoreName, store: Option<FiledStore>) -> Result<(), Status> {
     match close_store(store, name) {
         Ok(()) => Ok(()),
         Err(error) => Err(report_file(rt, Hints::Always, name.path(), error)),
