@@ -1,3 +1,2 @@
 mod Releasing
 mod Taking
-mod Recalling

@@ -1,6 +1,6 @@
 use Rattle.std.proofs.Common.{◌≡◌, ◌≤◌, None, replicate, vec_len, vec_capacity}
-use Rattle.scoop_node_link.specs.declared.memory.TheConstants.{ROOM}
-use Rattle.scoop_node_link.proofs.recalling_link.no_memories.Given as goal
+use Rattle.scoop_node_link.specs.declared.replies.TheConstants.{ROOM}
+use Rattle.scoop_node_link.proofs.replies.no_memories.Given as goal
 
 abbrev pub invariant-loop : goal.invariant-loop
 invariant-loop g l = record {
