@@ -63,7 +63,7 @@ impl<'a> ClientConfig<'a> {
     }
 
     /// What a report of its end may name.
-    pub(crate) fn party(&self) -> Party<'a> {
+    pub fn party(&self) -> Party<'a> {
         Party {
             system: self.plan.system(),
             address: self.plan.place().address,
