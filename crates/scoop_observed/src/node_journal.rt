@@ -1,6 +1,6 @@
 //! The journal of a node, whose lines wait for its keeper's next commit.
 
-ghost use Rattle.std.specs.Prelude.{◌≡◌, ◌⊎◌, true, false, [], Ok, Err, IsOk, IfErr, OnOk, OnErr, if◌then◌else◌};
+ghost use Rattle.std.specs.Prelude.{◌≡◌, ◌++◌, ◌⊎◌, true, false, [], Ok, Err, IsOk, IfErr, OnOk, OnErr, if◌then◌else◌};
 ghost use Rattle.scoop_keeper.specs.Keeper.{IsPutError, IsSame, Stays};
 ghost use Rattle.scoop_keeper.specs.Storing.{leaves};
 ghost use Rattle.scoop_journal.specs.declared.line.Line.TheVariants.{Hear};
