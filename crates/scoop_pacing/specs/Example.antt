@@ -1,6 +1,5 @@
 -- Computed examples of timeouts and of the datagrams that go.
 use Rattle.std.specs.Prelude.{◌≡◌, ℕ, true, false, List, [], ◌∷◌}
-use Rattle.scoop_message.specs.declared.name.HandlerId.{HandlerId}
 use Rattle.scoop_link.specs.declared.party.Party.{Party}
 use Rattle.scoop_link.specs.declared.party.Party.TheVariants.{Handler}
 use Rattle.scoop_pacing.specs.declared.estimate.Estimate.{Estimate}
