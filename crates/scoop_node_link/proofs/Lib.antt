@@ -1,2 +1,3 @@
 mod Releasing
 mod Taking
+mod Receiving

@@ -71,6 +71,10 @@ pub record Passes (old : NodeState) (now : ℕ) (d : List ℕ) (new : NodeState)
   pub admitted : Judges Admitted old.admission now d
   pub asked : new ≡ record (judged old Admitted now d) { replies = asks old.replies (kept d) seen }
 
+-- no datagram waits for its reply
+abbrev pub forgetting : NodeState → NodeState
+forgetting s = record s { replies = forgets s.replies }
+
 -- a datagram came and was lost, since the reply that is remembered for it could not be sent
 pub record Loses (old : NodeState) (now : ℕ) (d : List ℕ) (new : NodeState) : Type 0 where
   pub memory : MemoryValue
@@ -86,14 +90,14 @@ Ends (Ok None) last old now new buffer = (last ≡ []) × (new ≡ old)
 Ends (Ok (Some n)) last old now new buffer = (last ≡ take n buffer ∷ []) × Passes old now (take n buffer) new
 Ends (Err fault) last old now new buffer = ((last ≡ []) × (new ≡ old)) ⊎ ((d : List ℕ) × (last ≡ d ∷ []) × Loses old now d new)
 
--- A receive of the link whose states these are took these datagrams, no more than MAX_TAKEN, and sent these replies at once.
+-- A receive took these datagrams, no more than MAX_TAKEN, of which the last one may pass on, and sent these replies at once.
 pub record Receives (result : Result (Option ℕ) LinkFault) (before after : Option Told) (old : NodeState) (now : ℕ) (new : NodeState)
     (buffer : List ℕ) : Type 0 where
   pub stopped : List (List ℕ)
   pub gone : Datagrams
   pub between : NodeState
   pub last : List (List ℕ)
-  pub stops : StopsAll (record old { replies = forgets old.replies }) stopped gone between
+  pub stops : StopsAll old stopped gone between
   pub ends : Ends result last between now new buffer
   pub exchanged : Exchanges before after (stopped ++ last) gone
   pub at_most : length stopped + length last ≤ MAX_TAKEN

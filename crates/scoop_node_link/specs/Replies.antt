@@ -1,8 +1,9 @@
 -- The replies that a link remembers, and the datagrams that they answer.
-use Rattle.std.specs.Prelude.{◌≡◌, ℕ, ◌+◌, ◌*◌, ◌%◌, List, replicate, slice_get, slice_set, Option, Some, None}
+use Rattle.std.specs.Prelude.{◌≡◌, ℕ, ◌+◌, ◌*◌, ◌%◌, List, replicate, slice_get, slice_set, Option, Some, None, Result, Ok, Err}
 use Rattle.scoop_frame.specs.declared.naming.Names.{Names}
 use Rattle.scoop_frame.specs.Peek.{names_in}
 use Rattle.scoop_link.specs.declared.party.Party.{Party}
+use Rattle.scoop_link.specs.declared.link.LinkFault.{LinkFault}
 use Rattle.scoop_node_link.specs.declared.replies.TheConstants.{ROOM}
 
 -- a reply with its receiver, the datagram that it answers, and what was counted for its handler when that came
@@ -66,3 +67,8 @@ remembered ms (Some a) to reply =
 
 abbrev pub replied : RepliesValue → Party → List ℕ → RepliesValue
 replied r to reply = record { memories = remembered r.memories r.asked to reply; asked = None }
+
+-- the replies after a send
+abbrev pub after_send : Result (Unit {0}) LinkFault → RepliesValue → Party → List ℕ → RepliesValue
+after_send (Ok _) r to reply = replied r to reply
+after_send (Err fault) r to reply = r

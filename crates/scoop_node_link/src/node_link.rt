@@ -3,8 +3,10 @@
 ghost use Rattle.std.specs.Prelude.{◌≡◌, ◌≤◌, [], true, false, None, Ok, take, IfOk, IfSome, OnOk, OnErr, IsTrue};
 ghost use Rattle.scoop_link.specs.Datagram.{kept};
 ghost use Rattle.scoop_link.specs.Link.{CountsFault, Exchanges, sent_by, taken_by};
+ghost use Rattle.scoop_node_link.specs.Admission.{IsAdmitted};
+ghost use Rattle.scoop_node_link.specs.Replies.{after_send};
 ghost use Rattle.scoop_node_link.specs.Held.{Flushes, Holds, Releases, after_receive, is_full};
-ghost use Rattle.scoop_node_link.specs.NodeLink.{AnswersIf, Takes, faults_of, node_link, told_of};
+ghost use Rattle.scoop_node_link.specs.NodeLink.{AnswersIf, Receives, Stays, Takes, faults_of, forgetting, node_link, told_of};
 
 use crate::admission::{Admission, Verdict};
 use crate::held::Held;
@@ -138,6 +140,16 @@ fn release<I: Link, A: Allocator>(
     Ok(())
 }
 
+// Flushes the inner link, and counts a fault.
+fn flush_now<I: Link>(inner: &mut I, counts: &NodeCounts) -> Result<(), LinkFault>
+    ensures faults { CountsFault result (I.fault_count inner.old) (I.fault_count inner.new) }
+    ensures flushed { Exchanges (I.told inner.old) (I.told inner.new) [] [] }
+{
+    let flushed = inner.flush();
+    counts.note_flush(&flushed);
+    flushed
+}
+
 impl<'a, L: Link, C: Times, A: Allocator + Copy> NodeLink<'a, L, C, A> {
     /// The link that hears these clients alone, and holds back what is sent if `holds`. `OutOfMemory` means that the memory was
     /// refused.
@@ -234,6 +246,7 @@ impl<'a, L: Link, C: Times, A: Allocator> NodeLink<'a, L, C, A> {
     fn take(&mut self, buffer: &mut [u8; BUFFER_LEN]) -> Result<Taken, LinkFault>
         ensures faults { CountsFault result (faults_of L.fault_count self.old.inner) (faults_of L.fault_count self.new.inner) }
         ensures taken { Takes result (told_of L.told self.old.inner) (told_of L.told self.new.inner) self.old.state (C.time self.new.clock) self.new.state buffer.new }
+        ensures full { IsTrue (is_full self.old.state.held) → (result ≡ Ok Taken.Nothing) × (self.new ≡ self.old) }
     {
         let Some(len) = self.next(buffer)? else {
             return Ok(Taken::Nothing);
@@ -251,5 +264,89 @@ impl<'a, L: Link, C: Times, A: Allocator> NodeLink<'a, L, C, A> {
                 Err(fault) => Err(fault),
             },
         }
+    }
+
+    // Takes datagrams from the inner link until one passes on.
+    fn pull(&mut self, buffer: &mut [u8; BUFFER_LEN]) -> Result<Option<usize>, LinkFault>
+        ensures in_bounds { IfOk result (λ got. IfSome got (λ n. n ≤ BUFFER_LEN)) }
+        ensures faults { CountsFault result (faults_of L.fault_count self.old.inner) (faults_of L.fault_count self.new.inner) }
+
+        ensures taken { Receives result (told_of L.told self.old.inner) (told_of L.told self.new.inner) self.old.state (C.time self.new.clock) self.new.state buffer.new }
+        ensures full { IsTrue (is_full self.old.state.held) → (result ≡ Ok None) × (self.new ≡ self.old) }
+    {
+        for _ in 0..MAX_TAKEN {
+            match self.take(buffer) {
+                Ok(Taken::Stopped) => {}
+                Ok(Taken::Nothing) => return Ok(None),
+                Ok(Taken::Passed(len)) => return Ok(Some(len)),
+                Err(fault) => return Err(fault),
+            }
+        }
+        Ok(None)
+    }
+
+    // Waits for no reply.
+    fn forget(&mut self)
+        ensures { self.new ≡ record self.old { state = forgetting self.old.state } }
+    {
+        self.replies.forget();
+    }
+}
+
+impl<'a, L: Link, C: Times, A: Allocator> Link for NodeLink<'a, L, C, A> {
+    ghost told = { λ _. None };
+
+    ghost fault_count = { λ n. faults_of L.fault_count n.inner };
+
+    fn send(&mut self, to: Party, bytes: &[u8]) -> Result<(), LinkFault>
+        ensures faults { CountsFault result (faults_of L.fault_count self.old.inner) (faults_of L.fault_count self.new.inner) }
+
+        ensures held { self.old.state.held.holds ≡ true → (result ≡ Ok tt) × Holds self.old.state.held (to, kept bytes.now) self.new.state.held
+            × (self.new.inner ≡ self.old.inner) }
+        ensures passed { self.old.state.held.holds ≡ false
+            → Exchanges (told_of L.told self.old.inner) (told_of L.told self.new.inner) [] (sent_by result to bytes.now)
+            × (self.new.state.held ≡ self.old.state.held) }
+        ensures replies { self.new.state.replies ≡ after_send result self.old.state.replies to (kept bytes.now) }
+        ensures others { self.new ≡ record self.old {
+          inner = self.new.inner;
+          state = record self.old.state { replies = self.new.state.replies; held = self.new.state.held };
+        } }
+    {
+        match put_out(&mut self.inner, &mut self.held, self.counts, to, bytes) {
+            Ok(()) => {
+                self.replies.remember(to, bytes);
+                Ok(())
+            }
+            Err(fault) => Err(fault),
+        }
+    }
+
+    fn receive(&mut self, buffer: &mut [u8; BUFFER_LEN]) -> Result<Option<usize>, LinkFault>
+        ensures in_bounds { IfOk result (λ got. IfSome got (λ n. n ≤ BUFFER_LEN)) }
+        ensures faults { CountsFault result (faults_of L.fault_count self.old.inner) (faults_of L.fault_count self.new.inner) }
+
+        ensures taken { Receives result (told_of L.told self.old.inner) (told_of L.told self.new.inner) (forgetting self.old.state) (C.time self.new.clock) self.new.state buffer.new }
+        ensures full { IsTrue (is_full self.old.state.held) → (result ≡ Ok None) × (self.new ≡ record self.old { state = forgetting self.old.state }) }
+        ensures given { IfOk result (λ got. IfSome got (λ n. IsAdmitted self.old.state.admission.clients (take n buffer.new))) }
+        ensures stays { Stays self.old.state self.new.state }
+    {
+        self.forget();
+        self.pull(buffer)
+    }
+
+    fn flush(&mut self) -> Result<(), LinkFault>
+        ensures faults { CountsFault result (faults_of L.fault_count self.old.inner) (faults_of L.fault_count self.new.inner) }
+
+        ensures released { Flushes result (told_of L.told self.old.inner) (told_of L.told self.new.inner) self.old.state.held self.new.state.held }
+        ensures others { self.new ≡ record self.old { inner = self.new.inner; state = record self.old.state { held = self.new.state.held } } }
+    {
+        match release(&mut self.inner, &mut self.held, self.counts) {
+            Ok(()) => flush_now(&mut self.inner, self.counts),
+            Err(fault) => Err(fault),
+        }
+    }
+
+    fn faults(&self) -> u64 {
+        self.inner.faults()
     }
 }
