@@ -45,26 +45,31 @@ pub(crate) fn copy_store(
     }
 }
 
+// A copy that is to be made: the store that it is of, the new one, the party if it is known, and the text beside the first store.
+#[derive(Clone, Copy)]
+struct Copying<'a> {
+    from: &'a str,
+    to: &'a str,
+    party: Option<Owner>,
+    text: Option<&'a str>,
+}
+
 // Copies the store in this file.
 fn copy_filed(rt: &HostRuntime, from: &str, to: &str, party: Option<Owner>) -> Result<(), Status> {
     let text = found_text(rt, from, Owner::Node(0))?;
-    copy_beside(rt, from, to, party, text.as_deref())
-}
-
-// Copies the store in this file, beside which this text stands.
-fn copy_beside(
-    rt: &HostRuntime,
-    from: &str,
-    to: &str,
-    party: Option<Owner>,
-    text: Option<&str>,
-) -> Result<(), Status> {
+    let text = text.as_deref();
     let party = match party {
         Some(party) => Some(party),
         None => party_in(text.unwrap_or("")),
     };
+    let copying = Copying {
+        from,
+        to,
+        party,
+        text,
+    };
     match open_filed(rt, from) {
-        Ok((store, contents)) => copy_kept(rt, from, to, party, store, &contents, text),
+        Ok((store, contents)) => copy_kept(rt, &copying, store, &contents),
         Err(end) => Err(report_side(rt, from, end)),
     }
 }
@@ -72,15 +77,12 @@ fn copy_beside(
 // Copies what this keeper has.
 fn copy_kept<K: Keeper<Global>>(
     rt: &HostRuntime,
-    from: &str,
-    to: &str,
-    party: Option<Owner>,
+    copying: &Copying<'_>,
     mut keeper: K,
     contents: &Contents,
-    text: Option<&str>,
 ) -> Result<(), Status> {
-    let made = make_copy(rt, to, party, &mut keeper, contents, text);
-    ended(rt, from, to, made)
+    let made = make_copy(rt, copying, &mut keeper, contents);
+    ended(rt, copying, made)
 }
 
 // Copies the store of a party at this place in an etcd, which is taken over.
@@ -96,20 +98,15 @@ fn copy_shared(
         None => only_party(rt, from, place)?,
     };
     let text = found_text(rt, from, party)?;
-    copy_taken(rt, from, place, to, party, text.as_deref())
-}
-
-// Copies the store of this party, beside which this text stands.
-fn copy_taken(
-    rt: &HostRuntime,
-    from: &str,
-    place: &EtcdPlace<'_>,
-    to: &str,
-    party: Owner,
-    text: Option<&str>,
-) -> Result<(), Status> {
+    let text = text.as_deref();
+    let copying = Copying {
+        from,
+        to,
+        party: Some(party),
+        text,
+    };
     match open_shared(rt, place, party, text.unwrap_or("")) {
-        Ok((store, contents)) => copy_owned(rt, from, to, party, store, &contents, text),
+        Ok((store, contents)) => copy_owned(rt, &copying, store, &contents),
         Err(fault) => Err(report_etcd(rt, Hints::Always, from, fault)),
     }
 }
@@ -117,19 +114,18 @@ fn copy_taken(
 // Copies what the store has, which is this program's now.
 fn copy_owned(
     rt: &HostRuntime,
-    from: &str,
-    to: &str,
-    party: Owner,
+    copying: &Copying<'_>,
     store: SharedStore<'_>,
     contents: &Contents,
-    text: Option<&str>,
 ) -> Result<(), Status> {
     let fate = Fate::new();
     let mut keeper = FatefulKeeper::new(store, &fate);
-    let made = make_copy(rt, to, Some(party), &mut keeper, contents, text);
+    let made = make_copy(rt, copying, &mut keeper, contents);
     match (made, fate.fault()) {
-        (Err(Side::From(_)), Some(fault)) => Err(report_etcd(rt, Hints::Always, from, fault)),
-        (made, _) => ended(rt, from, to, made),
+        (Err(Side::From(_)), Some(fault)) => {
+            Err(report_etcd(rt, Hints::Always, copying.from, fault))
+        }
+        (made, _) => ended(rt, copying, made),
     }
 }
 
@@ -140,11 +136,11 @@ enum Side {
 }
 
 // The end of the command after its copy.
-fn ended(rt: &HostRuntime, from: &str, to: &str, made: Result<(), Side>) -> Result<(), Status> {
+fn ended(rt: &HostRuntime, copying: &Copying<'_>, made: Result<(), Side>) -> Result<(), Status> {
     match made {
         Ok(()) => Ok(()),
-        Err(Side::From(end)) => Err(report_side(rt, from, end)),
-        Err(Side::To(end)) => Err(report_side(rt, to, end)),
+        Err(Side::From(end)) => Err(report_side(rt, copying.from, end)),
+        Err(Side::To(end)) => Err(report_side(rt, copying.to, end)),
     }
 }
 
@@ -274,12 +270,16 @@ fn report_no_party(rt: &HostRuntime, text: &str) -> Status {
 // Makes the new store of this text with all that the keeper has.
 fn make_copy<K: Keeper<Global>>(
     rt: &HostRuntime,
-    to: &str,
-    party: Option<Owner>,
+    copying: &Copying<'_>,
     keeper: &mut K,
     contents: &Contents,
-    text: Option<&str>,
 ) -> Result<(), Side> {
+    let Copying {
+        to,
+        party,
+        text,
+        ..
+    } = *copying;
     match (place_of(to), party) {
         (None, _) => make_filed(rt, to, keeper, contents, text)?,
         (Some(place), Some(party)) => make_shared(rt, &place, party, keeper, contents, text)?,
