@@ -113,12 +113,56 @@ impl<'a, O: Objects> Host<'a, O> {
         T: Threads + Wait + Clock + Sync,
         O: Sync,
     {
-        let ended = match self.hear(rt, threads, link) {
-            Ok(mut link) => self.serve(rt, threads, &mut link, keeper, output, ending),
+        let ended = match self.surroundings(rt, threads, link, output) {
+            Ok(
+                Surroundings {
+                    mut link,
+                    mut lines,
+                    observers,
+                },
+            ) => {
+                let keeper = ObservedKeeper::new(keeper, observers);
+                let mut around = Around {
+                    lines: &mut lines,
+                    ending,
+                };
+                match node_run(
+                    threads,
+                    rt.alloc(),
+                    &self.plan,
+                    keeper,
+                    &mut link,
+                    &mut around,
+                ) {
+                    Ok(keeper) => Ok(keeper.into_inner()),
+                    Err(error) => Err(error),
+                }
+            }
             Err(error) => Err(RuntimeError::from(error)),
         };
         self.watch.end();
         ended
+    }
+
+    // What the node runs in.
+    fn surroundings<'s, W: Write + Drop, T: Wait + Clock>(
+        &'s self,
+        rt: &'s HostRuntime,
+        threads: &'s T,
+        link: UdpLink,
+        output: W,
+    ) -> Result<Surroundings<'s, W, T>, OutOfMemory> {
+        let link = self.hear(rt, threads, link)?;
+        let observers = self.observers(rt, threads)?;
+        let output = match BufWriter::new(rt.alloc(), output) {
+            Ok(output) => output,
+            Err(_) => return Err(OutOfMemory),
+        };
+        Ok(Surroundings {
+            link,
+            lines: WatchedOutput::new(output, threads, &self.watch),
+            observers,
+        })
     }
 
     // The link of the node: it is sealed, hears the clients of the file alone, holds its replies back until a commit if it stores
@@ -169,37 +213,14 @@ impl<'a, O: Objects> Host<'a, O> {
             watcher: Watched::new(threads, &self.watch),
         })
     }
+}
 
-    // Runs the node over its link.
-    fn serve<K, W, T>(
-        &self,
-        rt: &HostRuntime,
-        threads: &T,
-        link: &mut HostLink<'_, '_, T>,
-        keeper: K,
-        output: W,
-        ending: &Ending,
-    ) -> Result<K, RuntimeError>
-    where
-        K: SharedKeeper<Global> + Send,
-        W: Write + Drop,
-        T: Threads + Wait + Clock + Sync,
-        O: Sync,
-    {
-        let alloc = rt.alloc();
-        let output = BufWriter::new(alloc, output).map_err(|_| OutOfMemory)?;
-        let mut lines = WatchedOutput::new(output, threads, &self.watch);
-        let mut around = Around {
-            lines: &mut lines,
-            ending,
-        };
-        let observers = self.observers(rt, threads)?;
-        let keeper = ObservedKeeper::new(keeper, observers);
-        match node_run(threads, alloc, &self.plan, keeper, link, &mut around) {
-            Ok(keeper) => Ok(keeper.into_inner()),
-            Err(error) => Err(error),
-        }
-    }
+// What a node runs in: its link, where its lines go, and who observes its keeper.
+#[derive(Drop)]
+struct Surroundings<'s, W: Write + Drop, T: Wait + Clock> {
+    link: HostLink<'s, 's, T>,
+    lines: WatchedOutput<'s, BufWriter<W>, T>,
+    observers: Observers<'s, Watched<'s, T>, &'s JournalFile>,
 }
 
 // The link of a node that runs.

@@ -17,7 +17,7 @@ use scoop_report::{Hints, Status, hint, report};
 use scoop_runtime::Objects;
 use scoop_status::Log;
 use scoop_status_server::Server;
-use sqlite::Alter;
+use sqlite::{Alter, File, FileStore};
 use std::net::Net;
 use std::sync::Wait;
 use std::thread::Threads;
@@ -59,7 +59,7 @@ fn require_store(rt: &HostRuntime, options: &NodeOptions<'_>) -> Result<(), Stat
     Err(Status(2))
 }
 
-// Serves the node with its journal, if it writes one.
+// Serves the node with its journal, if it writes one. The port of its status comes after its own, and then its store.
 fn serve<T: Threads + Wait + Clock + Net + Sync, O: Objects + Sync>(
     rt: &HostRuntime,
     threads: &T,
@@ -70,32 +70,35 @@ fn serve<T: Threads + Wait + Clock + Net + Sync, O: Objects + Sync>(
     let journal = journal.as_ref();
     let name = store_name(rt.alloc(), config.store)?;
     let ended = match Host::open(rt, threads, config, objects, journal, name.as_ref()) {
-        Ok((host, link)) => serve_host(rt, threads, &host, link),
+        Ok((host, link)) => match open_behind(rt, &host) {
+            Ok((server, store)) => {
+                let (ended, store) = serve_over(rt, threads, &host, link, server, store);
+                closed(&host, ended, store)
+            }
+            Err(end) => Err(end),
+        },
         Err(end) => Err(end),
     };
     with_journal(journal, ended)
 }
 
-// Serves the node over its port. The port of its status comes first, and then its store.
-fn serve_host<T: Threads + Wait + Clock + Net + Sync, O: Objects + Sync>(
-    rt: &HostRuntime,
-    threads: &T,
+// The server of the node's status, if it has one, and its store.
+fn open_behind<'r, O: Objects>(
+    rt: &'r HostRuntime,
     host: &Host<'_, O>,
-    link: UdpLink,
-) -> Result<(), End> {
-    let server = open_server(rt, host.config())?;
+) -> Result<(Option<Server>, OpenStore<'r, FileStore<File>>), End> {
     let config = host.config();
+    let server = open_server(rt, config)?;
     if let StoreChoice::None = config.store {
         report(
             rt,
             "no store: if this node restarts, it forgets what it acknowledged, which breaks the promise",
         );
     }
-    let (ended, store) = match config.open(rt) {
-        Ok(store) => serve_over(rt, threads, host, link, server, store),
-        Err(end) => return Err(end),
-    };
-    closed(host, ended, store)
+    match config.open(rt) {
+        Ok(store) => Ok((server, store)),
+        Err(end) => Err(end),
+    }
 }
 
 // Closes the store of a node that ended so, if it is in a file.
