@@ -43,6 +43,8 @@ pub struct Journal<'a> {
 // The lives and moves of the parties that were replayed, in their order.
 #[derive(Drop)]
 struct Replayed {
+    // Whether the deeds are kept, for a chart.
+    has_chart: bool,
     tales: Vec<Tale>,
     trails: Vec<Trail>,
     remarks: Vec<Remarks>,
@@ -324,22 +326,21 @@ fn tell(
     system: &System,
     member: &Member,
     bytes: &[u8],
-    post: &mut Post,
-    blocks: &mut Blocks,
-    has_chart: bool,
+    replayed: &mut Replayed,
 ) -> Result<(Tale, Trail, Remarks), AuditError>
-    ensures grows { OnOk result (Grows post.old post.new) }
-    ensures told { IfOk result (λ told. TellsPartyOf system.now bytes.now post.new told.1 member.now.party) }
+    ensures grows { OnOk result (Grows replayed.old.post replayed.new.post) }
+    ensures told { IfOk result (λ told. TellsPartyOf system.now bytes.now replayed.new.post told.1 member.now.party) }
+    ensures trails { replayed.new.trails.items ≡ replayed.old.trails.items }
     ensures stops { IfErr result (IsStop system.now bytes.now member.now.party) }
 {
-    let mut remarks = Remarks::new(alloc, has_chart);
+    let mut remarks = Remarks::new(alloc, replayed.has_chart);
     let mut tale = Tale::new(alloc, member.party, member.journal);
     let mut pages = Pages {
         tale: &mut tale,
-        blocks,
+        blocks: &mut replayed.blocks,
         remarks: &mut remarks,
     };
-    match tell_party(alloc, system, member, bytes, post, &mut pages) {
+    match tell_party(alloc, system, member, bytes, &mut replayed.post, &mut pages) {
         Ok(trail) => Ok((tale, trail, remarks)),
         Err(trouble) => Err(placed(trouble, member.party, &tale)),
     }
@@ -377,32 +378,30 @@ fn unsent(
     alloc: Global,
     system: &System,
     journals: &[Journal<'_>],
-    tales: &[Tale],
-    trails: &[Trail],
-    post: &Post,
+    replayed: &Replayed,
     party: usize,
     place: usize,
 ) -> AuditError
-    ensures { (parties : List (List Traffic)) → HaveTraffic post.now trails.now parties → IsUnexplained parties party place
+    ensures { (parties : List (List Traffic)) → HaveTraffic replayed.now.post replayed.now.trails.items parties → IsUnexplained parties party place
         → IsOrderError parties result }
 {
-    let Some(tale) = tales.get(party) else {
+    let Some(tale) = replayed.tales.get(party) else {
         return AuditError::OutOfMemory;
     };
-    let Some(trail) = trails.get(party) else {
+    let Some(trail) = replayed.trails.get(party) else {
         return AuditError::OutOfMemory;
     };
     let Some(next) = trail.get(place) else {
         return AuditError::OutOfMemory;
     };
-    let Some(message) = post.message(next.heard) else {
+    let Some(message) = replayed.post.message(next.heard) else {
         return AuditError::OutOfMemory;
     };
     let Ok(handlers) = count_known(alloc, system, tale.party()) else {
         return AuditError::OutOfMemory;
     };
     let found = move_at(tale, bytes_of(journals, tale.journal), handlers, place);
-    let silent = silent_party(system, tales, &message);
+    let silent = silent_party(system, &replayed.tales, &message);
     AuditError::Unexplained(found, Wrong::Unsent(message, silent))
 }
 
@@ -411,18 +410,17 @@ fn order_of(
     alloc: Global,
     system: &System,
     journals: &[Journal<'_>],
-    tales: &[Tale],
-    trails: &[Trail],
-    post: &Post,
+    replayed: &Replayed,
 ) -> Result<Vec<u32>, AuditError>
-    ensures order { IfOk result (λ order. Weaves post.now trails.now order.items) }
-    ensures lacks { (parties : List (List Traffic)) → HaveTraffic post.now trails.now parties → IfErr result (IsOrderError parties) }
+    ensures order { IfOk result (λ order. Weaves replayed.now.post replayed.now.trails.items order.items) }
+    ensures lacks { (parties : List (List Traffic)) → HaveTraffic replayed.now.post replayed.now.trails.items parties
+        → IfErr result (IsOrderError parties) }
 {
-    match weave_trails(alloc, post, trails) {
+    match weave_trails(alloc, &replayed.post, &replayed.trails) {
         Ok(order) => Ok(order),
         Err(NoWeave::OutOfMemory) => Err(AuditError::OutOfMemory),
         Err(NoWeave::Unsent(party, place)) => {
-            Err(unsent(alloc, system, journals, tales, trails, post, party, place))
+            Err(unsent(alloc, system, journals, replayed, party, place))
         }
     }
 }
@@ -449,23 +447,13 @@ fn replay(
     system: &System,
     member: &Member,
     bytes: &[u8],
-    has_chart: bool,
     replayed: &mut Replayed,
 ) -> Result<(), AuditError>
     ensures grows { OnOk result (Grows replayed.old.post replayed.new.post) }
     ensures adds { OnOk result (AddsTrail system.now bytes.now replayed.new.post member.now replayed.old.trails.items replayed.new.trails.items) }
     ensures stops { IfErr result (IsStop system.now bytes.now member.now.party) }
 {
-    let told = tell(
-        alloc,
-        system,
-        member,
-        bytes,
-        &mut replayed.post,
-        &mut replayed.blocks,
-        has_chart,
-    );
-    match told {
+    match tell(alloc, system, member, bytes, replayed) {
         Ok((tale, trail, remarks)) => {
             add(tale, trail, remarks, replayed)?;
             Ok(())
@@ -480,7 +468,6 @@ fn replay_all(
     system: &System,
     journals: &[Journal<'_>],
     members: &[Member],
-    has_chart: bool,
     replayed: &mut Replayed,
 ) -> Result<(), AuditError>
     ensures told { OnOk result (replayed.old.trails.items ≡ [] → TellMembers system.now (map (λ j. j.bytes.now) journals.now)
@@ -489,7 +476,7 @@ fn replay_all(
 {
     for member in members {
         let bytes = bytes_of(journals, member.journal);
-        match replay(alloc, system, member, bytes, has_chart, replayed) {
+        match replay(alloc, system, member, bytes, replayed) {
             Ok(()) => {}
             Err(error) => return Err(error),
         }
@@ -502,7 +489,6 @@ fn explain(
     alloc: Global,
     system: &System,
     journals: &[Journal<'_>],
-    has_chart: bool,
     replayed: &mut Replayed,
 ) -> Result<Vec<u32>, AuditError>
     ensures explains { IfOk result (λ order. replayed.old.trails.items ≡ []
@@ -510,25 +496,19 @@ fn explain(
     ensures error { IfErr result (λ e. replayed.old.trails.items ≡ [] → IsAuditError system.now (map (λ j. j.bytes.now) journals.now) e) }
 {
     let members = roster(alloc, system, journals)?;
-    match replay_all(alloc, system, journals, &members, has_chart, replayed) {
+    match replay_all(alloc, system, journals, &members, replayed) {
         Ok(()) => {}
         Err(error) => return Err(error),
     }
-    order_of(
-        alloc,
-        system,
-        journals,
-        &replayed.tales,
-        &replayed.trails,
-        &replayed.post,
-    )
+    order_of(alloc, system, journals, replayed)
 }
 
-// Nothing is replayed yet.
-fn nothing_replayed(alloc: Global) -> Replayed
+// Nothing is replayed yet. With `has_chart` the deeds will be kept.
+fn nothing_replayed(alloc: Global, has_chart: bool) -> Replayed
     ensures { result.trails.items ≡ [] }
 {
     Replayed {
+        has_chart,
         tales: Vec::new(alloc),
         trails: Vec::new(alloc),
         remarks: Vec::new(alloc),
@@ -557,8 +537,8 @@ pub fn audit(
     ensures explains { IfOk result (Explains system.now (map (λ j. j.bytes.now) journals.now)) }
     ensures error { IfErr result (IsAuditError system.now (map (λ j. j.bytes.now) journals.now)) }
 {
-    let mut replayed = nothing_replayed(alloc);
-    match explain(alloc, system, journals, has_chart, &mut replayed) {
+    let mut replayed = nothing_replayed(alloc, has_chart);
+    match explain(alloc, system, journals, &mut replayed) {
         Ok(order) => Ok(Explained { replayed, order }),
         Err(error) => Err(error),
     }

@@ -34,6 +34,16 @@ pub(crate) struct Joined {
     pub(crate) batch: u8,
 }
 
+// How far a client's journal is read.
+#[derive(Clone, Copy)]
+struct Reading {
+    joined: Joined,
+    // The incarnation of the last life that has begun, or 0 before any has.
+    last: u32,
+    // The number of the line that is read.
+    number: u64,
+}
+
 // Why the step of this line isn't made.
 fn unmade(number: u64, error: ReplayError) -> Trouble
     ensures { (c : ClientState) (l : Written) (s : Step) → step_of l ≡ Some s → IsClientRefusal c s error → IfWrong (IsWrongOf c l) result }
@@ -89,10 +99,11 @@ fn go_on(
     Ok(())
 }
 
-// Why the life can't come after that of the incarnation `last`.
-fn refuse_life(joined: &Joined, client: ClientId, last: u32, inc: u32, batch: u8) -> Option<Fault>
-    ensures { IfNone result ((client ≡ joined.now.id) × (batch ≡ joined.now.batch) × (last < inc)) }
+// Why the life can't come next.
+fn refuse_life(reading: &Reading, client: ClientId, inc: u32, batch: u8) -> Option<Fault>
+    ensures { IfNone result ((client ≡ reading.now.joined.id) × (batch ≡ reading.now.joined.batch) × (reading.now.last < inc)) }
 {
+    let Reading { joined, last, .. } = *reading;
     if client != joined.id {
         return Some(Fault::OtherParty(PartyName::Client(client)));
     }
@@ -216,13 +227,10 @@ fn take(
     }
 }
 
-// Takes a line after a life of this incarnation has begun, or before any has if it is 0. Returns the incarnation of the last life
-// that has begun.
+// Takes a line. Returns the incarnation of the last life that has begun.
 fn take_line(
     alloc: Global,
-    joined: &Joined,
-    last: u32,
-    number: u64,
+    reading: &Reading,
     line: &Line<'_>,
     replay: &mut ClientReplay,
     post: &mut Post,
@@ -230,18 +238,23 @@ fn take_line(
 ) -> Result<u32, Trouble>
     ensures grows { OnOk result (Grows post.old post.new) }
     ensures told { (bytes rest : List ℕ) (first : ClientValue) (sent : List Told)
-        → IfOk result (λ next. ClientUpTo joined.now.id joined.now.batch last bytes (ended line.now ++ rest) first replay.old sent post.old
-        → ClientUpTo joined.now.id joined.now.batch next bytes rest first replay.new sent post.new) }
+        → IfOk result (λ next. ClientUpTo reading.now.joined.id reading.now.joined.batch reading.now.last bytes (ended line.now ++ rest) first replay.old sent post.old
+        → ClientUpTo reading.now.joined.id reading.now.joined.batch next bytes rest first replay.new sent post.new) }
     ensures stops { (bytes rest : List ℕ) (first : ClientValue) (sent : List Told)
-        → IfErr result (λ t. ClientUpTo joined.now.id joined.now.batch last bytes (ended line.now ++ rest) first replay.old sent post.old
-        → IfWrong (ClientStops joined.now.id joined.now.batch bytes first sent) t) }
+        → IfErr result (λ t. ClientUpTo reading.now.joined.id reading.now.joined.batch reading.now.last bytes (ended line.now ++ rest) first replay.old sent post.old
+        → IfWrong (ClientStops reading.now.joined.id reading.now.joined.batch bytes first sent) t) }
 {
+    let Reading {
+        joined,
+        last,
+        number,
+    } = *reading;
     if let Line::ClientLife(client, inc, batch) = *line {
-        match refuse_life(joined, client, last, inc, batch) {
+        match refuse_life(reading, client, inc, batch) {
             Some(fault) => return Err(Trouble::Fault(number, fault)),
             None => {}
         }
-        begin_life(alloc, joined, inc, replay, post, pages)?;
+        begin_life(alloc, &joined, inc, replay, post, pages)?;
         pages.tale.begin(replay.moves(), number)?;
         return Ok(inc);
     }
@@ -275,7 +288,12 @@ pub(crate) fn replay_client(
             Ok(line) => line,
             Err(trouble) => return Err(trouble),
         };
-        match take_line(alloc, joined, last, number, &line, replay, post, pages) {
+        let reading = Reading {
+            joined: *joined,
+            last,
+            number,
+        };
+        match take_line(alloc, &reading, &line, replay, post, pages) {
             Ok(next) => last = next,
             Err(trouble) => return Err(trouble),
         }

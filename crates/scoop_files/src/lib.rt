@@ -5,7 +5,7 @@
 //! - [`adopt`] takes the store that is there. [`adopt_for`] does so if it has a client's incarnation, and [`adopt_since`] if that
 //!   is no older than a known one.
 //! - [`close`] leaves the file whole, and [`close_named`] does so unless the file has lost its name.
-//! - A [`NamedKeeper`] refuses once the file has lost its name. It says in the text beside the store how far the store goes.
+//! - A [`Named`] says to a keeper whether the file has lost its name. It writes to the text beside the store how far the store goes.
 //! - A [`NameWatch`] looks after the name of a store whose keeper is elsewhere.
 //! - [`update_marks`] brings that text up to date, and [`replace_text`] writes it so that a kill leaves it whole.
 //! - A [`FileError`] says what is wrong and what to do, and [`report_file`] prints it.
@@ -37,7 +37,7 @@ mod store;
 
 pub use beside::{note_marks, replace_text, text_file, update_marks};
 pub use error::FileError;
-pub use named::{NameWatch, NamedKeeper, StoreName};
+pub use named::{NameWatch, Named, StoreName};
 pub use report::report_file;
 pub use store::{
     FiledStore, adopt, adopt_for, adopt_since, close, close_named, create, create_after,

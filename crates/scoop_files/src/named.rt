@@ -1,11 +1,8 @@
-//! A keeper that looks whether its file still has its name, and says beside it how far the store goes.
-
-ghost use Rattle.std.specs.Prelude.{◌≡◌, ◌⊎◌, Err};
+//! Whether a store's file still has its name, and the text beside it that says how far the store goes.
 
 use crate::beside::{note_marks, text_file, update_incarnation, update_marks};
-use scoop_handler::{HandlerState, Heard};
-use scoop_keeper::{Keeper, KeeperError};
-use scoop_message::{ClientId, HandlerId, Message, OutOfMemory};
+use scoop_handler::HandlerState;
+use scoop_message::OutOfMemory;
 use scoop_owner::Newest;
 use std::alloc::Global;
 use std::fs;
@@ -177,20 +174,19 @@ impl<'a> NameWatch<'a> {
     }
 }
 
-/// A keeper that passes every call on to the one under it, over the store of this name. It looks at the name at its first put,
-/// and at every 64th one after it. The put is `Refused` if the name leads to another file than when the keeper was made, or to
-/// none, or if the file was cut, and so is every later one. The log is looked at too, if it stands beside the name: if the
-/// name is a link, it doesn't.
+/// The name of the store under a keeper that reports its calls here, and the text beside the store.
 ///
-/// The text beside the store gets lines for the marks that were stored, at the first commit after each look and at the end. It
-/// gets them at most once a second, and not at the end if a commit of theirs is missing. A missing text stays missing.
-/// It gets a client's incarnation at once. It never says more than what is committed, and one that can't be written stays as it
-/// is. A commit is `Refused` if the name is known to be lost.
+/// It looks at the name at the keeper's first put, and at every 64th one after it. Puts are refused from then on if the name leads
+/// to another file than when this was made, or to none, or if the file was cut. The log is looked at too, if it stands beside
+/// the name: if the name is a link, it doesn't.
 ///
-/// Contracts see the keeper under it.
+/// The text gets lines for the marks that were stored, at the first commit after each look and at the end. It gets them at most
+/// once a second, and not at the end if a commit of theirs is missing. A missing text stays missing. It gets a client's
+/// incarnation at once. It never says more than what is committed, and one that can't be written stays as it is.
+///
+/// Contracts see nothing of it.
 #[derive(Drop)]
-pub struct NamedKeeper<'a, K> {
-    keeper: K,
+pub struct Named<'a> {
     rt: &'a HostRuntime,
     name: &'a StoreName,
     standing: Standing,
@@ -206,19 +202,16 @@ pub struct NamedKeeper<'a, K> {
     is_settled: bool,
 }
 
-impl<'a, K> Model for NamedKeeper<'a, K> {
-    ghost Value = { K };
+impl<'a> Model for Named<'a> {
+    ghost Value = { Unit {0} };
 
-    ghost view = { λ n. n.keeper };
+    ghost view = { λ _. tt };
 }
 
-impl<'a, K: Drop> NamedKeeper<'a, K> {
-    /// Looks after the name of this keeper's store, which is open.
-    pub fn new(rt: &'a HostRuntime, keeper: K, name: &'a StoreName) -> NamedKeeper<'a, K>
-        ensures { result ≡ keeper }
-    {
-        NamedKeeper {
-            keeper,
+impl<'a> Named<'a> {
+    /// Looks after the name of a keeper's store, which is open.
+    pub fn new(rt: &'a HostRuntime, name: &'a StoreName) -> Named<'a> {
+        Named {
             rt,
             name,
             standing: Standing::of(rt, name),
@@ -230,24 +223,13 @@ impl<'a, K: Drop> NamedKeeper<'a, K> {
         }
     }
 
-    /// The keeper under this one. Looks at the file's name once more. It doesn't look at the log's: a close copies the log into
-    /// the file.
-    pub fn into_inner(mut self) -> K
-        ensures { result ≡ self.entry }
-    {
-        let found = look(self.rt, self.name.path.as_str());
-        if self.name.is_lost() || !self.standing.is_file(found) {
-            self.name.lose();
-        } else if self.is_settled {
-            self.write_seen();
-        }
-        self.keeper
+    /// Whether the name is known to be lost. A commit is refused then.
+    pub fn is_lost(&self) -> bool {
+        self.name.is_lost()
     }
 
-    // Counts a put, and returns whether it is passed on.
-    fn passes(&mut self) -> bool
-        ensures { self.new ≡ self.old }
-    {
+    /// Counts a put, and returns whether the keeper may make it.
+    pub fn passes(&mut self) -> bool {
         if self.name.is_lost() {
             return false;
         }
@@ -264,22 +246,34 @@ impl<'a, K: Drop> NamedKeeper<'a, K> {
         true
     }
 
-    // Notes the marks of a state that was stored. One for which there is no room is missing in the text, which is then older.
-    fn note(&mut self, state: &HandlerState)
-        ensures { self.new ≡ self.old }
-    {
+    /// Notes the marks of a state that was stored. One for which there is no room is missing in the text, which is then older.
+    pub fn note(&mut self, state: &HandlerState) {
         self.is_settled = false;
         let _noted = note_marks(&mut self.seen, state);
     }
 
-    // All that was put is committed. The text is brought up to date if a put has looked at the name since the last time, and
-    // a second has gone by.
-    fn settle(&mut self)
-        ensures { self.new ≡ self.old }
-    {
+    /// Writes the client's stored incarnation to the text.
+    pub fn note_incarnation(&self, inc: u32) {
+        let _written = update_incarnation(self.rt, self.name.text.as_str(), inc);
+    }
+
+    /// Notes that all that was put is committed. The text is brought up to date if a put has looked at the name since the last
+    /// time, and a second has gone by.
+    pub fn settle(&mut self) {
         self.is_settled = true;
         if self.is_due && !self.is_fresh() {
             self.is_due = false;
+            self.write_seen();
+        }
+    }
+
+    /// Looks at the file's name once more, when the keeper ends. It doesn't look at the log's: a close copies the log into the
+    /// file.
+    pub fn end(mut self) {
+        let found = look(self.rt, self.name.path.as_str());
+        if self.name.is_lost() || !self.standing.is_file(found) {
+            self.name.lose();
+        } else if self.is_settled {
             self.write_seen();
         }
     }
@@ -293,75 +287,11 @@ impl<'a, K: Drop> NamedKeeper<'a, K> {
     }
 
     // Brings the text up to date. Marks that aren't written are kept for the next look.
-    fn write_seen(&mut self)
-        ensures { self.new ≡ self.old }
-    {
+    fn write_seen(&mut self) {
         let text = self.name.text.as_str();
         if !self.seen.is_empty() && update_marks(self.rt, text, self.seen.as_slice()) {
             self.seen.clear();
         }
         self.written = Instant::now(self.rt).ok();
-    }
-}
-
-impl<'a, K: Keeper<Global>> Keeper<Global> for NamedKeeper<'a, K> {
-    ghost use Rattle.scoop_keeper.specs.declared.keeper.KeeperError.{KeeperError};
-
-    ghost handlers = { λ n. K.handlers n };
-
-    ghost incarnations = { λ n. K.incarnations n };
-
-    ghost outlasting = { λ n. K.outlasting n };
-
-    ghost is_honest = { λ n. K.is_honest n };
-
-    // A put that isn't passed on is refused, and changes nothing.
-    ghost put_gives = { λ old state result new. K.put_gives old state result new ⊎ ((result ≡ Err KeeperError.Refused) × (new ≡ old)) };
-
-    ghost load_gives = { λ old handler result new. K.load_gives old handler result new };
-
-    ghost next_gives = { λ old client result new. K.next_gives old client result new };
-
-    fn put_handler(&mut self, state: &HandlerState) -> Result<(), KeeperError> {
-        if !self.passes() {
-            return Err(KeeperError::Refused);
-        }
-        let put = self.keeper.put_handler(state);
-        if put.is_ok() {
-            self.note(state);
-        }
-        put
-    }
-
-    fn load_handler(&mut self, handler: HandlerId) -> Result<Option<HandlerState>, KeeperError> {
-        self.keeper.load_handler(handler)
-    }
-
-    fn next_incarnation(&mut self, client: ClientId) -> Result<u32, KeeperError> {
-        let next = self.keeper.next_incarnation(client);
-        if let Ok(inc) = next {
-            let _written = update_incarnation(self.rt, self.name.text.as_str(), inc);
-        }
-        next
-    }
-
-    fn commit(&mut self) -> Result<(), KeeperError> {
-        let done = if self.name.is_lost() {
-            Err(KeeperError::Refused)
-        } else {
-            self.keeper.commit()
-        };
-        if done.is_ok() {
-            self.settle();
-        }
-        done
-    }
-
-    fn note_heard(&mut self, message: &Message, heard: &Heard) -> Result<(), KeeperError> {
-        self.keeper.note_heard(message, heard)
-    }
-
-    fn note_finished(&mut self, handler: HandlerId) -> Result<(), KeeperError> {
-        self.keeper.note_finished(handler)
     }
 }

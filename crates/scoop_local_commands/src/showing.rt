@@ -8,7 +8,7 @@ use scoop_keeper::MemoryKeeper;
 use scoop_message::OutOfMemory;
 use scoop_object::Behaviour;
 use scoop_report::Status;
-use scoop_two_cells::{Objects, PORTS, Plan, demo_run};
+use scoop_two_cells::{Demo, Objects, PORTS, Plan, demo_run};
 use std::alloc::Global;
 use std::io;
 use std::io::{BufWriter, IsTerminal};
@@ -35,7 +35,7 @@ pub fn demonstrate<B: Behaviour + Send, T: Threads + Wait + Clock + Net + Sync>(
         weaves: options.weaves,
     };
     let shown = match with_classes(rt.alloc(), cells, account) {
-        Ok(objects) => show_plan(rt, threads, &plan, objects),
+        Ok(objects) => show_demo(rt, threads, Demo { plan, objects }),
         Err(error) => Err(PartyError::from(error)),
     };
     match shown {
@@ -62,11 +62,10 @@ fn with_classes<B: Behaviour>(
 }
 
 // Shows the demo, with a line of progress at a terminal.
-fn show_plan<B: Behaviour + Send, T: Threads + Wait + Clock + Net + Sync>(
+fn show_demo<B: Behaviour + Send, T: Threads + Wait + Clock + Net + Sync>(
     rt: &HostRuntime,
     threads: &T,
-    plan: &Plan,
-    objects: Objects<B>,
+    demo: Demo<B>,
 ) -> Result<u8, PartyError> {
     let alloc = rt.alloc();
     let progress = if rt.stderr().is_terminal() {
@@ -76,14 +75,6 @@ fn show_plan<B: Behaviour + Send, T: Threads + Wait + Clock + Net + Sync>(
     };
     let mut keeper = MemoryKeeper::new(alloc);
     let mut output = BufWriter::new(alloc, io::writer(rt)).map_err(|_| OutOfMemory)?;
-    let outcome = demo_run(
-        threads,
-        alloc,
-        objects,
-        &mut keeper,
-        plan,
-        progress,
-        &mut output,
-    )?;
+    let outcome = demo_run(threads, alloc, demo, &mut keeper, progress, &mut output)?;
     Ok(outcome.status())
 }

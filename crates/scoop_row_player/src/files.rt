@@ -24,15 +24,11 @@ pub fn status(played: io::Result<bool>) -> ExitCode {
 
 fn play_named<A: Areas>(rt: &HostRuntime, areas: &A) -> io::Result<bool> {
     let mut right = true;
-    let mut is_own_name = true;
-    for name in env::args(rt)? {
-        if !is_own_name {
-            let text = read(rt, &name)?;
-            let mut sheet = Sheet::new(rt.alloc());
-            let played = play(rt.alloc(), areas, &text, &mut sheet);
-            right &= report(rt, &name, played, &sheet)?;
-        }
-        is_own_name = false;
+    for name in env::args(rt)?.skip(1) {
+        let text = read(rt, &name)?;
+        let mut sheet = Sheet::new(rt.alloc());
+        let played = play(rt.alloc(), areas, &text, &mut sheet);
+        right &= report(rt, &name, played, &sheet)?;
     }
     Ok(right)
 }

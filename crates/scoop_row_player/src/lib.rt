@@ -17,11 +17,12 @@
 //! that meets the refusal has to answer `out of memory` and change nothing that can be read, and to answer right if it is
 //! given again.
 //!
-//! A library of areas has a type that is [`Areas`] and gives each case a new [`Subject`], by [`play_rows`]. A program calls
+//! A library of areas has a type that is [`Areas`] and gives each case a new [`Subject`], by [`Play::over`]. A program calls
 //! [`play_files`] with the areas of all its libraries. No method of a trait can start threads; what starts some asks [`Cases`]
-//! and [`Rows`] for its commands. [`words`] reads the words of blocks and entries.
+//! and [`Rows`] for its commands. [`words`] reads the words of commands, and [`answers`] writes those of answers.
 #![tactic(auto)]
 
+pub mod answers;
 mod area;
 mod bad;
 mod case;
@@ -32,11 +33,11 @@ mod rows;
 mod sheet;
 pub mod words;
 
-pub use area::{Areas, Heap, Subject};
+pub use area::{Areas, Heap, Play, Subject};
 pub use bad::Bad;
 pub use case::Case;
 pub use cases::{Cases, lines_of};
 pub use files::{play_files, read, report, status};
-pub use playing::{play, play_rows, tell_no_area};
+pub use playing::{play, tell_no_area};
 pub use rows::Rows;
 pub use sheet::Sheet;

@@ -1,10 +1,8 @@
 //! Plays the rows of a file.
 
-use crate::area::{Areas, Heap, Subject};
+use crate::area::{Areas, Play};
 use crate::bad::Bad;
-use crate::case::Case;
 use crate::cases::{Cases, lines_of};
-use crate::rows::Rows;
 use crate::sheet::Sheet;
 use std::alloc::Global;
 
@@ -20,10 +18,11 @@ pub fn play<A: Areas>(alloc: Global, areas: &A, text: &str, sheet: &mut Sheet) -
         let Some((case, heap)) = cases.next(alloc) else {
             break;
         };
-        if !areas.play(area, case, &heap, sheet)? {
+        let heap = &heap;
+        if !areas.play(Play { area, case, heap }, sheet)? {
             return tell_no_area(sheet, "bad row: there is no such area");
         }
-        cases.played(case, &heap, sheet)?;
+        cases.played(case, heap, sheet)?;
     }
     Ok(())
 }
@@ -31,27 +30,4 @@ pub fn play<A: Areas>(alloc: Global, areas: &A, text: &str, sheet: &mut Sheet) -
 /// Tells that the file's first line is bad.
 pub fn tell_no_area(sheet: &mut Sheet, what: &str) -> Result<(), Bad> {
     sheet.tell(1, "rows", what, b"")
-}
-
-/// Plays the rows of a case with a subject, up to the first wrong one.
-pub fn play_rows<S: Subject>(
-    case: Case<'_>,
-    heap: Heap<'_>,
-    subject: &mut S,
-    sheet: &mut Sheet,
-) -> Result<(), Bad> {
-    let alloc = sheet.alloc();
-    let mut rows = Rows::new(alloc, case, heap);
-    let (mut shown, mut answer) = (Vec::new(alloc), Vec::new(alloc));
-    for _ in 0..u64::MAX {
-        shown.clear();
-        subject.shows(&mut shown)?;
-        let Some(command) = rows.next(&shown, sheet)? else {
-            break;
-        };
-        answer.clear();
-        let done = subject.does(command.as_bytes(), &mut answer);
-        rows.answered(done, &answer, sheet)?;
-    }
-    Ok(())
 }

@@ -51,19 +51,23 @@ impl<'l, 'h> Rows<'l, 'h> {
         self.before.extend_from_slice(shown)?;
         self.had_refused = self.heap.has_refused();
         self.row = self.case.row_from(sheet.alloc(), self.place)?;
-        Ok(command_of(&self.row))
+        Ok(self.command())
     }
 
     // The same command once more, if its refusal changed nothing.
     fn second(&mut self, shown: &[u8], sheet: &mut Sheet) -> Result<Option<&'l str>, Bad> {
         if shown == self.before.as_slice() {
-            return Ok(command_of(&self.row));
+            return Ok(self.command());
         }
         if let Some(row) = &self.row {
             let what = "changes something although memory is refused";
             sheet.tell(row.number, row.command, what, b"")?;
         }
         Ok(None)
+    }
+
+    fn command(&self) -> Option<&'l str> {
+        self.row.as_ref().map(|row| row.command)
     }
 
     /// Compares the answer to the last command with its row's. An error says why the command can't be carried out.
@@ -94,13 +98,6 @@ impl<'l, 'h> Rows<'l, 'h> {
             return Ok(());
         }
         tell_answer(sheet, &row, was_second, answer)
-    }
-}
-
-fn command_of<'l>(row: &Option<Row<'l>>) -> Option<&'l str> {
-    match row {
-        Some(row) => Some(row.command),
-        None => None,
     }
 }
 

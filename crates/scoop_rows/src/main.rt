@@ -1,7 +1,7 @@
 //! Plays the rows of all libraries that need no threads and no sockets. The arguments name the files.
 #![tactic(auto)]
 
-use scoop_row_player::{Areas, Bad, Case, Heap, Sheet, play_files};
+use scoop_row_player::{Areas, Bad, Play, Sheet, play_files};
 use scoop_rows_etcd::EtcdAreas;
 use scoop_rows_links::LinkAreas;
 use scoop_rows_parts::Parts;
@@ -30,20 +30,14 @@ struct AllAreas<'a, R> {
 }
 
 impl<R: Wait + Clock> Areas for AllAreas<'_, R> {
-    fn play(
-        &self,
-        area: &str,
-        case: Case<'_>,
-        heap: Heap<'_>,
-        sheet: &mut Sheet,
-    ) -> Result<bool, Bad> {
+    fn play(&self, play: Play<'_>, sheet: &mut Sheet) -> Result<bool, Bad> {
         Ok(
-            LinkAreas.play(area, case, heap, sheet)?
-                || Runs.play(area, case, heap, sheet)?
-                || Parts.play(area, case, heap, sheet)?
-                || StoreAreas { rt: self.rt }.play(area, case, heap, sheet)?
-                || SystemAreas::new(self.waits).play(area, case, heap, sheet)?
-                || EtcdAreas.play(area, case, heap, sheet)?,
+            LinkAreas.play(play, sheet)?
+                || Runs.play(play, sheet)?
+                || Parts.play(play, sheet)?
+                || StoreAreas { rt: self.rt }.play(play, sheet)?
+                || SystemAreas::new(self.waits).play(play, sheet)?
+                || EtcdAreas.play(play, sheet)?,
         )
     }
 }

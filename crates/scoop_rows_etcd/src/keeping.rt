@@ -1,15 +1,15 @@
 //! Rows of calls of a keeper.
 
 use crate::scripted::LentEtcd;
-use crate::telling::{tell, tell_done};
+use crate::telling::tell;
 use scoop_etcd_stores::FatefulKeeper;
 use scoop_handler::{HandlerState, Heard, Note, Reason};
 use scoop_keeper::{Keeper, KeeperError};
-use scoop_lines::decimal;
 use scoop_message::{ClientId, HandlerId, Message, Words};
 use scoop_queue::QueueOfQueues;
 use scoop_row_player::Bad;
-use scoop_row_player::words::{first, last, number};
+use scoop_row_player::answers::{tells_either, told};
+use scoop_row_player::words::{first, handler, last, long, number};
 use std::alloc::Global;
 
 const ONE: HandlerId = HandlerId(1);
@@ -18,7 +18,7 @@ const ONE: HandlerId = HandlerId(1);
 fn state(alloc: Global, line: &[u8]) -> Result<HandlerState, Bad> {
     let (handler, line) = first(line)?;
     let handler = HandlerId(number(handler)?);
-    let Ok(words) = Words::of(&[decimal(last(line)?).ok_or(Bad::Number)?]) else {
+    let Ok(words) = Words::of(&[long(last(line)?)?]) else {
         return Err(Bad::Words);
     };
     let queues = QueueOfQueues::new(alloc);
@@ -48,15 +48,10 @@ pub fn keeps(
     answer: &mut Vec<u8>,
 ) -> Result<(), Bad> {
     let done = match name {
-        b"load" => {
-            let handler = HandlerId(number(last(line)?)?);
-            return tell_word(keeper.load_handler(handler), answer);
-        }
+        b"load" => return tell_word(keeper.load_handler(handler(line)?), answer),
         b"next" => {
-            return match keeper.next_incarnation(ClientId(number(last(line)?)?)) {
-                Ok(inc) => tell(inc, answer),
-                Err(error) => tell(error, answer),
-            };
+            let client = ClientId(number(last(line)?)?);
+            return tells_either(keeper.next_incarnation(client), answer);
         }
         b"put" => keeper.put_handler(&state(*answer.allocator(), line)?),
         b"hear" => {
@@ -73,5 +68,5 @@ pub fn keeps(
         b"confirm" => keeper.confirm(),
         _ => return Err(Bad::Command),
     };
-    tell_done(done, answer)
+    told(done, answer)
 }

@@ -14,7 +14,7 @@ pub use examples::{
     absent_keys, both_are_found, both_are_put, nothing_is_put, others_write, two_callers,
 };
 use scoop_etcd_stores::Fate;
-use scoop_row_player::{Areas, Bad, Case, Heap, Sheet, play_rows};
+use scoop_row_player::{Areas, Bad, Play, Sheet};
 use scripted::ScriptedEtcd;
 use std::cell::RefCell;
 use stores::Stores;
@@ -25,27 +25,20 @@ use wire::Wire;
 pub struct EtcdAreas;
 
 impl Areas for EtcdAreas {
-    fn play(
-        &self,
-        area: &str,
-        case: Case<'_>,
-        heap: Heap<'_>,
-        sheet: &mut Sheet,
-    ) -> Result<bool, Bad> {
-        match area {
-            "etcd" => play_stores(case, heap, sheet)?,
+    fn play(&self, play: Play<'_>, sheet: &mut Sheet) -> Result<bool, Bad> {
+        match play.area {
+            "etcd" => play_stores(play, sheet),
             "wire" | "places" => {
                 let came = Vec::new(sheet.alloc());
-                play_rows(case, heap, &mut Wire { came }, sheet)?;
+                play.over(&mut Wire { came }, sheet)
             }
-            _ => return Ok(false),
+            _ => Ok(false),
         }
-        Ok(true)
     }
 }
 
-fn play_stores(case: Case<'_>, heap: Heap<'_>, sheet: &mut Sheet) -> Result<(), Bad> {
+fn play_stores(play: Play<'_>, sheet: &mut Sheet) -> Result<bool, Bad> {
     let etcd = RefCell::new(ScriptedEtcd::new(sheet.alloc()));
     let fate = Fate::new();
-    play_rows(case, heap, &mut Stores::new(&etcd, &fate), sheet)
+    play.over(&mut Stores::new(&etcd, &fate), sheet)
 }

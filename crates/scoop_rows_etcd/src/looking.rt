@@ -3,21 +3,20 @@
 use crate::keeping::tell_word;
 use crate::scripted::LentEtcd;
 use crate::telling::{tell, tell_bytes, tell_whether};
-use crate::txns::{after_space, read_bytes};
+use crate::txns::read_bytes;
 use scoop_etcd::{EtcdError, Owner};
 use scoop_etcd_stores::{
     clients_in, handlers_in, has_state, owners_in, put_text, read_text, state_under,
 };
-use scoop_message::{ClientId, HandlerId};
+use scoop_message::ClientId;
 use scoop_row_player::Bad;
-use scoop_row_player::words::{first, last, number};
+use scoop_row_player::words::{after_space, first, first_two, handler, number, text_of};
 use std::fmt::Debug;
 use std::io::Write;
 
 /// The owner at the beginning of a line, and what follows it.
 pub fn read_owner(line: &[u8]) -> Result<(Owner, &[u8]), Bad> {
-    let (kind, line) = first(line)?;
-    let (word, rest) = first(line)?;
+    let (kind, word, rest) = first_two(line)?;
     match kind {
         b"node" => Ok((Owner::Node(number(word)?), rest)),
         b"client" => Ok((Owner::Client(ClientId(number(word)?)), rest)),
@@ -81,21 +80,13 @@ pub fn looks(
 ) -> Result<(), Bad> {
     let alloc = *answer.allocator();
     let (word, line) = first(line)?;
-    let Ok(of) = str::from_utf8(word) else {
-        return Err(Bad::Words);
-    };
+    let of = text_of(word)?;
     match name {
         b"handlers" => tell_listed(handlers_in(alloc, etcd, of), answer),
         b"clients" => tell_listed(clients_in(alloc, etcd, of), answer),
         b"owners" => tell_listed(owners_in(alloc, etcd, of), answer),
-        b"has" => tell_has(
-            has_state(alloc, etcd, of, HandlerId(number(last(line)?)?)),
-            answer,
-        ),
-        b"state" => tell_word(
-            state_under(alloc, etcd, of, HandlerId(number(last(line)?)?)),
-            answer,
-        ),
+        b"has" => tell_has(has_state(alloc, etcd, of, handler(line)?), answer),
+        b"state" => tell_word(state_under(alloc, etcd, of, handler(line)?), answer),
         b"text" => tell_text(etcd, of, line, answer),
         _ => writes(etcd, of, line, answer),
     }

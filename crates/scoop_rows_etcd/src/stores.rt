@@ -15,11 +15,11 @@ use crate::keeping::keeps;
 use crate::looking::{looks, read_owner};
 use crate::scripted::{Event, LentEtcd, ScriptedEtcd};
 use crate::telling::{tell, tell_outcome, tell_pairs, tell_whether};
-use crate::txns::{after_space, read_bytes, read_range, read_txn};
+use crate::txns::{read_bytes, read_range, read_txn};
 use scoop_etcd::{EtcdError, EtcdStore};
 use scoop_etcd_stores::{EtcdFault, Fate, FatefulKeeper};
 use scoop_lines::is;
-use scoop_row_player::words::{first, last};
+use scoop_row_player::words::{after_space, first, last, text_of};
 use scoop_row_player::{Bad, Subject};
 use std::cell::RefCell;
 
@@ -92,9 +92,7 @@ impl<'a> Stores<'a> {
     fn opens(&mut self, name: &[u8], line: &[u8], answer: &mut Vec<u8>) -> Result<(), Bad> {
         let alloc = *answer.allocator();
         let (word, line) = first(line)?;
-        let Ok(of) = str::from_utf8(word) else {
-            return Err(Bad::Words);
-        };
+        let of = text_of(word)?;
         let (owner, _) = read_owner(line)?;
         let etcd = LentEtcd(self.etcd);
         let opened = match name {
@@ -129,9 +127,7 @@ impl<'a> Stores<'a> {
         if is(name, "noted") {
             return tell(fault, answer);
         }
-        let Ok(part) = str::from_utf8(after_space(line)) else {
-            return Err(Bad::Words);
-        };
+        let part = text_of(after_space(line))?;
         tell(fault.status(), answer)?;
         tell_whether(fault.advice().contains(part), answer)
     }
@@ -157,9 +153,5 @@ impl Subject for Stores<'_> {
                 None => Err(Bad::Words),
             },
         }
-    }
-
-    fn shows(&self, _text: &mut Vec<u8>) -> Result<(), Bad> {
-        Ok(())
     }
 }

@@ -14,17 +14,6 @@ pub fn tell<T: Display + Drop>(value: T, answer: &mut Vec<u8>) -> Result<(), Bad
     Ok(())
 }
 
-/// Adds `ok` or the error.
-pub fn tell_done<T: Drop, E: Display + Drop>(
-    done: Result<T, E>,
-    answer: &mut Vec<u8>,
-) -> Result<(), Bad> {
-    match done {
-        Ok(_) => tell("ok", answer),
-        Err(error) => tell(error, answer),
-    }
-}
-
 /// Adds `yes` or `no`.
 pub fn tell_whether(holds: bool, answer: &mut Vec<u8>) -> Result<(), Bad> {
     tell(if holds { "yes" } else { "no" }, answer)
@@ -69,12 +58,14 @@ pub fn tell_outcome<E: Display + Drop>(
 ) -> Result<(), Bad> {
     match outcome {
         Ok(outcome) => {
-            let made = if outcome.succeeded {
-                "made"
-            } else {
-                "not made"
-            };
-            tell(made, answer)?;
+            tell(
+                if outcome.succeeded {
+                    "made"
+                } else {
+                    "not made"
+                },
+                answer,
+            )?;
             tell(outcome.revision, answer)
         }
         Err(error) => tell(error, answer),

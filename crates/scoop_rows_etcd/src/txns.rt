@@ -1,21 +1,13 @@
 //! Words of keys, ranges and transactions. In keys and values `\xHH` is the byte with these hex digits.
 
 use scoop_etcd_calls::{Compare, Put, Range, Txn};
-use scoop_lines::{decimal, next_word};
+use scoop_lines::next_word;
 use scoop_row_player::Bad;
-use scoop_row_player::words::{first, last};
+use scoop_row_player::words::{first, first_two, hex_byte, last, long};
 use std::alloc::Global;
 
 // Conditions and puts of a transaction, at most.
 const MAX_PARTS: usize = 8;
-
-fn digit(byte: u8) -> Result<u8, Bad> {
-    match byte {
-        b'0'..=b'9' => Ok(byte - b'0'),
-        b'a'..=b'f' => Ok(byte - b'a' + 10),
-        _ => Err(Bad::Number),
-    }
-}
 
 /// The bytes that a text stands for.
 pub fn read_bytes(alloc: Global, text: &[u8]) -> Result<Vec<u8>, Bad> {
@@ -24,7 +16,7 @@ pub fn read_bytes(alloc: Global, text: &[u8]) -> Result<Vec<u8>, Bad> {
     for _ in 0..text.len() {
         match rest {
             [b'\\', b'x', high, low, behind @ ..] => {
-                bytes.push(digit(*high)? << 4 | digit(*low)?)?;
+                bytes.push(hex_byte(&[*high, *low])?)?;
                 rest = behind;
             }
             [byte, behind @ ..] => {
@@ -35,14 +27,6 @@ pub fn read_bytes(alloc: Global, text: &[u8]) -> Result<Vec<u8>, Bad> {
         }
     }
     Ok(bytes)
-}
-
-/// The line after the space before it.
-pub fn after_space(line: &[u8]) -> &[u8] {
-    match line {
-        [b' ', rest @ ..] => rest,
-        _ => line,
-    }
 }
 
 /// A range as `KEY`, or as `FROM TO`.
@@ -61,8 +45,7 @@ fn add_part(kind: &[u8], key: Vec<u8>, word: &[u8], txn: &mut Txn) -> Result<(),
     let alloc = *key.allocator();
     match kind {
         b"at" => {
-            let revision = decimal(word).ok_or(Bad::Number)?;
-            txn.compares.push(Compare::Revision(key, revision))?;
+            txn.compares.push(Compare::Revision(key, long(word)?))?;
         }
         b"has" => {
             let value = read_bytes(alloc, word)?;
@@ -88,8 +71,7 @@ pub fn read_txn(alloc: Global, line: &[u8]) -> Result<Txn, Bad> {
         let Some((kind, line)) = next_word(rest) else {
             return Ok(txn);
         };
-        let (key, line) = first(line)?;
-        let (word, line) = first(line)?;
+        let (key, word, line) = first_two(line)?;
         add_part(kind, read_bytes(alloc, key)?, word, &mut txn)?;
         rest = line;
     }

@@ -9,12 +9,12 @@
 //! - `begins TEXT` answers whether it begins as one of an etcd, and `name TEXT` whether it is a store's name.
 
 use crate::telling::{tell, tell_bytes, tell_outcome, tell_pairs, tell_whether};
-use crate::txns::{after_space, read_bytes, read_range, read_txn};
+use crate::txns::{read_bytes, read_range, read_txn};
 use scoop_etcd::is_store_name;
 use scoop_etcd_calls::{range_text, read_found, read_outcome, read_refusal, txn_text};
 use scoop_etcd_gateway::{Exchange, HttpFault, Response};
 use scoop_etcd_place::{EtcdPlace, begins_as_etcd};
-use scoop_row_player::words::{first, last, number};
+use scoop_row_player::words::{after_space, first, first_two, last, number, text_of};
 use scoop_row_player::{Bad, Subject};
 use std::alloc::Global;
 use std::io::Write;
@@ -49,8 +49,7 @@ fn json(name: &[u8], line: &[u8], answer: &mut Vec<u8>) -> Result<(), Bad> {
 
 fn requests(line: &[u8], answer: &mut Vec<u8>) -> Result<(), Bad> {
     let alloc = *answer.allocator();
-    let (host, line) = first(line)?;
-    let (path, line) = first(line)?;
+    let (host, path, line) = first_two(line)?;
     let host = read_bytes(alloc, host)?;
     let mut out = Vec::new(alloc);
     match Exchange::begin(alloc, &mut out, &host, path, after_space(line)) {
@@ -85,14 +84,12 @@ fn tell_response(came: Result<Response, HttpFault>, answer: &mut Vec<u8>) -> Res
         Ok(response) => {
             tell(response.status, answer)?;
             tell(response.body.len(), answer)?;
-            tell(
-                if response.keeps_open {
-                    "open"
-                } else {
-                    "closed"
-                },
-                answer,
-            )
+            let state = if response.keeps_open {
+                "open"
+            } else {
+                "closed"
+            };
+            tell(state, answer)
         }
         Err(fault) => tell_fault(fault, answer),
     }
@@ -129,9 +126,7 @@ fn reads_blank(len: usize, answer: &mut Vec<u8>) -> Result<(), Bad> {
 }
 
 fn names(name: &[u8], line: &[u8], answer: &mut Vec<u8>) -> Result<(), Bad> {
-    let Ok(text) = str::from_utf8(after_space(line)) else {
-        return Err(Bad::Words);
-    };
+    let text = text_of(after_space(line))?;
     match name {
         b"begins" => return tell_whether(begins_as_etcd(text), answer),
         b"name" => return tell_whether(is_store_name(text), answer),
@@ -170,9 +165,5 @@ impl Subject for Wire {
             }
             _ => Err(Bad::Command),
         }
-    }
-
-    fn shows(&self, _text: &mut Vec<u8>) -> Result<(), Bad> {
-        Ok(())
     }
 }

@@ -3,11 +3,10 @@
 //! A term is a number, `w0` for a word or `a0` for an argument. `-` stands for no test and no writes, and a comma stands
 //! between writes.
 
-use crate::bytes::words_in;
-use scoop_lines::{decimal, decimal_u16, is};
+use scoop_lines::{decimal_u16, is};
 use scoop_object::{OpRow, Term, Write, Writes};
 use scoop_row_player::Bad;
-use scoop_row_player::words::number;
+use scoop_row_player::words::{long, number, words_in};
 use std::alloc::Global;
 
 /// The number of 8 bits that a word writes.
@@ -19,7 +18,7 @@ fn term(word: &[u8]) -> Result<Term, Bad> {
     match word {
         [b'w', place @ ..] => Ok(Term::Word(small(place)?)),
         [b'a', place @ ..] => Ok(Term::Arg(small(place)?)),
-        _ => Ok(Term::Const(decimal(word).ok_or(Bad::Number)?)),
+        _ => Ok(Term::Const(long(word)?)),
     }
 }
 

@@ -3,7 +3,6 @@
 //! Each module says which commands its area has. Values come from outside: the head of each file of rows says whence.
 #![tactic(auto)]
 
-mod bytes;
 mod class_words;
 mod layers;
 mod links;
@@ -17,39 +16,32 @@ use objects::Objects;
 use owners::Owners;
 use queues::Queues;
 use scoop_node_link::Changes;
-use scoop_row_player::{Areas, Bad, Case, Heap, Sheet, play_rows};
+use scoop_row_player::{Areas, Bad, Play, Sheet};
 use seals::Seals;
 
 /// The areas `queues`, `objects`, `links`, `seals` and `owners`.
 pub struct LinkAreas;
 
 impl Areas for LinkAreas {
-    fn play(
-        &self,
-        area: &str,
-        case: Case<'_>,
-        heap: Heap<'_>,
-        sheet: &mut Sheet,
-    ) -> Result<bool, Bad> {
-        match area {
-            "queues" => play_rows(case, heap, &mut Queues::new(heap), sheet)?,
-            "objects" => play_rows(case, heap, &mut Objects::new(heap), sheet)?,
-            "links" => play_links(case, heap, sheet)?,
-            "seals" => play_rows(case, heap, &mut Seals, sheet)?,
-            "owners" => play_owners(case, heap, sheet)?,
-            _ => return Ok(false),
+    fn play(&self, play: Play<'_>, sheet: &mut Sheet) -> Result<bool, Bad> {
+        match play.area {
+            "queues" => play.over(&mut Queues::new(play.heap), sheet),
+            "objects" => play.over(&mut Objects::new(play.heap), sheet),
+            "links" => play_links(play, sheet),
+            "seals" => play.over(&mut Seals, sheet),
+            "owners" => play_owners(play, sheet),
+            _ => Ok(false),
         }
-        Ok(true)
     }
 }
 
-fn play_links(case: Case<'_>, heap: Heap<'_>, sheet: &mut Sheet) -> Result<(), Bad> {
+fn play_links(play: Play<'_>, sheet: &mut Sheet) -> Result<bool, Bad> {
     let changes = Changes::new(sheet.alloc())?;
-    let mut links = Links::new(sheet.alloc(), heap, &changes);
-    play_rows(case, heap, &mut links, sheet)
+    let mut links = Links::new(sheet.alloc(), play.heap, &changes);
+    play.over(&mut links, sheet)
 }
 
-fn play_owners(case: Case<'_>, heap: Heap<'_>, sheet: &mut Sheet) -> Result<(), Bad> {
+fn play_owners(play: Play<'_>, sheet: &mut Sheet) -> Result<bool, Bad> {
     let mut owners = Owners::new(sheet.alloc());
-    play_rows(case, heap, &mut owners, sheet)
+    play.over(&mut owners, sheet)
 }

@@ -19,20 +19,19 @@
 //! - `sent I` and `count` ask the tape, `refused` the count of a layer.
 //! - `put H` stores a state of handler H through the keeper that counts, and `stored H` asks whether it has one.
 
-use crate::bytes::{numbers, put_bytes, read_bytes, tells, told};
 use crate::layers::{Layers, Steps, Tape, client_of, tape_of};
 use crate::seals::system_key;
+use scoop_node_link::{AdmittingLink, BudgetLink, NoReport};
 use scoop_handler::HandlerState;
 use scoop_keeper::{Keeper, MemoryKeeper};
-use scoop_lines::{decimal, is};
-use scoop_link::{Datagram, Link, PacedLink, Party, Script, ScriptLink};
+use scoop_lines::is;
+use scoop_link::{Datagram, HoldingLink, Link, PacedLink, Party, Script, ScriptLink};
 use scoop_message::limits::BUFFER_LEN;
 use scoop_message::{ClientId, HandlerId, OutOfMemory, Words};
 use scoop_queue::QueueOfQueues;
-use scoop_node_link::{
-    AdmittingLink, BudgetLink, Changes, CountingKeeper, HoldingLink, NoReport, RecallingLink,
-};
-use scoop_row_player::words::{first, last, number};
+use scoop_node_link::{Changes, CountingKeeper, RecallingLink};
+use scoop_row_player::answers::{put_bytes, tells, told};
+use scoop_row_player::words::{first, handler, hex_bytes, last, long, number, numbers};
 use scoop_row_player::{Bad, Heap, Subject};
 use scoop_seal::SealedLink;
 use std::alloc::Global;
@@ -85,7 +84,7 @@ impl<'a> Links<'a> {
     }
 
     fn makes(&mut self, name: &[u8], line: &[u8], answer: &mut Vec<u8>) -> Result<(), Bad> {
-        let room = decimal(last(line)?).ok_or(Bad::Number)?;
+        let room = long(last(line)?)?;
         let made = self.layers(name, room as usize);
         self.takes(made, answer)
     }
@@ -197,7 +196,7 @@ impl<'a> Links<'a> {
         let (name, line) = first(command)?;
         match name {
             b"feed" => {
-                let bytes = read_bytes(*answer.allocator(), line)?;
+                let bytes = hex_bytes(*answer.allocator(), line)?;
                 self.fed.push(Datagram::of(bytes.as_slice()))?;
                 tells("ok", answer)
             }
@@ -205,7 +204,7 @@ impl<'a> Links<'a> {
             b"other" => self.calls_other(line, answer),
             b"sent" | b"count" => self.asks(name, line, answer),
             b"refused" => tells(self.link.refused(), answer),
-            b"put" | b"stored" => self.stores(name, HandlerId(number(last(line)?)?), answer),
+            b"put" | b"stored" => self.stores(name, handler(line)?, answer),
             b"pair" => self.pairs(line, answer),
             b"sealed" => self.seals(line, answer),
             b"tape"
@@ -254,7 +253,7 @@ fn call<L: Link>(link: &mut L, name: &[u8], line: &[u8], answer: &mut Vec<u8>) -
     match name {
         b"send" => {
             let (party, line) = take_party(line)?;
-            let bytes = read_bytes(*answer.allocator(), line)?;
+            let bytes = hex_bytes(*answer.allocator(), line)?;
             told(link.send(party, bytes.as_slice()), answer)
         }
         b"receive" => receives(link, answer),

@@ -8,13 +8,13 @@
 //!
 //! CLASS is the name of a demo class, or `own`.
 
-use crate::bytes::{numbers, tells, told};
 use crate::class_words::{rows, small};
 use scoop_classes::{AccountObject, CellObject, CounterObject, ExchangeObject, demo_class};
 use scoop_lines::is;
 use scoop_message::{Args, OutOfMemory, Request, Words};
 use scoop_object::{Behaviour, Boxed, Class, Object, Table};
-use scoop_row_player::words::{first, last};
+use scoop_row_player::answers::{keeps, tells, told};
+use scoop_row_player::words::{first, last, numbers};
 use scoop_row_player::{Bad, Heap, Subject};
 use std::alloc::Global;
 use std::io::Write;
@@ -38,13 +38,8 @@ impl<'a> Objects<'a> {
         if words < 1 || words > 16 {
             return Err(Bad::Number);
         }
-        match Class::build(self.heap, words, rows.as_slice()) {
-            Ok(class) => {
-                self.class = Some(class);
-                tells("ok", answer)
-            }
-            Err(error) => tells(error, answer),
-        }
+        let class = Class::build(self.heap, words, rows.as_slice());
+        keeps(&mut self.class, class, answer)
     }
 
     fn class_named(&self, name: &[u8]) -> Result<Option<Class<Heap<'a>>>, OutOfMemory> {

@@ -7,14 +7,14 @@
 //! - `updated` answers the text with the marks.
 //! - `incarnation` answers the incarnation that the text names, `named N` the text with this one.
 
-use crate::bytes::tells;
 use scoop_journal::Owner;
 use scoop_message::{ClientId, HandlerId, OutOfMemory};
 use scoop_owner::{
     Newest, first_missing, first_older, last_incarnation, line_like, note_newest, owner_text,
     text_with_incarnation, updated_text,
 };
-use scoop_row_player::words::{block, first, last, number};
+use scoop_row_player::answers::tells;
+use scoop_row_player::words::{after_space, block, first, last, number, text_of};
 use scoop_row_player::{Bad, Subject};
 use scoop_system::System;
 use std::alloc::Global;
@@ -39,7 +39,7 @@ impl Owners {
     fn changes(&mut self, name: &[u8], line: &[u8], answer: &mut Vec<u8>) -> Result<(), Bad> {
         match name {
             b"line" => {
-                self.text.push_str(after_space(line)?)?;
+                self.text.push_str(text_of(after_space(line))?)?;
                 self.text.push_str("\n")?;
             }
             b"want" => {
@@ -56,7 +56,7 @@ impl Owners {
         let text = self.text.as_str();
         let found = match name {
             b"missing" => first_missing(self.wanted.as_str(), text),
-            b"like" => line_like(text, after_space(line)?),
+            b"like" => line_like(text, text_of(after_space(line))?),
             _ => first_older(text, self.marks.as_slice()),
         };
         tells(found.unwrap_or("none"), answer)
@@ -90,15 +90,6 @@ impl Subject for Owners {
             _ => Err(Bad::Command),
         }
     }
-
-    fn shows(&self, _text: &mut Vec<u8>) -> Result<(), Bad> {
-        Ok(())
-    }
-}
-
-// The rest of a line, as it stands after its first space.
-fn after_space(line: &[u8]) -> Result<&str, Bad> {
-    str::from_utf8(line.strip_prefix(b" ").unwrap_or(line)).map_err(|_| Bad::Words)
 }
 
 fn mark(line: &[u8]) -> Result<Newest, Bad> {

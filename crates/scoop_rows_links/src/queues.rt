@@ -10,11 +10,13 @@
 ghost use Rattle.std.specs.Prelude.{ℕ, ◌<◌, length, IsTrue, IfSome};
 ghost use Rattle.scoop_queue.specs.Queue.{head_at};
 
-use crate::bytes::{tells, told, words_in};
 use scoop_message::limits::MAX_PENDING;
 use scoop_message::{Block, Entries, Entry};
 use scoop_queue::{Head, PutError, QueueOfQueues, QueueState};
-use scoop_row_player::words::{block, entries, entry, first, last, number, put_entry};
+use scoop_row_player::answers::{tells, told};
+use scoop_row_player::words::{
+    block, entries, entry, first, first_three, last, number, put_entry, words_in,
+};
 use scoop_row_player::{Bad, Heap, Subject};
 use std::alloc::Allocator;
 use std::io::Write;
@@ -140,9 +142,7 @@ fn appends<A: Allocator + Copy>(
     line: &[u8],
     answer: &mut Vec<u8>,
 ) -> Result<(), Bad> {
-    let (block_word, line) = first(line)?;
-    let (number_word, line) = first(line)?;
-    let (state_word, line) = first(line)?;
+    let (block_word, number_word, state_word, line) = first_three(line)?;
     let head = Head {
         block: block(block_word)?,
         first: number(number_word)?,

@@ -5,12 +5,11 @@
 //! - `system NAME LIFE` answers the digits of the key of the system with this name (`-`: none) and life. All bytes of the
 //!   key that it is made of are 05.
 
-use crate::bytes::{put_bytes, read_bytes, tells};
 use scoop_lines::is;
-use scoop_row_player::words::{first, last, number};
+use scoop_row_player::answers::{put_bytes, tells};
+use scoop_row_player::words::{first, first_two, hex_bytes, last, number, read_text};
 use scoop_row_player::{Bad, Subject};
 use scoop_seal::{Key, hmac};
-use std::alloc::Global;
 
 /// Codes and keys have no state.
 #[derive(Drop)]
@@ -21,7 +20,7 @@ impl Subject for Seals {
         let (name, line) = first(command)?;
         match name {
             b"code" => codes(line, answer),
-            b"key" => reads(line.strip_prefix(b" ").unwrap_or(line), answer),
+            b"key" => reads(line, answer),
             b"system" => {
                 let key = system_key(line)?;
                 tells_text(&key.to_text(), answer)
@@ -29,46 +28,24 @@ impl Subject for Seals {
             _ => Err(Bad::Command),
         }
     }
-
-    fn shows(&self, _text: &mut Vec<u8>) -> Result<(), Bad> {
-        Ok(())
-    }
 }
 
 fn codes(line: &[u8], answer: &mut Vec<u8>) -> Result<(), Bad> {
     let alloc = *answer.allocator();
-    let (len, line) = first(line)?;
-    let (key, line) = first(line)?;
-    let key = read_bytes(alloc, key)?;
-    let bytes = read_bytes(alloc, line)?;
+    let (len, key, line) = first_two(line)?;
+    let key = hex_bytes(alloc, key)?;
+    let bytes = hex_bytes(alloc, line)?;
     let code = hmac(key.as_slice(), bytes.as_slice());
     let len = number(len)? as usize;
     put_bytes(code.get(..len).ok_or(Bad::Number)?, answer)
 }
 
-fn reads(text: &[u8], answer: &mut Vec<u8>) -> Result<(), Bad> {
-    let text = read_text(*answer.allocator(), text)?;
+fn reads(line: &[u8], answer: &mut Vec<u8>) -> Result<(), Bad> {
+    let text = read_text(*answer.allocator(), line)?;
     match Key::read(text.as_slice()) {
         Ok(key) => tells_text(&key.to_text(), answer),
         Err(error) => tells(error, answer),
     }
-}
-
-// Reads a text in which `\n` and `\r` stand for these bytes.
-fn read_text(alloc: Global, text: &[u8]) -> Result<Vec<u8>, Bad> {
-    let mut bytes = Vec::new(alloc);
-    let mut rest = text;
-    for _ in 0..text.len() {
-        let (byte, behind) = match rest {
-            [] => break,
-            [b'\\', b'n', behind @ ..] => (b'\n', behind),
-            [b'\\', b'r', behind @ ..] => (b'\r', behind),
-            [byte, behind @ ..] => (*byte, behind),
-        };
-        bytes.push(byte)?;
-        rest = behind;
-    }
-    Ok(bytes)
 }
 
 // Writes the text of a key, without the end of a line at its end.

@@ -28,15 +28,11 @@ fn main(rt: HostRuntime) -> ExitCode {
 // Both handles are the program's.
 fn plays<R: Threads + Wait + Clock + Net + Sync>(host: &HostRuntime, rt: &R) -> io::Result<bool> {
     let mut right = true;
-    let mut is_own_name = true;
-    for name in env::args(host)? {
-        if !is_own_name {
-            let text = read(host, &name)?;
-            let mut sheet = Sheet::new(host.alloc());
-            let played = plays_text(rt, &text, &mut sheet);
-            right &= report(host, &name, played, &sheet)?;
-        }
-        is_own_name = false;
+    for name in env::args(host)?.skip(1) {
+        let text = read(host, &name)?;
+        let mut sheet = Sheet::new(host.alloc());
+        let played = plays_text(rt, &text, &mut sheet);
+        right &= report(host, &name, played, &sheet)?;
     }
     Ok(right)
 }

@@ -23,10 +23,11 @@ use scoop_keeper::{FailingKeeper, MemoryKeeper};
 use scoop_message::limits::MAX_HISTORY;
 use scoop_message::{Args, Block, ClientId, Entries, Entry, HandlerId, Message, Request};
 use scoop_object::Table;
-use scoop_row_player::words::{first, last, number};
+use scoop_row_player::answers::{add_line, tells};
+use scoop_row_player::words::{first, handler, last, number};
 use scoop_row_player::{Bad, Heap};
 use scoop_rows_parts::handlers::{objects, setting};
-use scoop_rows_parts::printing::{handler, message, put_replied, put_reply, tells};
+use scoop_rows_parts::printing::{message, put_replied, put_reply};
 use std::alloc::Global;
 use std::io::Write;
 use std::net::Net;
@@ -124,8 +125,7 @@ pub fn does<R: Threads + Wait + Clock + Net + Sync>(
         b"roomy" => nodes.opens(nodes.roomy, line, answer),
         b"close" => closes(rt, nodes, line, answer),
         b"feed" => {
-            nodes.fed.extend_from_slice(line)?;
-            nodes.fed.push(b'\n')?;
+            add_line(line, &mut nodes.fed)?;
             tells("ok", answer)
         }
         b"serve" => serves_tape(rt, nodes, line, answer),
@@ -158,7 +158,7 @@ fn acts<R: Threads + Wait + Sync>(
             let (_, heard) = message(nodes.alloc, line)?;
             put_replied(node.event(rt, pass, Event::Hear(heard)), answer)
         }
-        b"run" => runs(rt, node, pass, handler(last(line)?)?, answer),
+        b"run" => runs(rt, node, pass, handler(line)?, answer),
         b"idle" => {
             for _ in 0..number(last(line)?)? {
                 if !matches!(node.begin(rt, pass, ONE), Ok(None)) {

@@ -15,8 +15,8 @@ use scoop_message::{Args, ClientId, Request};
 use scoop_netloop::{Answered, answer_datagram, run_out};
 use scoop_object::Table;
 use scoop_row_player::Bad;
+use scoop_row_player::answers::tells;
 use scoop_rows_parts::handlers::objects;
-use scoop_rows_parts::printing::tells;
 use std::alloc::Global;
 
 // How many datagrams a lane has room for.

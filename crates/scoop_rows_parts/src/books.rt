@@ -12,9 +12,7 @@
 //! - `commit`, `word HANDLER`, `history` (its length), `entries` and `traffic` (what its moves hear and send).
 
 use crate::handlers::{list, numbers, objects, setting};
-use crate::printing::{
-    handler, message, put_frame, put_message, put_moves, put_replied, put_reply, tells, told,
-};
+use crate::printing::{message, put_frame, put_message, put_moves, put_replied, put_reply};
 use scoop_book::{Book, Event, Reply};
 use scoop_classes::DemoClass;
 use scoop_demo::{MAX_DATAGRAM_LEN, read_datagram};
@@ -26,11 +24,11 @@ use scoop_message::Message;
 use scoop_message::limits::BUFFER_LEN;
 use scoop_netloop::{Answered, answer_datagram, run_out};
 use scoop_object::Table;
-use scoop_row_player::words::{first, last, number};
+use scoop_row_player::answers::{keeps, tells, told};
+use scoop_row_player::words::{first, handler, last, number};
 use scoop_row_player::{Bad, Heap, Subject};
 use scoop_weaver::Party;
 use std::alloc::Global;
-use std::fmt::Display;
 use std::io::Write;
 
 type Kept<'a> = FailingKeeper<MemoryKeeper<Heap<'a>>>;
@@ -66,21 +64,7 @@ impl<'a> Books<'a> {
         let keeper = FailingKeeper::new(MemoryKeeper::new(heap), calls(line)?);
         self.numbers = numbers(line)?;
         let handlers = objects(self.alloc, DemoClass::Account, self.numbers.as_slice())?;
-        self.keeps(Book::open(heap, handlers, keeper), answer)
-    }
-
-    fn keeps<E: Display + Drop>(
-        &mut self,
-        opened: Result<HeapBook<'a>, E>,
-        answer: &mut Vec<u8>,
-    ) -> Result<(), Bad> {
-        match opened {
-            Ok(book) => {
-                self.book = Some(book);
-                tells("ok", answer)
-            }
-            Err(error) => tells(error, answer),
-        }
+        keeps(&mut self.book, Book::open(heap, handlers, keeper), answer)
     }
 
     // Opens the handlers over their keeper, or as they stood: over their keeper, or over one that has nothing.
@@ -91,13 +75,18 @@ impl<'a> Books<'a> {
         };
         if is(name, "again") {
             let keeper = FailingKeeper::new(book.into_keeper().into_inner(), calls(line)?);
-            return self.keeps(Book::open(self.roomy, handlers, keeper), answer);
+            return keeps(
+                &mut self.book,
+                Book::open(self.roomy, handlers, keeper),
+                answer,
+            );
         }
         let (mut keeper, stood) = book.into_standing();
         if is(name, "fresh") {
             keeper = FailingKeeper::new(MemoryKeeper::new(self.roomy), u64::MAX);
         }
-        self.keeps(Book::reopen(self.roomy, handlers, keeper, &stood), answer)
+        let opened = Book::reopen(self.roomy, handlers, keeper, &stood);
+        keeps(&mut self.book, opened, answer)
     }
 
     fn acts(&mut self, name: &[u8], line: &[u8], answer: &mut Vec<u8>) -> Result<(), Bad> {
@@ -113,9 +102,9 @@ impl<'a> Books<'a> {
             b"begin" => begins(book, &mut self.out, pass, line, answer),
             b"finish" => finishes(book, &mut self.out, pass, answer),
             b"datagram" => answers(book, pass, line, answer),
-            b"run" => told(run_out(book, pass, handler(last(line)?)?), answer),
+            b"run" => told(run_out(book, pass, handler(line)?), answer),
             b"commit" => told(book.commit(), answer),
-            b"word" => match book.words(handler(last(line)?)?) {
+            b"word" => match book.words(handler(line)?) {
                 Some(words) => tells(words.get(0).unwrap_or(0), answer),
                 None => tells("none", answer),
             },
@@ -167,7 +156,7 @@ fn begins(
     line: &[u8],
     answer: &mut Vec<u8>,
 ) -> Result<(), Bad> {
-    match book.begin(pass, handler(last(line)?)?) {
+    match book.begin(pass, handler(line)?) {
         Ok(None) => tells("none", answer),
         Ok(Some(job)) => {
             let left = (job.block(), job.number());

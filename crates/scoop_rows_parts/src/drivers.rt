@@ -11,9 +11,7 @@
 
 use crate::diary::Sparing;
 use crate::handlers::{list, numbers, objects, setting};
-use crate::printing::{
-    handler, message, put_frame, put_message, put_moves, put_note, put_replied, tells, told,
-};
+use crate::printing::{message, put_frame, put_message, put_moves, put_note, put_replied};
 use crate::waiting::waits;
 use crate::wire::Wire;
 use scoop_book::{Book, Event};
@@ -26,7 +24,8 @@ use scoop_message::{ClientId, Entry, HandlerId, Request};
 use scoop_model::WorldNote;
 use scoop_netloop::LoopLink;
 use scoop_object::Table;
-use scoop_row_player::words::{entry, first, last, number};
+use scoop_row_player::answers::{keeps, tells, tells_either, told};
+use scoop_row_player::words::{entry, first, first_two, handler, number};
 use scoop_row_player::{Bad, Heap, Subject};
 use scoop_weaver::Party;
 use std::alloc::{Allocator, Global};
@@ -97,13 +96,8 @@ impl<'a> Drivers<'a> {
     fn makes_accounts(&mut self, line: &[u8], answer: &mut Vec<u8>) -> Result<(), Bad> {
         self.numbers = numbers(line)?;
         let handlers = objects(self.alloc, DemoClass::Account, self.numbers.as_slice())?;
-        match Book::open(self.alloc, handlers, MemoryKeeper::new(self.alloc)) {
-            Ok(book) => {
-                self.book = Some(book);
-                tells("ok", answer)
-            }
-            Err(error) => tells(error, answer),
-        }
+        let book = Book::open(self.alloc, handlers, MemoryKeeper::new(self.alloc));
+        keeps(&mut self.book, book, answer)
     }
 
     fn hears(&mut self, line: &[u8], answer: &mut Vec<u8>) -> Result<(), Bad> {
@@ -147,7 +141,7 @@ impl<'a> Drivers<'a> {
             b"end" => told(driver.end(), answer)?,
             b"giveup" => told(driver.give_up(), answer)?,
             b"when" => waits(driver, line, answer)?,
-            b"due" => return put_message(driver.due(handler(last(line)?)?), answer),
+            b"due" => return put_message(driver.due(handler(line)?), answer),
             b"sent" => return put_frame(driver.link().last(), answer),
             b"linked" => {
                 let link = driver.link();
@@ -229,24 +223,18 @@ fn reserves_unless(
         asked: 0,
         last: number(times)?,
     };
-    match driver.reserve_unless(handlers.as_slice(), &mut interrupt) {
-        Ok(runs) => tells(runs, answer)?,
-        Err(error) => tells(error, answer)?,
-    }
+    let runs = driver.reserve_unless(handlers.as_slice(), &mut interrupt);
+    tells_either(runs, answer)?;
     write!(answer, " {}", interrupt.asked)?;
     Ok(())
 }
 
 // Logs a query, or a call so often.
 fn logs(driver: &mut HeapDriver<'_>, line: &[u8], answer: &mut Vec<u8>) -> Result<(), Bad> {
-    let (at, line) = first(line)?;
+    let (at, word, line) = first_two(line)?;
     let at = handler(at)?;
-    let (word, line) = first(line)?;
     match entry(word)? {
-        Entry::Query(request) => match driver.query(at, request) {
-            Ok(value) => tells(value, answer),
-            Err(error) => tells(error, answer),
-        },
+        Entry::Query(request) => tells_either(driver.query(at, request), answer),
         Entry::Call(request) => calls(driver, at, &request, setting(line, "times", 1)?, answer),
         Entry::End => Err(Bad::Words),
     }

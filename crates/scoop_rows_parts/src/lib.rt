@@ -15,7 +15,7 @@ mod wire;
 use books::Books;
 use drivers::Drivers;
 use scoop_refusing::Refusing;
-use scoop_row_player::{Areas, Bad, Case, Heap, Sheet, play_rows};
+use scoop_row_player::{Areas, Bad, Play, Sheet};
 use weaves::Weaves;
 
 /// The areas of this library.
@@ -23,21 +23,14 @@ use weaves::Weaves;
 pub struct Parts;
 
 impl Areas for Parts {
-    fn play(
-        &self,
-        area: &str,
-        case: Case<'_>,
-        heap: Heap<'_>,
-        sheet: &mut Sheet,
-    ) -> Result<bool, Bad> {
-        let alloc = sheet.alloc();
+    fn play(&self, play: Play<'_>, sheet: &mut Sheet) -> Result<bool, Bad> {
+        let (alloc, heap) = (sheet.alloc(), play.heap);
         let roomy = Refusing::new(alloc, 0);
-        match area {
-            "books" => play_rows(case, heap, &mut Books::new(alloc, heap, &roomy)?, sheet)?,
-            "drivers" => play_rows(case, heap, &mut Drivers::new(alloc, heap, &roomy)?, sheet)?,
-            "weaves" => play_rows(case, heap, &mut Weaves::new(alloc, heap), sheet)?,
-            _ => return Ok(false),
+        match play.area {
+            "books" => play.over(&mut Books::new(alloc, heap, &roomy)?, sheet),
+            "drivers" => play.over(&mut Drivers::new(alloc, heap, &roomy)?, sheet),
+            "weaves" => play.over(&mut Weaves::new(alloc, heap), sheet),
+            _ => Ok(false),
         }
-        Ok(true)
     }
 }

@@ -1,4 +1,4 @@
-//! Messages of rows, and the answers of commands.
+//! Messages of rows, and the answers of events.
 
 ghost use Rattle.std.specs.Prelude.{IfOk};
 ghost use Rattle.scoop_message.specs.Message.{Fits};
@@ -7,10 +7,11 @@ ghost use Rattle.scoop_frame.specs.Version.{Carries};
 use scoop_book::Reply;
 use scoop_demo::{print_message, print_note, read_message, tell_frame};
 use scoop_frame::Version;
-use scoop_message::{HandlerId, Message};
+use scoop_message::Message;
 use scoop_model::WorldNote;
 use scoop_row_player::Bad;
-use scoop_row_player::words::{number, put_entry};
+use scoop_row_player::answers::tells;
+use scoop_row_player::words::{after_space, put_entry};
 use scoop_weaver::{Party, Traffic};
 use std::alloc::{Allocator, Global};
 use std::fmt::Display;
@@ -21,31 +22,9 @@ pub fn message(alloc: Global, line: &[u8]) -> Result<(Version, Message), Bad>
     ensures fits { IfOk result (λ read. Fits read.1) }
     ensures carried { IfOk result (λ read. Carries read.0 read.1) }
 {
-    match read_message(alloc, line.strip_prefix(b" ").unwrap_or(line)) {
+    match read_message(alloc, after_space(line)) {
         Ok(read) => Ok(read),
         Err(_) => Err(Bad::Words),
-    }
-}
-
-/// The handler whose number a word is.
-pub fn handler(word: &[u8]) -> Result<HandlerId, Bad> {
-    Ok(HandlerId(number(word)?))
-}
-
-/// Adds a value.
-pub fn tells<T: Display + Drop>(value: T, answer: &mut Vec<u8>) -> Result<(), Bad> {
-    write!(answer, "{value}")?;
-    Ok(())
-}
-
-/// Adds `ok` or the refusal.
-pub fn told<T: Drop, E: Display + Drop>(
-    done: Result<T, E>,
-    answer: &mut Vec<u8>,
-) -> Result<(), Bad> {
-    match done {
-        Ok(_) => tells("ok", answer),
-        Err(error) => tells(error, answer),
     }
 }
 

@@ -6,11 +6,11 @@
 //!   tries at which it paused.
 
 use crate::drivers::HeapDriver;
-use crate::printing::{handler, tells};
 use scoop_driver::{BodyEntry, ConditionPart, Pause, Test};
 use scoop_message::{Answer, Args, Entry, HandlerId, Request};
 use scoop_row_player::Bad;
-use scoop_row_player::words::{entry, first, number};
+use scoop_row_player::answers::tells_either;
+use scoop_row_player::words::{entry, first, first_three, handler, number};
 use std::alloc::Global;
 use std::io::Write;
 
@@ -53,9 +53,8 @@ fn part(at: &[u8], asked: &[u8], test: &[u8], value: &[u8]) -> Result<ConditionP
         b"is" => Test::Is(value),
         _ => return Err(Bad::Words),
     };
-    let at = handler(at)?;
     Ok(ConditionPart {
-        handler: at,
+        handler: handler(at)?,
         request: query,
         test,
     })
@@ -68,9 +67,7 @@ fn parts(alloc: Global, line: &[u8]) -> Result<Vec<ConditionPart>, Bad> {
         if rest.is_empty() {
             break;
         }
-        let (at, behind) = first(rest)?;
-        let (asked, behind) = first(behind)?;
-        let (test, behind) = first(behind)?;
+        let (at, asked, test, behind) = first_three(rest)?;
         let (value, behind) = first(behind)?;
         all.push(part(at, asked, test, value)?)?;
         rest = behind;
@@ -80,9 +77,7 @@ fn parts(alloc: Global, line: &[u8]) -> Result<Vec<ConditionPart>, Bad> {
 
 /// Waits for a condition of several parts.
 pub fn waits(driver: &mut HeapDriver<'_>, line: &[u8], answer: &mut Vec<u8>) -> Result<(), Bad> {
-    let (tries, line) = first(line)?;
-    let (amount, line) = first(line)?;
-    let (at, line) = first(line)?;
+    let (tries, amount, at, line) = first_three(line)?;
     let condition = parts(*answer.allocator(), line)?;
     let body = [
         BodyEntry::Query(ONE, request(BALANCE, 0)?),
@@ -95,10 +90,8 @@ pub fn waits(driver: &mut HeapDriver<'_>, line: &[u8], answer: &mut Vec<u8>) -> 
     }
     let mut answers = [Answer::Refused; 2];
     let mut sum = Sum(0);
-    match driver.when_all(&[ONE], &condition, &body, &mut answers, tries, &mut sum) {
-        Ok(block) => tells(block, answer)?,
-        Err(error) => tells(error, answer)?,
-    }
+    let block = driver.when_all(&[ONE], &condition, &body, &mut answers, tries, &mut sum);
+    tells_either(block, answer)?;
     write!(answer, " {} {} pauses {}", answers[0], answers[1], sum.0)?;
     Ok(())
 }

@@ -6,11 +6,12 @@
 //! - `weave` answers an order, a line for each move with the place of its party, or why there is none.
 //! - `moves` answers the moves of the last party.
 
-use crate::printing::{message, put_move, put_moves, tells};
+use crate::printing::{message, put_move, put_moves};
 use scoop_message::Message;
-use scoop_row_player::words::first;
+use scoop_row_player::answers::tells;
+use scoop_row_player::words::{first, text_of};
 use scoop_row_player::{Bad, Heap, Subject};
-use scoop_weaver::{NoWeave, Party, Traffic, weave};
+use scoop_weaver::{Party, Traffic, weave};
 use std::alloc::Global;
 use std::io::Write;
 use std::mem;
@@ -72,7 +73,6 @@ impl<'a> Weaves<'a> {
     fn weaves(&self, answer: &mut Vec<u8>) -> Result<(), Bad> {
         match weave(self.heap, &self.parties) {
             Ok(order) => put_order(&order, answer),
-            Err(NoWeave::OutOfMemory) => tells("out of memory", answer),
             Err(error) => tells(error, answer),
         }
     }
@@ -108,12 +108,7 @@ impl Subject for Weaves<'_> {
 
 // The move that a line writes.
 fn traffic(alloc: Global, line: &[u8]) -> Result<Traffic, Bad> {
-    let Ok(text) = str::from_utf8(line) else {
-        return Err(Bad::Words);
-    };
-    let Some((heard, sent)) = text.split_once(" / ") else {
-        return Err(Bad::Words);
-    };
+    let (heard, sent) = text_of(line)?.split_once(" / ").ok_or(Bad::Words)?;
     Ok(Traffic {
         heard: written(alloc, heard.as_bytes())?,
         sent: written(alloc, sent.as_bytes())?,

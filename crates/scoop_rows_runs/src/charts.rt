@@ -5,11 +5,12 @@
 //! - `draws TEXT` draws the transfer if there is one, or else the chart, and answers whether the picture has TEXT. `says TEXT`
 //!   answers whether it has TEXT after what was found last.
 
-use crate::telling::{finds, tells, told};
+use crate::telling::finds;
 use scoop_chart::{Chart, ChartError};
 use scoop_lines::two_words;
 use scoop_message::{Answer, Block, ClientId, HandlerId};
-use scoop_row_player::words::{first, last, number};
+use scoop_row_player::answers::{keeps, tells, told};
+use scoop_row_player::words::{after_space, first, last, number};
 use scoop_row_player::{Bad, Subject};
 use scoop_world::{Event, WorldNote};
 use std::alloc::Global;
@@ -42,13 +43,8 @@ impl Charts {
     fn opens(&mut self, line: &[u8], answer: &mut Vec<u8>) -> Result<(), Bad> {
         let (from, to) = two_words(line).ok_or(Bad::Words)?;
         let (from, to) = (u64::from(number(from)?), u64::from(number(to)?));
-        match Transfer::open(*answer.allocator(), from, to) {
-            Ok(transfer) => {
-                self.transfer = Some(transfer);
-                tells("ok", answer)
-            }
-            Err(error) => tells(error, answer),
-        }
+        let transfer = Transfer::open(*answer.allocator(), from, to);
+        keeps(&mut self.transfer, transfer, answer)
     }
 
     fn pays(&mut self, paid: u32, answer: &mut Vec<u8>) -> Result<(), Bad> {
@@ -76,8 +72,8 @@ impl Subject for Charts {
         match name {
             b"label" => {
                 let (count, label) = first(line)?;
-                let label = label.strip_prefix(b" ").unwrap_or(label);
-                told(add(&mut self.chart, number(count)?, label), answer)
+                let count = number(count)?;
+                told(add(&mut self.chart, count, after_space(label)), answer)
             }
             b"begun" => told(begin(&mut self.chart), answer),
             b"open" => self.opens(line, answer),
@@ -86,10 +82,6 @@ impl Subject for Charts {
             b"says" => finds(&mut self.drawn, line, answer),
             _ => Err(Bad::Command),
         }
-    }
-
-    fn shows(&self, _text: &mut Vec<u8>) -> Result<(), Bad> {
-        Ok(())
     }
 }
 

@@ -9,12 +9,12 @@ ghost use Rattle.std.specs.Prelude.{◌≤◌};
 ghost use Rattle.scoop_message.specs.declared.limits.TheConstants.{MAX_ENTRIES};
 
 use crate::reading::{event_of, message_of};
-use crate::telling::{tells, tells_message, tells_note, told};
+use crate::telling::{tells_message, tells_note};
 use scoop_client::{BeginError, Client};
-use scoop_lines::next_word;
 use scoop_message::limits::MAX_ENTRIES;
 use scoop_message::{ClientId, HandlerId};
-use scoop_row_player::words::{first, last, number};
+use scoop_row_player::answers::{keeps, told};
+use scoop_row_player::words::{first, handler, number, words_in};
 use scoop_row_player::{Bad, Heap, Subject};
 use scoop_world::{Event, WorldNote};
 use std::alloc::Global;
@@ -44,22 +44,13 @@ impl<'a> Clients<'a> {
 
     // Begins the client with a number that the command is about, and handlers.
     fn begins(&mut self, name: &[u8], line: &[u8], answer: &mut Vec<u8>) -> Result<(), Bad> {
-        let (word, mut line) = first(line)?;
+        let (count, line) = first(line)?;
         let mut handlers = Vec::new(self.alloc);
-        for _ in 0..line.len() {
-            let Some((word, rest)) = next_word(line) else {
-                break;
-            };
-            handlers.push(HandlerId(number(word)?))?;
-            line = rest;
+        for word in words_in(self.alloc, line)?.as_slice() {
+            handlers.push(HandlerId(number(*word)?))?;
         }
-        match begun(self.heap, name, number(word)?, &handlers)? {
-            Ok(client) => {
-                self.client = Some(client);
-                tells("ok", answer)
-            }
-            Err(error) => tells(error, answer),
-        }
+        let client = begun(self.heap, name, number(count)?, &handlers)?;
+        keeps(&mut self.client, client, answer)
     }
 }
 
@@ -71,7 +62,7 @@ impl Subject for Clients<'_> {
         }
         let client = self.client.as_mut().ok_or(Bad::Command)?;
         match name {
-            b"due" => tells_message(&client.due(HandlerId(number(last(line)?)?)), answer),
+            b"due" => tells_message(&client.due(handler(line)?), answer),
             b"hear" => {
                 let note = client.hear(&message_of(self.alloc, line)?);
                 tells_note(&WorldNote::Client(note), None, answer)

@@ -11,15 +11,15 @@
 
 use crate::reading::{made, message_of};
 use crate::states::{Parts, shows_state};
-use crate::telling::{tells, tells_message, tells_note};
+use crate::telling::{tells_message, tells_note};
 use scoop_handler::{Done, Handler, HandlerState, Job, Ran, StrangerJob};
 use scoop_message::{Entry, HandlerId, Message, Request};
 use scoop_object::{Behaviour, Table};
+use scoop_row_player::answers::{keeps, tells};
 use scoop_row_player::words::first;
 use scoop_row_player::{Bad, Heap, Subject};
 use scoop_world::WorldNote;
 use std::alloc::Global;
-use std::fmt::Display;
 use std::io::Write;
 
 const ONE: HandlerId = HandlerId(1);
@@ -63,13 +63,7 @@ impl<'a> Handlers<'a> {
             None => Handler::new(self.heap, ONE, class, object),
             Some(state) => Handler::restart(class, object, state),
         };
-        match handler {
-            Ok(handler) => {
-                self.handler = Some(handler);
-                tells("ok", answer)
-            }
-            Err(error) => tells(error, answer),
-        }
+        keeps(&mut self.handler, handler, answer)
     }
 
     fn is_told(&mut self, name: &[u8], line: &[u8], answer: &mut Vec<u8>) -> Result<(), Bad> {
@@ -102,22 +96,22 @@ impl<'a> Handlers<'a> {
                     }
                 }
             }
-            _ => self.keeps(name, line, answer),
+            _ => self.copies(name, line, answer),
         }
     }
 
-    fn keeps(&mut self, name: &[u8], line: &[u8], answer: &mut Vec<u8>) -> Result<(), Bad> {
+    fn copies(&mut self, name: &[u8], line: &[u8], answer: &mut Vec<u8>) -> Result<(), Bad> {
         let handler = self.handler.as_ref().ok_or(Bad::Command)?;
         match name {
-            b"keep" => is_kept(&mut self.kept, handler.copy(), answer),
+            b"keep" => keeps(&mut self.kept, handler.copy(), answer),
             b"after" => {
                 let done = self.done.as_ref().ok_or(Bad::Command)?;
-                is_kept(&mut self.kept, handler.after_finish(done), answer)
+                keeps(&mut self.kept, handler.after_finish(done), answer)
             }
             b"state" => {
                 let (_class, object) = made(self.alloc, line)?;
                 let state = self.parts.state(self.heap, object.words());
-                is_kept(&mut self.kept, state, answer)
+                keeps(&mut self.kept, state, answer)
             }
             b"same" => {
                 let kept = self.kept.as_ref().ok_or(Bad::Command)?;
@@ -160,9 +154,7 @@ impl Subject for Handlers<'_> {
         let (name, line) = first(command)?;
         match name {
             b"make" => self.makes(None, line, answer),
-            b"holder" => self.parts.add(name, line, answer),
-            b"mark" => self.parts.add(name, line, answer),
-            b"queue" => self.parts.add(name, line, answer),
+            b"holder" | b"mark" | b"queue" => self.parts.add(name, line, answer),
             _ => self.is_told(name, line, answer),
         }
     }
@@ -175,21 +167,6 @@ impl Subject for Handlers<'_> {
             shows_state(state, text)?;
         }
         self.parts.shows(text)
-    }
-}
-
-// Keeps a state that was made.
-fn is_kept<'a, E: Display + Drop>(
-    kept: &mut Option<HandlerState<Heap<'a>>>,
-    made: Result<HandlerState<Heap<'a>>, E>,
-    answer: &mut Vec<u8>,
-) -> Result<(), Bad> {
-    match made {
-        Ok(state) => {
-            *kept = Some(state);
-            tells("ok", answer)
-        }
-        Err(error) => tells(error, answer),
     }
 }
 

@@ -16,7 +16,7 @@ use clients::Clients;
 use handlers::Handlers;
 use programs::Programs;
 use scoop_refusing::Refusing;
-use scoop_row_player::{Areas, Bad, Case, Heap, Sheet, Subject, play_rows};
+use scoop_row_player::{Areas, Bad, Play, Sheet, Subject};
 use worlds::Worlds;
 
 /// The areas `answers`, `charts`, `clients`, `commands`, `framing`, `handlers`, `limits`, `long`, `scripts` and `worlds`.
@@ -24,38 +24,30 @@ use worlds::Worlds;
 pub struct Runs;
 
 impl Areas for Runs {
-    fn play(
-        &self,
-        area: &str,
-        case: Case<'_>,
-        heap: Heap<'_>,
-        sheet: &mut Sheet,
-    ) -> Result<bool, Bad> {
-        let alloc = sheet.alloc();
+    fn play(&self, play: Play<'_>, sheet: &mut Sheet) -> Result<bool, Bad> {
+        let (alloc, heap) = (sheet.alloc(), play.heap);
         // for areas without refused growths, each of which would play the whole case again
         let own = Refusing::new(alloc, 0);
-        match area {
+        match play.area {
             "answers" | "commands" | "framing" | "scripts" => {
-                played(case, heap, Programs::new(alloc), sheet)?;
+                played(play, Programs::new(alloc), sheet)
             }
-            "charts" => played(case, heap, Charts::new(alloc)?, sheet)?,
-            "clients" => played(case, heap, Clients::new(alloc, heap), sheet)?,
-            "handlers" => played(case, heap, Handlers::new(alloc, heap), sheet)?,
-            "limits" => played(case, heap, Handlers::new(alloc, &own), sheet)?,
-            "long" => played(case, heap, Worlds::new(alloc, &own), sheet)?,
-            "worlds" => played(case, heap, Worlds::new(alloc, heap), sheet)?,
-            _ => return Ok(false),
+            "charts" => played(play, Charts::new(alloc)?, sheet),
+            "clients" => played(play, Clients::new(alloc, heap), sheet),
+            "handlers" => played(play, Handlers::new(alloc, heap), sheet),
+            "limits" => played(play, Handlers::new(alloc, &own), sheet),
+            "long" => played(play, Worlds::new(alloc, &own), sheet),
+            "worlds" => played(play, Worlds::new(alloc, heap), sheet),
+            _ => Ok(false),
         }
-        Ok(true)
     }
 }
 
 // Plays the rows of a case with a subject of its own.
 fn played<S: Subject + Drop>(
-    case: Case<'_>,
-    heap: Heap<'_>,
+    play: Play<'_>,
     mut subject: S,
     sheet: &mut Sheet,
-) -> Result<(), Bad> {
-    play_rows(case, heap, &mut subject, sheet)
+) -> Result<bool, Bad> {
+    play.over(&mut subject, sheet)
 }

@@ -5,10 +5,10 @@
 mod rule;
 mod watch;
 
-use crate::telling::tells;
 use rule::Dice;
 use scoop_message::{ClientId, HandlerId};
 use scoop_object::Table;
+use scoop_row_player::answers::tells;
 use scoop_row_player::{Bad, Heap};
 use scoop_world::{Event, World, WorldError, WorldNote};
 use std::io::Write;

@@ -18,8 +18,7 @@ mod answers;
 mod scripts;
 mod typing;
 
-use crate::reading::text_of;
-use crate::telling::{add_error, add_line, finds, tells, tells_lines, told};
+use crate::telling::{add_error, finds, tells_lines};
 use answers::Answering;
 use scoop_classes::DemoClass;
 use scoop_command_line::command;
@@ -27,7 +26,8 @@ use scoop_demo::{PlayOptions, answer_run, print_frame_of, read_message, tell_fra
 use scoop_keeper::MemoryKeeper;
 use scoop_lines::next_word;
 use scoop_message::HandlerId;
-use scoop_row_player::words::{first, last, number};
+use scoop_row_player::answers::{add_line, tells, told};
+use scoop_row_player::words::{after_space, first, last, number, text_of};
 use scoop_row_player::{Bad, Subject};
 use std::alloc::Global;
 use std::cell::Cell;
@@ -96,7 +96,7 @@ impl Programs {
 
     fn is_told(&mut self, command: &[u8], answer: &mut Vec<u8>) -> Result<(), Bad> {
         let (name, line) = first(command)?;
-        let text = line.strip_prefix(b" ").unwrap_or(line);
+        let text = after_space(line);
         match name {
             b"add" => add_line(text, &mut self.lines)?,
             b"long" => {
@@ -109,7 +109,7 @@ impl Programs {
             b"lines" => {
                 let (count, line) = first(line)?;
                 for _ in 0..number(count)? {
-                    add_line(line.strip_prefix(b" ").unwrap_or(line), &mut self.lines)?;
+                    add_line(after_space(line), &mut self.lines)?;
                 }
             }
             b"typed" => return self.types(line, answer),
@@ -175,10 +175,6 @@ impl Subject for Programs {
             Some(command) => self.is_told(command, answer),
             None => self.is_given(command, answer),
         }
-    }
-
-    fn shows(&self, _text: &mut Vec<u8>) -> Result<(), Bad> {
-        Ok(())
     }
 }
 

@@ -6,21 +6,13 @@ use scoop_demo::{
 use scoop_message::Message;
 use scoop_object::{Class, Table};
 use scoop_row_player::Bad;
+use scoop_row_player::words::after_space;
 use scoop_world::{Event, Placement};
 use std::alloc::Global;
-use std::str;
-
-/// A text of bytes that should be one.
-pub fn text_of(bytes: &[u8]) -> Result<&str, Bad> {
-    match str::from_utf8(bytes) {
-        Ok(text) => Ok(text),
-        Err(_) => Err(Bad::Words),
-    }
-}
 
 /// The message that these words write.
 pub fn message_of(alloc: Global, line: &[u8]) -> Result<Message, Bad> {
-    match read_message(alloc, line.strip_prefix(b" ").unwrap_or(line)) {
+    match read_message(alloc, after_space(line)) {
         Ok((_, message)) => Ok(message),
         Err(_) => Err(Bad::Words),
     }

@@ -1,12 +1,12 @@
 //! States of handlers: their parts in words, and their text.
 
-use crate::telling::{tells, told};
 use scoop_handler::{HandlerState, Mark, Stage, StateError};
 use scoop_lines::next_word;
 use scoop_message::limits::MAX_PENDING;
 use scoop_message::{Answer, Block, HandlerId, Words};
 use scoop_queue::{Head, QueueOfQueues, QueueState};
-use scoop_row_player::words::{block, entries, first, last, number, put_entry};
+use scoop_row_player::answers::{tells, told};
+use scoop_row_player::words::{block, entries, first_three, last, number, put_entry};
 use scoop_row_player::{Bad, Heap};
 use std::alloc::Global;
 use std::io::Write;
@@ -66,9 +66,7 @@ impl<'a> Parts<'a> {
 
 // A block, its stage, the number of received entries, and what else the handler keeps of it.
 fn mark(line: &[u8]) -> Result<Mark, Bad> {
-    let (block_word, line) = first(line)?;
-    let (stage, line) = first(line)?;
-    let (received, line) = first(line)?;
+    let (block_word, stage, received, line) = first_three(line)?;
     let Block { client, inc, num } = block(block_word)?;
     let (more, _) = next_word(line).unwrap_or((&[], &[]));
     let stage = match stage {
@@ -84,11 +82,7 @@ fn mark(line: &[u8]) -> Result<Mark, Bad> {
         stage,
         received: number(received)?,
         ended: matches!(more, b"ended"),
-        kept: if matches!(more, b"refused") {
-            Some((1, Answer::Refused))
-        } else {
-            None
-        },
+        kept: matches!(more, b"refused").then_some((1, Answer::Refused)),
     })
 }
 
@@ -98,9 +92,7 @@ fn append(
     line: &[u8],
     answer: &mut Vec<u8>,
 ) -> Result<(), Bad> {
-    let (block_word, line) = first(line)?;
-    let (first_word, line) = first(line)?;
-    let (state, line) = first(line)?;
+    let (block_word, first_word, state, line) = first_three(line)?;
     let state = match state {
         b"open" => QueueState::Open,
         b"ended" => QueueState::Ended,

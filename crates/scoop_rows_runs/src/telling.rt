@@ -1,27 +1,13 @@
 //! Words of answers.
 
-use crate::reading::text_of;
 use scoop_demo::{RunError, print_message, print_note};
 use scoop_frame::Version;
 use scoop_message::Message;
 use scoop_row_player::Bad;
+use scoop_row_player::answers::tells;
+use scoop_row_player::words::{after_space, text_of};
 use scoop_world::WorldNote;
-use std::fmt::Display;
 use std::io::Write;
-
-/// Adds a value as it is printed.
-pub fn tells<T: Display + Drop>(value: T, answer: &mut Vec<u8>) -> Result<(), Bad> {
-    write!(answer, "{value}")?;
-    Ok(())
-}
-
-/// Adds `ok`, or the error as it is printed.
-pub fn told<E: Display + Drop>(done: Result<(), E>, answer: &mut Vec<u8>) -> Result<(), Bad> {
-    match done {
-        Ok(()) => tells("ok", answer),
-        Err(error) => tells(error, answer),
-    }
-}
 
 /// Adds what an event did, in the words of `scoop world`.
 pub fn tells_note(
@@ -67,16 +53,9 @@ pub fn tells_lines(text: &[u8], between: &str, answer: &mut Vec<u8>) -> Result<(
     Ok(())
 }
 
-/// Adds a line.
-pub fn add_line(line: &[u8], text: &mut Vec<u8>) -> Result<(), Bad> {
-    text.extend_from_slice(line)?;
-    text.push(b'\n')?;
-    Ok(())
-}
-
 /// The place in a text behind the first of these words of a row.
 pub fn behind(text: &[u8], words: &[u8]) -> Option<usize> {
-    let words = words.strip_prefix(b" ").unwrap_or(words);
+    let words = after_space(words);
     for place in 0..text.len() {
         if text.get(place..).unwrap_or(&[]).starts_with(words) {
             return Some(place.saturating_add(words.len()));

@@ -11,14 +11,15 @@ ghost use Rattle.std.specs.List.{All};
 ghost use Rattle.scoop_message.specs.declared.limits.TheConstants.{MAX_ENTRIES};
 
 use crate::long::play_long;
-use crate::reading::{event_of, placement, text_of};
-use crate::telling::{add_line, behind, tells, tells_note};
+use crate::reading::{event_of, placement};
+use crate::telling::{behind, tells_note};
 use scoop_demo::{LineKind, line_kind, read_client};
 use scoop_keeper::MemoryKeeper;
 use scoop_lines::two_words;
 use scoop_message::{ClientId, HandlerId};
 use scoop_object::Table;
-use scoop_row_player::words::{first, last, number};
+use scoop_row_player::answers::{add_line, keeps, tells};
+use scoop_row_player::words::{first, last, number, text_of};
 use scoop_row_player::{Bad, Heap, Subject};
 use scoop_world::{Placement, World, WorldError, WorldNote, WorldOpenError};
 use std::alloc::Global;
@@ -65,13 +66,7 @@ impl<'a> Worlds<'a> {
                 Err(error) => return tells(error, answer),
             },
         };
-        match parties.open(self.heap, keeper) {
-            Ok(world) => {
-                self.world = Some(world);
-                tells("ok", answer)
-            }
-            Err(error) => tells(error, answer),
-        }
+        keeps(&mut self.world, parties.open(self.heap, keeper), answer)
     }
 
     // Takes the event of a line.
@@ -96,8 +91,7 @@ impl Subject for Worlds<'_> {
     fn does(&mut self, command: &[u8], answer: &mut Vec<u8>) -> Result<(), Bad> {
         let (name, line) = first(command)?;
         match name {
-            b"handler" => add_line(command, &mut self.parties)?,
-            b"client" => add_line(command, &mut self.parties)?,
+            b"handler" | b"client" => add_line(command, &mut self.parties)?,
             b"last" => {
                 let (client, inc) = two_words(line).ok_or(Bad::Words)?;
                 self.stored = Some((ClientId(number(client)?), number(inc)?));

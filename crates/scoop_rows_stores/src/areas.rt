@@ -7,7 +7,7 @@ use crate::keepers::Keepers;
 use crate::stops::Stops;
 use crate::stores::Stores;
 use scoop_files::StoreName;
-use scoop_row_player::{Areas, Bad, Case, Heap, Sheet, play_rows};
+use scoop_row_player::{Areas, Bad, Play, Sheet};
 use sqlite::Connection;
 use std::cell::RefCell;
 
@@ -19,44 +19,32 @@ pub struct StoreAreas<'a> {
 }
 
 impl Areas for StoreAreas<'_> {
-    fn play(
-        &self,
-        area: &str,
-        case: Case<'_>,
-        heap: Heap<'_>,
-        sheet: &mut Sheet,
-    ) -> Result<bool, Bad> {
-        match area {
-            "images" | "keepers" => play_rows(case, heap, &mut Keepers::new(heap), sheet)?,
-            "stores" => play_stores(case, heap, sheet)?,
-            "stops" => play_rows(case, heap, &mut Stops::new(sheet.alloc()), sheet)?,
-            "journals" => play_journals(case, heap, sheet)?,
-            "audits" => play_rows(case, heap, &mut Audits::new(self.rt), sheet)?,
-            "files" | "databases" => play_folder(self.rt, case, heap, sheet)?,
-            _ => return Ok(false),
+    fn play(&self, play: Play<'_>, sheet: &mut Sheet) -> Result<bool, Bad> {
+        match play.area {
+            "images" | "keepers" => play.over(&mut Keepers::new(play.heap), sheet),
+            "stores" => play_stores(play, sheet),
+            "stops" => play.over(&mut Stops::new(sheet.alloc()), sheet),
+            "journals" => play_journals(play, sheet),
+            "audits" => play.over(&mut Audits::new(self.rt), sheet),
+            "files" | "databases" => play_folder(self.rt, play, sheet),
+            _ => Ok(false),
         }
-        Ok(true)
     }
 }
 
-fn play_stores(case: Case<'_>, heap: Heap<'_>, sheet: &mut Sheet) -> Result<(), Bad> {
+fn play_stores(play: Play<'_>, sheet: &mut Sheet) -> Result<bool, Bad> {
     match Connection::open_in_memory(sheet.alloc()) {
-        Ok(connection) => play_rows(case, heap, &mut Stores::new(connection), sheet),
+        Ok(connection) => play.over(&mut Stores::new(connection), sheet),
         Err(_) => Err(Bad::Memory),
     }
 }
 
-fn play_journals(case: Case<'_>, heap: Heap<'_>, sheet: &mut Sheet) -> Result<(), Bad> {
+fn play_journals(play: Play<'_>, sheet: &mut Sheet) -> Result<bool, Bad> {
     let text = RefCell::new(Vec::new(sheet.alloc()));
-    play_rows(case, heap, &mut Journals::new(&text), sheet)
+    play.over(&mut Journals::new(&text), sheet)
 }
 
-fn play_folder(
-    rt: &HostRuntime,
-    case: Case<'_>,
-    heap: Heap<'_>,
-    sheet: &mut Sheet,
-) -> Result<(), Bad> {
+fn play_folder(rt: &HostRuntime, play: Play<'_>, sheet: &mut Sheet) -> Result<bool, Bad> {
     let name = StoreName::new(sheet.alloc(), STORE)?;
-    play_rows(case, heap, &mut Folder::new(rt, &name), sheet)
+    play.over(&mut Folder::new(rt, &name), sheet)
 }

@@ -8,13 +8,13 @@
 //! - `audit` answers what the audit prints with the blocks, or why there is no explanation.
 //! - `chart FIRST LAST` audits, and answers how many rows the chart of these moves has.
 
-use crate::disk::{add_text, files};
-use crate::keeping::says;
+use crate::disk::files;
 use scoop_audit::{
     AuditError, Explained, Journal, audit, chart_of, print_explained, unexplained_text,
 };
 use scoop_lines::{is, is_blank, two_words};
-use scoop_row_player::words::{first, number};
+use scoop_row_player::answers::tells;
+use scoop_row_player::words::{first, first_two, number, read_text};
 use scoop_row_player::{Bad, Subject};
 use scoop_system::System;
 use std::fs;
@@ -59,7 +59,7 @@ impl<'a> Audits<'a> {
                 answer.pop();
                 Ok(())
             }
-            Err(error) => tells(&error, answer),
+            Err(error) => tells_error(&error, answer),
         }
     }
 }
@@ -82,23 +82,20 @@ impl Subject for Audits<'_> {
             b"audit" | b"chart" => return self.audits(name, line, answer),
             _ => return Err(Bad::Command),
         }
-        says("ok", answer)
-    }
-
-    // An audit takes no memory of the heap that refuses.
-    fn shows(&self, _text: &mut Vec<u8>) -> Result<(), Bad> {
-        Ok(())
+        tells("ok", answer)
     }
 }
 
 // Adds a text to a journal, or puts it in the place of lines.
 fn edits(journal: &mut Vec<u8>, name: &[u8], line: &[u8]) -> Result<(), Bad> {
     if is(name, "text") {
-        return add_text(line, journal);
+        let text = read_text(*journal.allocator(), line)?;
+        journal.extend_from_slice(&text)?;
+        return Ok(());
     }
-    let (from, line) = first(line)?;
-    let (to, text) = first(line)?;
+    let (from, to, text) = first_two(line)?;
     let (from, to) = (number(from)?, number(to)?);
+    let text = read_text(*journal.allocator(), text)?;
     let mut edited = Vec::new(*journal.allocator());
     let mut place = 0u32;
     for old in journal.split_inclusive(|byte| *byte == b'\n') {
@@ -106,14 +103,14 @@ fn edits(journal: &mut Vec<u8>, name: &[u8], line: &[u8]) -> Result<(), Bad> {
         if place < from || to < place {
             edited.extend_from_slice(old)?;
         } else if place == to {
-            add_text(text, &mut edited)?;
+            edited.extend_from_slice(&text)?;
         }
     }
     *journal = edited;
     Ok(())
 }
 
-fn tells(error: &AuditError, answer: &mut Vec<u8>) -> Result<(), Bad> {
+fn tells_error(error: &AuditError, answer: &mut Vec<u8>) -> Result<(), Bad> {
     match error {
         AuditError::OutOfMemory => Err(Bad::Memory),
         AuditError::Fault(place, line, fault) => {
@@ -123,7 +120,7 @@ fn tells(error: &AuditError, answer: &mut Vec<u8>) -> Result<(), Bad> {
         AuditError::Unexplained(found, wrong) => {
             let mut text = String::new(*answer.allocator());
             match unexplained_text(found, wrong, &mut text) {
-                Ok(()) => says(text.as_str(), answer),
+                Ok(()) => tells(text.as_str(), answer),
                 Err(_) => Err(Bad::Memory),
             }
         }
@@ -139,9 +136,9 @@ fn draws(system: &System, run: &Explained, line: &[u8], answer: &mut Vec<u8>) ->
         Ok(chart) => {
             chart.draw(&mut picture)?;
             if !picture.starts_with(b"<svg ") {
-                return says("no picture", answer);
+                return tells("no picture", answer);
             }
-            says(chart.rows(), answer)
+            tells(chart.rows(), answer)
         }
         Err(_) => Err(Bad::Memory),
     }

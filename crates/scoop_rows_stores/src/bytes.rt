@@ -3,13 +3,12 @@
 //! `64*000000nn03` stands for 64 parts, in which `nn` is the part's number from 1. A `-` is no bytes.
 
 use scoop_handler::HandlerState;
-use scoop_lines::{decimal, is, next_word};
+use scoop_lines::{is, next_word};
 use scoop_message::HandlerId;
 use scoop_record::{image, pending_row};
-use scoop_row_player::Bad;
-use scoop_row_player::words::{first, number};
+use scoop_row_player::words::{first, hex_byte, long, number};
+use scoop_row_player::{Bad, answers};
 use std::alloc::{Allocator, Global};
-use std::io::Write;
 
 /// The two blobs of a handler's row in a store.
 #[derive(Drop)]
@@ -55,7 +54,7 @@ fn add_part(word: &[u8], out: &mut Vec<u8>) -> Result<(), Bad> {
     let mut parts = word.splitn(2, |byte| *byte == b'*');
     let front = parts.next().unwrap_or(&[]);
     let (count, digits) = match parts.next() {
-        Some(digits) => (decimal(front).ok_or(Bad::Number)?, digits),
+        Some(digits) => (long(front)?, digits),
         None => (1, front),
     };
     let Ok(count) = u8::try_from(count) else {
@@ -72,20 +71,11 @@ fn add_digits(word: &[u8], number: u8, out: &mut Vec<u8>) -> Result<(), Bad> {
     for pair in word.chunks(2) {
         let byte = match pair {
             [b'n', b'n'] => number,
-            [high, low] => digit(*high)? << 4 | digit(*low)?,
-            _ => return Err(Bad::Number),
+            _ => hex_byte(pair)?,
         };
         out.push(byte)?;
     }
     Ok(())
-}
-
-fn digit(byte: u8) -> Result<u8, Bad> {
-    match byte {
-        b'0'..=b'9' => Ok(byte - b'0'),
-        b'a'..=b'f' => Ok(byte - b'a' + 10),
-        _ => Err(Bad::Number),
-    }
 }
 
 /// Writes bytes in hex digits, or `-` if there are none.
@@ -93,10 +83,7 @@ pub fn put_bytes(bytes: &[u8], answer: &mut Vec<u8>) -> Result<(), Bad> {
     if bytes.is_empty() {
         answer.push(b'-')?;
     }
-    for byte in bytes {
-        write!(answer, "{byte:02x}")?;
-    }
-    Ok(())
+    answers::put_bytes(bytes, answer)
 }
 
 /// Writes `IMAGE / ENTRIES`.

@@ -1,12 +1,12 @@
 //! The cell of handler 1 over a store, which answers datagrams as `scoop answer` does.
 
-use crate::keeping::says;
 use scoop_classes::DemoClass;
 use scoop_demo::{answer_run, open_book};
 use scoop_keeper::Keeper;
 use scoop_message::{HandlerId, Words};
 use scoop_object::{Class, Table};
 use scoop_row_player::Bad;
+use scoop_row_player::answers::tells;
 use std::alloc::Global;
 
 const ONE: HandlerId = HandlerId(1);
@@ -27,12 +27,12 @@ pub fn answers<K: Keeper<Global>>(
             let ended = answer_run(&mut book, Some(ONE), line, answer);
             *kept = Some(book.into_keeper());
             if let Err(error) = ended {
-                return says(error, answer);
+                return tells(error, answer);
             }
             answer.pop();
             Ok(())
         }
-        Err(error) => says(error, answer),
+        Err(error) => tells(error, answer),
     }
 }
 

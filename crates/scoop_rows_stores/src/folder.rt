@@ -12,18 +12,21 @@
 //! - `append SYNC FILE TEXT` opens the journal of node 1 in a file and appends a line. With `syncs` as SYNC it waits for the
 //!   disk. `hold FILE` opens the journal and keeps it open.
 
-use crate::disk::{add_text, files, path};
-use crate::keeping::{keeps, says};
+use crate::disk::files;
+use crate::keeping::keeper_does;
 use scoop_files::{
     FileError, FiledStore, NameWatch, NamedKeeper, StoreName, adopt_for, close_named, create_after,
     update_marks,
 };
 use scoop_journal::{Journal, JournalFile, Owner, read};
 use scoop_keeper::{FailingKeeper, Keeper, MemoryKeeper};
-use scoop_lines::{decimal, is, two_words};
+use scoop_lines::{is, two_words};
 use scoop_message::{ClientId, HandlerId};
 use scoop_owner::Newest;
-use scoop_row_player::words::{block, first, last, number};
+use scoop_row_player::answers::{keeps, tells, told};
+use scoop_row_player::words::{
+    after_space, block, first, first_two, last, long, number, read_text, text_of,
+};
 use scoop_row_player::{Bad, Subject};
 use std::alloc::Global;
 use std::time::{Duration, Instant};
@@ -78,15 +81,15 @@ impl<'a> Folder<'a> {
     }
 
     fn begins(&mut self, line: &[u8], answer: &mut Vec<u8>) -> Result<(), Bad> {
-        let calls = decimal(last(line)?).ok_or(Bad::Number)?;
+        let calls = long(last(line)?)?;
         let keeper = FailingKeeper::new(MemoryKeeper::new(self.rt.alloc()), calls);
         self.keeper = Some(NamedKeeper::new(self.rt, keeper, self.name));
-        says("ok", answer)
+        tells("ok", answer)
     }
 
     fn closes(&mut self, answer: &mut Vec<u8>) -> Result<(), Bad> {
         if take_inner(&mut self.keeper).is_some() {
-            return says("ok", answer);
+            return tells("ok", answer);
         }
         close_store(take_inner(&mut self.store), self.name, answer)
     }
@@ -112,35 +115,30 @@ impl<'a> Folder<'a> {
     }
 
     fn holds(&mut self, line: &[u8], answer: &mut Vec<u8>) -> Result<(), Bad> {
-        match JournalFile::open(self.rt, path(last(line)?)?, NODE, false) {
-            Ok(file) => {
-                self.held = Some(file);
-                says("ok", answer)
-            }
-            Err(error) => says(error, answer),
-        }
+        let file = JournalFile::open(self.rt, text_of(last(line)?)?, NODE, false);
+        keeps(&mut self.held, file, answer)
     }
 
     fn watches(&mut self, name: &[u8], answer: &mut Vec<u8>) -> Result<(), Bad> {
         if is(name, "watch") {
             self.watch = Some(NameWatch::new(self.rt, self.name));
-            return says("ok", answer);
+            return tells("ok", answer);
         }
         match &mut self.watch {
-            Some(watch) => says(watch.has_name(), answer),
+            Some(watch) => tells(watch.has_name(), answer),
             None => Err(Bad::Command),
         }
     }
 
     fn stays(&self, line: &[u8], answer: &mut Vec<u8>) -> Result<(), Bad> {
-        let (mut wanted, mut text) = (Vec::new(self.rt.alloc()), Vec::new(self.rt.alloc()));
-        add_text(line, &mut wanted)?;
+        let wanted = read_text(self.rt.alloc(), line)?;
+        let mut text = Vec::new(self.rt.alloc());
         files(self.rt, b"read", TEXT.as_bytes(), &mut text)?;
         let is_late = match (self.start, Instant::now(self.rt)) {
             (Some(start), Ok(now)) => now.duration_since(start) >= Duration::from_secs(1),
             _ => true,
         };
-        says(text.as_slice() == wanted.as_slice() || is_late, answer)
+        tells(text.as_slice() == wanted.as_slice() || is_late, answer)
     }
 }
 
@@ -160,21 +158,16 @@ impl Subject for Folder<'_> {
             b"close" => self.closes(answer),
             b"next" | b"put" | b"load" | b"commit" => self.gives(command, answer),
             b"times" => self.repeats(line, answer),
-            b"lost" => says(self.name.is_lost(), answer),
+            b"lost" => tells(self.name.is_lost(), answer),
             b"watch" | b"named" => self.watches(name, answer),
             b"hold" => self.holds(line, answer),
             b"start" => {
                 self.start = Instant::now(self.rt).ok();
-                says("ok", answer)
+                tells("ok", answer)
             }
             b"stays" => self.stays(line, answer),
             _ => does_beside(self.rt, name, line, answer),
         }
-    }
-
-    // Files are read by commands.
-    fn shows(&self, _text: &mut Vec<u8>) -> Result<(), Bad> {
-        Ok(())
     }
 }
 
@@ -186,7 +179,7 @@ fn gives_kept<K: Keeper<Global>>(
     answer: &mut Vec<u8>,
 ) -> Result<(), Bad> {
     match kept {
-        Some(keeper) => keeps(*answer.allocator(), keeper, name, line, answer),
+        Some(keeper) => keeper_does(*answer.allocator(), keeper, name, line, answer),
         None => Err(Bad::Command),
     }
 }
@@ -212,9 +205,9 @@ fn close_store(
 
 fn tells_closed(closed: Result<(), FileError>, answer: &mut Vec<u8>) -> Result<(), Bad> {
     match closed {
-        Ok(()) => says("ok", answer),
-        Err(FileError::Lost) => says("lost", answer),
-        Err(error) => says(error, answer),
+        Ok(()) => tells("ok", answer),
+        Err(FileError::Lost) => tells("lost", answer),
+        Err(error) => tells(error, answer),
     }
 }
 
@@ -229,9 +222,9 @@ fn keeps_opened<'a, K: Drop>(
     match opened {
         Ok(store) => {
             *kept = Some(NamedKeeper::new(rt, store, name));
-            says("ok", answer)
+            tells("ok", answer)
         }
-        Err(error) => says(error, answer),
+        Err(error) => tells(error, answer),
     }
 }
 
@@ -247,27 +240,23 @@ fn does_beside(
         b"sleep" => {
             let time = Duration::from_millis(u64::from(number(last(line)?)?));
             thread::sleep(rt, time);
-            says("ok", answer)
+            tells("ok", answer)
         }
         _ => files(rt, name, line, answer),
     }
 }
 
 fn appends(rt: &HostRuntime, line: &[u8], answer: &mut Vec<u8>) -> Result<(), Bad> {
-    let (syncs, line) = first(line)?;
-    let (file, text) = first(line)?;
-    let Ok(line) = read(text.get(1..).unwrap_or(&[])) else {
+    let (syncs, file, text) = first_two(line)?;
+    let Ok(line) = read(after_space(text)) else {
         return Err(Bad::Words);
     };
-    match JournalFile::open(rt, path(file)?, NODE, is(syncs, "syncs")) {
+    match JournalFile::open(rt, text_of(file)?, NODE, is(syncs, "syncs")) {
         Ok(file) => {
             let mut journal = Journal::new(rt.alloc(), &file);
-            match journal.append(&line) {
-                Ok(()) => says("ok", answer),
-                Err(error) => says(error, answer),
-            }
+            told(journal.append(&line), answer)
         }
-        Err(error) => says(error, answer),
+        Err(error) => tells(error, answer),
     }
 }
 
@@ -277,5 +266,5 @@ fn marks(rt: &HostRuntime, line: &[u8], answer: &mut Vec<u8>) -> Result<(), Bad>
         handler: HandlerId(number(handler)?),
         block: block(mark)?,
     };
-    says(update_marks(rt, TEXT, &[newest]), answer)
+    tells(update_marks(rt, TEXT, &[newest]), answer)
 }

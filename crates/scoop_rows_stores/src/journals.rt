@@ -12,16 +12,17 @@
 //! - `text` answers what was written, and empties it.
 
 use crate::bytes::read_blobs;
-use crate::keeping::{done, keeps, says};
+use crate::keeping::{done, keeper_does};
 use crate::paper::{Owning, Paper};
 use scoop_handler::{Heard, Note};
 use scoop_journal::{Line, read, write};
 use scoop_journal_keeper::{JournaledKeeper, SharedJournaledKeeper, Storage};
 use scoop_keeper::{FailingKeeper, Keeper, MemoryKeeper};
-use scoop_lines::{decimal, is};
+use scoop_lines::is;
 use scoop_message::HandlerId;
 use scoop_record::read_image;
-use scoop_row_player::words::{first, last, number};
+use scoop_row_player::answers::tells;
+use scoop_row_player::words::{after_space, first, first_three, handler, long};
 use scoop_row_player::{Bad, Subject};
 use std::alloc::Global;
 use std::cell::RefCell;
@@ -49,13 +50,11 @@ impl<'a> Journals<'a> {
 
     fn begins(&mut self, line: &[u8], answer: &mut Vec<u8>) -> Result<(), Bad> {
         let alloc = *answer.allocator();
-        let (storage, line) = first(line)?;
-        let (calls, line) = first(line)?;
-        let (writes, line) = first(line)?;
-        let left = decimal(calls).ok_or(Bad::Number)?;
+        let (storage, calls, writes, line) = first_three(line)?;
+        let left = long(calls)?;
         let paper = Paper {
             text: self.text,
-            left: decimal(writes).ok_or(Bad::Number)?,
+            left: long(writes)?,
         };
         let handlers = Vec::from_slice(alloc, &[HandlerId(1)])?;
         let keeper = filled(alloc, line)?;
@@ -71,7 +70,7 @@ impl<'a> Journals<'a> {
             let keeper = FailingKeeper::new(keeper, left);
             self.alone = Some(JournaledKeeper::new(alloc, keeper, storage, paper, 1, handlers));
         }
-        says("ok", answer)
+        tells("ok", answer)
     }
 
     fn ends(&mut self, answer: &mut Vec<u8>) -> Result<(), Bad> {
@@ -81,15 +80,15 @@ impl<'a> Journals<'a> {
         if let Some(shared) = self.shared.take() {
             let _kept = shared.into_inner();
         }
-        says("ok", answer)
+        tells("ok", answer)
     }
 
-    fn tells(&mut self, name: &[u8], line: &[u8], answer: &mut Vec<u8>) -> Result<(), Bad> {
+    fn notes(&mut self, name: &[u8], line: &[u8], answer: &mut Vec<u8>) -> Result<(), Bad> {
         if let Some(alone) = &mut self.alone {
-            return tells(alone, name, line, answer);
+            return notes(alone, name, line, answer);
         }
         match &mut self.shared {
-            Some(shared) => tells(shared, name, line, answer),
+            Some(shared) => notes(shared, name, line, answer),
             None => Err(Bad::Command),
         }
     }
@@ -117,16 +116,11 @@ impl Subject for Journals<'_> {
             b"drop" => {
                 self.alone = None;
                 self.shared = None;
-                says("ok", answer)
+                tells("ok", answer)
             }
             b"text" => self.shows_text(answer),
-            _ => self.tells(name, line, answer),
+            _ => self.notes(name, line, answer),
         }
-    }
-
-    // The text is read by a command, which empties it.
-    fn shows(&self, _text: &mut Vec<u8>) -> Result<(), Bad> {
-        Ok(())
     }
 }
 
@@ -143,7 +137,7 @@ fn filled(alloc: Global, line: &[u8]) -> Result<MemoryKeeper, Bad> {
     }
 }
 
-fn tells<K: Keeper<Global>>(
+fn notes<K: Keeper<Global>>(
     keeper: &mut K,
     name: &[u8],
     line: &[u8],
@@ -151,11 +145,8 @@ fn tells<K: Keeper<Global>>(
 ) -> Result<(), Bad> {
     match name {
         b"hear" => hears(keeper, line, answer),
-        b"ran" => {
-            let handler = HandlerId(number(last(line)?)?);
-            done(keeper.note_finished(handler), answer)
-        }
-        _ => keeps(*answer.allocator(), keeper, name, line, answer),
+        b"ran" => done(keeper.note_finished(handler(line)?), answer),
+        _ => keeper_does(*answer.allocator(), keeper, name, line, answer),
     }
 }
 
@@ -179,18 +170,18 @@ fn hears<K: Keeper<Global>>(keeper: &mut K, line: &[u8], answer: &mut Vec<u8>) -
 
 // Reads a line of a journal, and writes it back. The text begins after one space.
 fn reads_line(line: &[u8], answer: &mut Vec<u8>) -> Result<(), Bad> {
-    let text = line.get(1..).unwrap_or(&[]);
+    let text = after_space(line);
     let read = match read(text) {
         Ok(read) => read,
-        Err(fault) => return says(fault, answer),
+        Err(fault) => return tells(fault, answer),
     };
     if !read.fits() {
-        return says("a line that doesn't fit", answer);
+        return tells("a line that doesn't fit", answer);
     }
     let mut out = Vec::new(*answer.allocator());
     write(&read, &mut out)?;
     if out.pop() == Some(b'\n') && out.as_slice() == text {
-        return says("ok", answer);
+        return tells("ok", answer);
     }
     answer.extend_from_slice(&out)?;
     Ok(())

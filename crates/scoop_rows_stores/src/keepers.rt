@@ -6,12 +6,12 @@
 //! - `fails CALLS` takes the keeper from under the one for tests, and lets a new one pass on this number of calls.
 
 use crate::bytes::{add_bytes, put_blobs, put_state, read_blobs};
-use crate::keeping::{keeps, says};
+use crate::keeping::keeper_does;
 use scoop_keeper::{FailingKeeper, MemoryKeeper};
-use scoop_lines::decimal;
 use scoop_message::HandlerId;
 use scoop_record::{read_image, read_image_with_entries};
-use scoop_row_player::words::{first, last, number};
+use scoop_row_player::answers::tells;
+use scoop_row_player::words::{first, last, long, number};
 use scoop_row_player::{Bad, Heap, Subject};
 use std::mem;
 
@@ -34,7 +34,7 @@ impl<'a> Keepers<'a> {
         let blank = FailingKeeper::new(MemoryKeeper::new(self.heap), 0);
         let keeper = mem::replace(&mut self.keeper, blank).into_inner();
         self.keeper = FailingKeeper::new(keeper, calls);
-        says("ok", answer)
+        tells("ok", answer)
     }
 }
 
@@ -44,14 +44,9 @@ impl Subject for Keepers<'_> {
         match name {
             b"image" => reads(self.heap, line, answer),
             b"old" => reads_old(self.heap, line, answer),
-            b"fails" => self.limit(decimal(last(line)?).ok_or(Bad::Number)?, answer),
-            _ => keeps(self.heap, &mut self.keeper, name, line, answer),
+            b"fails" => self.limit(long(last(line)?)?, answer),
+            _ => keeper_does(self.heap, &mut self.keeper, name, line, answer),
         }
-    }
-
-    // What a keeper has is read by its calls alone.
-    fn shows(&self, _text: &mut Vec<u8>) -> Result<(), Bad> {
-        Ok(())
     }
 }
 
@@ -61,11 +56,11 @@ fn reads(heap: Heap<'_>, line: &[u8], answer: &mut Vec<u8>) -> Result<(), Bad> {
     let (mut read, mut written) = (Vec::new(alloc), Vec::new(alloc));
     match read_image(heap, blobs.handler, &blobs.image, &blobs.pending) {
         Ok(state) => put_state(heap, &state, &mut written)?,
-        Err(error) => return says(error, answer),
+        Err(error) => return tells(error, answer),
     }
     put_blobs(&blobs.image, &blobs.pending, &mut read)?;
     if read.as_slice() == written.as_slice() {
-        return says("ok", answer);
+        return tells("ok", answer);
     }
     answer.extend_from_slice(&written)?;
     Ok(())
@@ -77,6 +72,6 @@ fn reads_old(heap: Heap<'_>, line: &[u8], answer: &mut Vec<u8>) -> Result<(), Ba
     add_bytes(line, &mut bytes)?;
     match read_image_with_entries(heap, HandlerId(number(handler)?), &bytes) {
         Ok(state) => put_state(heap, &state, answer),
-        Err(error) => says(error, answer),
+        Err(error) => tells(error, answer),
     }
 }

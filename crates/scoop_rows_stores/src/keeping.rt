@@ -12,13 +12,12 @@ use scoop_keeper::{Keeper, KeeperError};
 use scoop_message::{ClientId, HandlerId};
 use scoop_record::read_image;
 use scoop_row_player::Bad;
-use scoop_row_player::words::{last, number};
+use scoop_row_player::answers::{tells, told};
+use scoop_row_player::words::{handler, last, number};
 use std::alloc::Allocator;
-use std::fmt::Display;
-use std::io::Write;
 
 /// Gives a command to a keeper.
-pub fn keeps<A: Allocator + Copy, K: Keeper<A>>(
+pub fn keeper_does<A: Allocator + Copy, K: Keeper<A>>(
     alloc: A,
     keeper: &mut K,
     name: &[u8],
@@ -27,11 +26,11 @@ pub fn keeps<A: Allocator + Copy, K: Keeper<A>>(
 ) -> Result<(), Bad> {
     match name {
         b"next" => match keeper.next_incarnation(ClientId(number(last(line)?)?)) {
-            Ok(inc) => says(inc, answer),
+            Ok(inc) => tells(inc, answer),
             Err(error) => done(Err(error), answer),
         },
         b"put" => puts(alloc, keeper, line, answer),
-        b"load" => loads(alloc, keeper, HandlerId(number(last(line)?)?), answer),
+        b"load" => loads(alloc, keeper, handler(line)?, answer),
         b"commit" => done(keeper.commit(), answer),
         _ => Err(Bad::Command),
     }
@@ -46,7 +45,7 @@ fn puts<A: Allocator + Copy, K: Keeper<A>>(
     let blobs = read_blobs(*answer.allocator(), line)?;
     match read_image(alloc, blobs.handler, &blobs.image, &blobs.pending) {
         Ok(state) => done(keeper.put_handler(&state), answer),
-        Err(error) => says(error, answer),
+        Err(error) => tells(error, answer),
     }
 }
 
@@ -58,22 +57,15 @@ fn loads<A: Allocator + Copy, K: Keeper<A>>(
 ) -> Result<(), Bad> {
     match keeper.load_handler(handler) {
         Ok(Some(state)) => put_state(alloc, &state, answer),
-        Ok(None) => says("none", answer),
+        Ok(None) => tells("none", answer),
         Err(error) => done(Err(error), answer),
     }
-}
-
-/// Adds a printed value.
-pub fn says<T: Display + Drop>(value: T, answer: &mut Vec<u8>) -> Result<(), Bad> {
-    write!(answer, "{value}")?;
-    Ok(())
 }
 
 /// Adds `ok`, or the refusal.
 pub fn done(value: Result<(), KeeperError>, answer: &mut Vec<u8>) -> Result<(), Bad> {
     match value {
-        Ok(()) => says("ok", answer),
-        Err(KeeperError::OutOfMemory) => says("out of memory", answer),
-        Err(error) => says(error, answer),
+        Err(KeeperError::OutOfMemory) => tells("out of memory", answer),
+        value => told(value, answer),
     }
 }

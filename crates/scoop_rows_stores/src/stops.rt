@@ -9,9 +9,9 @@
 //!   them without unsynced bytes. The answer is each state that was found, once, the one before any stop first. The parts
 //!   are `log`, and `checkpoint` and `file`: the log and the database file where a transaction begins with a checkpoint.
 
-use crate::keeping::says;
 use crate::stores::Stores;
 use scoop_lines::is;
+use scoop_row_player::answers::tells;
 use scoop_row_player::words::first;
 use scoop_row_player::{Bad, Subject};
 use sqlite::{Alter, Connection, Files, Options};
@@ -95,12 +95,7 @@ impl Subject for Stops {
             b"stop" => return self.stops(line, answer),
             _ => return Err(Bad::Command),
         }
-        says("ok", answer)
-    }
-
-    // The files are made anew for each stop.
-    fn shows(&self, _text: &mut Vec<u8>) -> Result<(), Bad> {
-        Ok(())
+        tells("ok", answer)
     }
 }
 

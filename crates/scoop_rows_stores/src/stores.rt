@@ -12,14 +12,14 @@
 
 use crate::bytes::put_bytes;
 use crate::cells::answers;
-use crate::keeping::{done, keeps, says};
+use crate::keeping::{done, keeper_does};
 use scoop_lines::is;
 use scoop_record::{GatheringStore, Store, adopt_tables, create_tables};
-use scoop_row_player::words::first;
+use scoop_row_player::answers::tells;
+use scoop_row_player::words::{first, text_of};
 use scoop_row_player::{Bad, Subject};
 use sqlite::{Alter, Connection, Row};
 use sqlite_value::value::ValueRef;
-use std::str;
 
 /// A database: its connection, the store on it, or the keeper that gathers over that. One of them is there, until a
 /// refusal drops the connection.
@@ -70,7 +70,7 @@ impl<S: Alter + Drop> Stores<S> {
         match opened {
             Ok(store) => {
                 self.store = Some(store);
-                says("ok", answer)
+                tells("ok", answer)
             }
             Err(error) => done(Err(error), answer),
         }
@@ -80,7 +80,7 @@ impl<S: Alter + Drop> Stores<S> {
         match self.store.take() {
             Some(store) => {
                 self.gathering = Some(GatheringStore::new(*answer.allocator(), store));
-                says("ok", answer)
+                tells("ok", answer)
             }
             None => Err(Bad::Command),
         }
@@ -90,10 +90,10 @@ impl<S: Alter + Drop> Stores<S> {
     fn gives(&mut self, name: &[u8], line: &[u8], answer: &mut Vec<u8>) -> Result<(), Bad> {
         let alloc = *answer.allocator();
         if let Some(gathering) = &mut self.gathering {
-            return keeps(alloc, gathering, name, line, answer);
+            return keeper_does(alloc, gathering, name, line, answer);
         }
         if let Some(store) = &mut self.store {
-            return keeps(alloc, store, name, line, answer);
+            return keeper_does(alloc, store, name, line, answer);
         }
         match &mut self.connection {
             Some(connection) => queries(connection, name, line, answer),
@@ -110,16 +110,11 @@ impl<S: Alter + Drop> Subject for Stores<S> {
             b"gather" => self.gathers(answer),
             b"leave" => {
                 self.leave();
-                says("ok", answer)
+                tells("ok", answer)
             }
             b"answer" => answers(&mut self.store, line, answer),
             _ => self.gives(name, line, answer),
         }
-    }
-
-    // What a database has is read by its calls alone.
-    fn shows(&self, _text: &mut Vec<u8>) -> Result<(), Bad> {
-        Ok(())
     }
 }
 
@@ -129,19 +124,17 @@ fn queries<S: Alter>(
     line: &[u8],
     answer: &mut Vec<u8>,
 ) -> Result<(), Bad> {
-    let Ok(text) = str::from_utf8(line) else {
-        return Err(Bad::Words);
-    };
+    let text = text_of(line)?;
     match name {
         b"make" => done(create_tables(connection), answer),
         b"take" => done(adopt_tables(*answer.allocator(), connection), answer),
         b"run" => match connection.execute(text, &[]) {
-            Ok(_) => says("ok", answer),
-            Err(_) => says("refused", answer),
+            Ok(_) => tells("ok", answer),
+            Err(_) => tells("refused", answer),
         },
         b"find" => match connection.query_all(text, &[]) {
             Ok(rows) => put_rows(&rows, answer),
-            Err(_) => says("refused", answer),
+            Err(_) => tells("refused", answer),
         },
         _ => Err(Bad::Command),
     }
@@ -167,7 +160,7 @@ fn put_rows(rows: &[Row], answer: &mut Vec<u8>) -> Result<(), Bad> {
 
 fn put_value(value: ValueRef<'_>, answer: &mut Vec<u8>) -> Result<(), Bad> {
     match value {
-        ValueRef::Int(number) => says(number, answer),
+        ValueRef::Int(number) => tells(number, answer),
         ValueRef::Blob(bytes) => put_bytes(bytes, answer),
         ValueRef::Text(text) => {
             answer.extend_from_slice(text)?;

@@ -8,11 +8,10 @@ mod programs;
 mod sessions;
 mod shown;
 mod systems;
-mod text;
 mod text_lines;
 mod watches;
 
-use scoop_row_player::{Areas, Bad, Case, Heap, Sheet, play_rows};
+use scoop_row_player::{Areas, Bad, Play, Sheet};
 use scoop_watch::{LogLevel, Settings, Watch};
 use std::sync::Wait;
 use std::time::Clock;
@@ -30,7 +29,7 @@ impl<'a, R: Wait + Clock> SystemAreas<'a, R> {
         SystemAreas { rt }
     }
 
-    fn play_watches(&self, case: Case<'_>, heap: Heap<'_>, sheet: &mut Sheet) -> Result<(), Bad> {
+    fn play_watches(&self, play: Play<'_>, sheet: &mut Sheet) -> Result<bool, Bad> {
         let alloc = sheet.alloc();
         let settings = Settings {
             log: LogLevel::Debug,
@@ -38,30 +37,23 @@ impl<'a, R: Wait + Clock> SystemAreas<'a, R> {
         };
         let watch = Watch::new(alloc, settings);
         match Watches::new(alloc, self.rt, &watch) {
-            Ok(mut watches) => play_rows(case, heap, &mut watches, sheet),
+            Ok(mut watches) => play.over(&mut watches, sheet),
             Err(bad) => Err(bad),
         }
     }
 }
 
 impl<R: Wait + Clock> Areas for SystemAreas<'_, R> {
-    fn play(
-        &self,
-        area: &str,
-        case: Case<'_>,
-        heap: Heap<'_>,
-        sheet: &mut Sheet,
-    ) -> Result<bool, Bad> {
-        match area {
-            "systems" => play_systems(case, heap, sheet)?,
-            "watches" => self.play_watches(case, heap, sheet)?,
-            _ => return Ok(false),
+    fn play(&self, play: Play<'_>, sheet: &mut Sheet) -> Result<bool, Bad> {
+        match play.area {
+            "systems" => play_systems(play, sheet),
+            "watches" => self.play_watches(play, sheet),
+            _ => Ok(false),
         }
-        Ok(true)
     }
 }
 
-fn play_systems(case: Case<'_>, heap: Heap<'_>, sheet: &mut Sheet) -> Result<(), Bad> {
+fn play_systems(play: Play<'_>, sheet: &mut Sheet) -> Result<bool, Bad> {
     let mut systems = Systems::new(sheet.alloc());
-    play_rows(case, heap, &mut systems, sheet)
+    play.over(&mut systems, sheet)
 }

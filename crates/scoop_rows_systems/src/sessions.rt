@@ -12,19 +12,19 @@
 //!   answer whether the notes or the journal have these words, and `writes` how many writes the journal took.
 
 use crate::programs::Asker;
-use crate::text::{has, read_text, tells, without_last};
 use crate::text_lines::TextLines;
 use scoop_demo::read_message;
 use scoop_driver::NoPause;
 use scoop_frame::encode;
 use scoop_journal::Journal;
 use scoop_keeper::MemoryKeeper;
-use scoop_lines::{decimal, is};
+use scoop_lines::is;
 use scoop_link::{Datagram, TapeLink};
 use scoop_message::limits::BUFFER_LEN;
 use scoop_message::{ClientId, HandlerId};
 use scoop_row_player::Bad;
-use scoop_row_player::words::{first, last, number};
+use scoop_row_player::answers::{has, tells, without_last};
+use scoop_row_player::words::{after_space, first_three, last, long, number, read_text};
 use scoop_runtime::{
     Caller, ClientPlan, ClientProgram, Progress, RuntimeError, client_cut, client_run, program_run,
 };
@@ -124,7 +124,7 @@ impl Sessions {
         line: &[u8],
         answer: &mut Vec<u8>,
     ) -> Result<(), Bad> {
-        let words = after_plan(line)?;
+        let (_, _, _, words) = first_three(line)?;
         match plan_of(system, line) {
             Ok(plan) => match name {
                 b"client" => self.runs(&plan, words, answer),
@@ -278,8 +278,7 @@ fn tape_of(alloc: Global, heard: &[Datagram]) -> Result<TapeLink, Bad> {
 
 // The frame of a message.
 fn datagram_of(alloc: Global, line: &[u8]) -> Result<Datagram, Bad> {
-    let line = line.strip_prefix(b" ").unwrap_or(line);
-    let Ok((version, message)) = read_message(alloc, line) else {
+    let Ok((version, message)) = read_message(alloc, after_space(line)) else {
         return Err(Bad::Words);
     };
     let mut buffer = [0; BUFFER_LEN];
@@ -289,11 +288,9 @@ fn datagram_of(alloc: Global, line: &[u8]) -> Result<Datagram, Bad> {
 
 // The plan of a client, from its number, its turns and its kind.
 fn plan_of<'s>(system: &'s System, line: &[u8]) -> Result<ClientPlan<'s>, Bad> {
-    let (client, line) = first(line)?;
-    let (turns, line) = first(line)?;
-    let (kind, _) = first(line)?;
+    let (client, turns, kind, _) = first_three(line)?;
     let place = *system.client(ClientId(number(client)?)).ok_or(Bad::Number)?;
-    let turns = decimal(turns).ok_or(Bad::Number)?;
+    let turns = long(turns)?;
     let plan = match kind {
         b"strict" => ClientPlan::new_strict(system, place, turns, false),
         b"typed" => ClientPlan::new(system, place, turns, true),
@@ -303,12 +300,4 @@ fn plan_of<'s>(system: &'s System, line: &[u8]) -> Result<ClientPlan<'s>, Bad> {
         Ok(plan) => Ok(plan),
         Err(_) => Err(Bad::Number),
     }
-}
-
-// What follows these words.
-fn after_plan(line: &[u8]) -> Result<&[u8], Bad> {
-    let (_, line) = first(line)?;
-    let (_, line) = first(line)?;
-    let (_, line) = first(line)?;
-    Ok(line)
 }

@@ -6,13 +6,13 @@
 //! - `flood N M T LAST` has the handler hear a stale greeting, N times M of them, each M with the log written at T
 //!   milliseconds; then one more, with the log written at LAST. It answers the log's lines.
 
-use crate::text::{has, numbers, without_last};
 use crate::watches::Watches;
 use jiff::Timestamp;
 use scoop_handler::{Heard, Note, Reason};
 use scoop_message::{ClientId, Message};
 use scoop_row_player::Bad;
-use scoop_row_player::words::first;
+use scoop_row_player::answers::{has, without_last};
+use scoop_row_player::words::{first, numbers};
 use scoop_status::{About, Log, NodeView, gather, print_metrics, print_page};
 use scoop_status_server::print_json;
 use scoop_watch::LogLevel;

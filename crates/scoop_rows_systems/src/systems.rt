@@ -9,10 +9,10 @@
 //! [`crate::sessions`] has the other commands.
 
 use crate::sessions::Sessions;
-use crate::text::{numbers, read_text, tells, without_last};
 use crate::text_lines::TextLines;
-use scoop_message::ClientId;
-use scoop_row_player::words::{first, number};
+use scoop_message::{ClientId, HandlerId, Request};
+use scoop_row_player::answers::{add_line, keeps, tells, told, without_last};
+use scoop_row_player::words::{first, number, numbers, read_text, text_of};
 use scoop_row_player::{Bad, Subject};
 use scoop_runtime::{Serving, check_script};
 use scoop_system::{ClientLine, LineFaultIn, System, print_system, read_line};
@@ -39,23 +39,16 @@ impl Systems {
 
     fn adds(&mut self, line: &[u8]) -> Result<(), Bad> {
         let text = read_text(*self.text.allocator(), line)?;
-        self.text.extend_from_slice(text.as_slice())?;
-        self.text.push(b'\n')?;
-        Ok(())
+        add_line(text.as_slice(), &mut self.text)
     }
 
     fn reads(&mut self, answer: &mut Vec<u8>) -> Result<(), Bad> {
-        let text = str::from_utf8(self.text.as_slice()).map_err(|_| Bad::Words)?;
-        match System::read(*answer.allocator(), text) {
-            Ok(read) => {
-                self.system = Some(read);
-                tells("ok", answer)
-            }
-            Err(error) => {
-                write!(answer, "{error}")?;
-                Ok(())
-            }
-        }
+        let text = text_of(self.text.as_slice())?;
+        keeps(
+            &mut self.system,
+            System::read(*answer.allocator(), text),
+            answer,
+        )
     }
 }
 
@@ -82,10 +75,6 @@ impl Subject for Systems {
             _ => self.sessions.does(name, line, answer),
         }
     }
-
-    fn shows(&self, _text: &mut Vec<u8>) -> Result<(), Bad> {
-        Ok(())
-    }
 }
 
 // Takes the settings of a node.
@@ -97,10 +86,7 @@ fn serves(line: &[u8], answer: &mut Vec<u8>) -> Result<(), Bad> {
     let Ok(executors) = u32::try_from(*executors) else {
         return Err(Bad::Number);
     };
-    match Serving::new(executors, *history as usize, *turns) {
-        Ok(_) => tells("ok", answer),
-        Err(range) => tells(range, answer),
-    }
+    told(Serving::new(executors, *history as usize, *turns), answer)
 }
 
 // The commands about a system that was read.
@@ -153,28 +139,24 @@ fn put_line<W: Write>(line: &ClientLine, out: &mut W) -> io::Result<()> {
             }
             Ok(())
         }
-        ClientLine::Call(handler, request) => {
-            write!(
-                out,
-                "Call {handler} {} {:?}",
-                request.op,
-                request.args.as_slice()
-            )
-        }
-        ClientLine::Query(handler, request) => {
-            write!(
-                out,
-                "Query {handler} {} {:?}",
-                request.op,
-                request.args.as_slice()
-            )
-        }
+        ClientLine::Call(handler, request) => put_request("Call", *handler, request, out),
+        ClientLine::Query(handler, request) => put_request("Query", *handler, request, out),
         ClientLine::Blank => out.write_all(b"Blank"),
         ClientLine::End => out.write_all(b"End"),
         ClientLine::GiveUp => out.write_all(b"GiveUp"),
         ClientLine::Help => out.write_all(b"Help"),
         ClientLine::Quit => out.write_all(b"Quit"),
     }
+}
+
+fn put_request<W: Write>(
+    kind: &str,
+    handler: HandlerId,
+    request: &Request,
+    out: &mut W,
+) -> io::Result<()> {
+    let args = request.args.as_slice();
+    write!(out, "{kind} {handler} {} {args:?}", request.op)
 }
 
 fn checks(system: &System, line: &[u8], answer: &mut Vec<u8>) -> Result<(), Bad> {

@@ -11,7 +11,6 @@
 //!
 //! [`crate::shown`] has the commands that show it.
 
-use crate::text::{numbers, read_text, tells, told};
 use scoop_node_link::Strangers;
 use scoop_demo::read_message;
 use scoop_handler::{Handler, Heard, Note};
@@ -21,7 +20,8 @@ use scoop_link::{Link, Party, TapeLink};
 use scoop_message::limits::BUFFER_LEN;
 use scoop_message::{ClientId, HandlerId, Message};
 use scoop_object::{Class, Table};
-use scoop_row_player::words::{first, last, number};
+use scoop_row_player::answers::{tells, told};
+use scoop_row_player::words::{after_space, first, handler, number, numbers, read_text};
 use scoop_row_player::{Bad, Subject};
 use scoop_seal::{Key, SealedLink};
 use scoop_system::System;
@@ -79,17 +79,13 @@ impl<R: Wait + Clock> Subject for Watches<'_, R> {
             b"run" => self.runs(answer),
             b"put" => told(self.keeper.put_handler(self.handler.state()), answer),
             b"refuse" => self.refuses(answer),
-            b"load" => self.loads(HandlerId(number(last(line)?)?), answer),
-            b"shown" => self.compares(HandlerId(number(last(line)?)?), answer),
+            b"load" => self.loads(handler(line)?, answer),
+            b"shown" => self.compares(handler(line)?, answer),
             b"stranger" => self.meets(line, answer),
             b"link" => passes(self.watch, line, answer),
             b"says" => self.outputs(line, answer),
             _ => self.shows_node(name, line, answer),
         }
-    }
-
-    fn shows(&self, _text: &mut Vec<u8>) -> Result<(), Bad> {
-        Ok(())
     }
 }
 
@@ -120,8 +116,7 @@ impl<'a, R: Wait + Clock> Watches<'a, R> {
 
     // Gives the handler a message, and adds the note. Or notes it as a greeting of another handler.
     fn hears(&mut self, name: &[u8], line: &[u8], answer: &mut Vec<u8>) -> Result<(), Bad> {
-        let line = line.strip_prefix(b" ").unwrap_or(line);
-        let Ok((_, message)) = read_message(*answer.allocator(), line) else {
+        let Ok((_, message)) = read_message(*answer.allocator(), after_space(line)) else {
             return Err(Bad::Words);
         };
         if is(name, "greeted") {
@@ -180,7 +175,7 @@ impl<'a, R: Wait + Clock> Watches<'a, R> {
 
     fn meets(&self, line: &[u8], answer: &mut Vec<u8>) -> Result<(), Bad> {
         let (client, line) = first(line)?;
-        let handler = HandlerId(number(last(line)?)?);
+        let handler = handler(line)?;
         WatchedStrangers::new(self.rt, self.watch).meet(ClientId(number(client)?), handler);
         tells("ok", answer)
     }

@@ -430,7 +430,14 @@ where
         Ok(client) => client,
         Err(error) => return unbegun_after(error),
     };
-    let (ended, remains) = run_life(setting, client, link, &mut record.journal, console, progress);
+    let (ended, remains) = run_life(
+        setting,
+        client,
+        link,
+        &mut record.journal,
+        console,
+        progress,
+    );
     let unended = cut_left(
         setting,
         &mut record.store,

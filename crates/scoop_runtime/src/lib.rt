@@ -48,7 +48,7 @@ pub use client_parts::{ClientRecord, Console};
 pub use cutting::client_cut;
 pub use ending::Ending;
 pub use links::{open_client_link, open_node_link};
-pub use node::{node_run, node_run_until};
+pub use node::{Around, node_run};
 pub use objects::{Native, Objects, Tables};
 pub use plan::{ClientPlan, NodePlan, Serving};
 pub use program::{ClientProgram, ProgramEnd, ProgramRun, program_run};

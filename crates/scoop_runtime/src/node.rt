@@ -6,7 +6,7 @@ ghost use Rattle.scoop_runtime.specs.NodeLives.{GoesFurther, GoesOn, NodeRan};
 use crate::ending::Ending;
 use crate::objects::Objects;
 use crate::pending::{Resting, open_node, run_all, run_first};
-use crate::plan::{NodePlan, Serving};
+use crate::plan::NodePlan;
 use scoop_errors::PartyError;
 use scoop_keeper::Keeper;
 use scoop_link::Link;
@@ -28,27 +28,36 @@ fn uncommitted(end: ServeEnd) -> ServeEnd {
     }
 }
 
+/// What stands around a node while it runs.
+#[derive(Drop)]
+pub struct Around<'a, W: Write> {
+    /// Where its lines go.
+    pub lines: &'a mut W,
+    /// How another thread asks it to end.
+    pub ending: &'a Ending,
+}
+
 // Serves the node until its history is full, its turns are over, it is asked to end or it fails, commits what is left, and closes it.
 // Returns why it ended, and the keeper.
-fn serve_once<O, K, L, R>(
+fn serve_once<O, K, L, E, R>(
     rt: &R,
     alloc: Global,
     plan: &NodePlan<O>,
-    serving: &Serving,
     resting: Resting<O::Object, K>,
-    link: &mut L,
-    turns: u64,
+    link: &mut PatientLink<L, E>,
     ending: &Ending,
 ) -> Result<(ServeEnd, Resting<O::Object, K>), RuntimeError>
 where
     O: Objects,
     K: Keeper<Global> + Send,
     L: Link,
+    E: Write + Drop,
     R: Threads + Wait + Clock + Sync,
     ensures { IfOk result (λ r. GoesFurther K.handlers K.is_honest resting.stood resting.keeper r.1.stood r.1.keeper) }
 {
-    let (node, passes) = open_node(alloc, plan, serving, resting)?;
+    let (node, passes) = open_node(alloc, plan, resting)?;
     let stop = ending.next_stop();
+    let turns = plan.serving.turns().saturating_sub(link.receives());
     let (end, passes) = serve(rt, alloc, &node, link, passes, &OpenGate, stop, turns);
     let end = if node.commit(rt).is_ok() {
         end
@@ -86,17 +95,14 @@ fn reopen<O: Objects, K: Keeper<Global>, W: Write, R: Wait>(
     Ok(resting)
 }
 
-// Serves the node, opening by opening, until its turns are over or it is asked to end. Borrows the link, so that no early return has to drop
-// it.
+// Serves the node, opening by opening, until its turns are over or it is asked to end.
 fn serve_on<O, K, L, E, W, R>(
     rt: &R,
     alloc: Global,
     plan: &NodePlan<O>,
-    serving: &Serving,
     mut resting: Resting<O::Object, K>,
     link: &mut PatientLink<L, E>,
-    writer: &mut W,
-    ending: &Ending,
+    around: &mut Around<'_, W>,
 ) -> Result<Resting<O::Object, K>, RuntimeError>
 where
     O: Objects,
@@ -108,10 +114,9 @@ where
     ensures { IfOk result (λ r. GoesFurther K.handlers K.is_honest resting.stood resting.keeper r.stood r.keeper) }
 {
     for _ in rt.forever() {
-        let turns = serving.turns().saturating_sub(link.receives());
-        let (end, kept) = serve_once(rt, alloc, plan, serving, resting, link, turns, ending)?;
+        let (end, kept) = serve_once(rt, alloc, plan, resting, link, around.ending)?;
         match end {
-            ServeEnd::HistoryFull => resting = reopen(rt, alloc, plan, kept, writer)?,
+            ServeEnd::HistoryFull => resting = reopen(rt, alloc, plan, kept, around.lines)?,
             ServeEnd::TurnsOver | ServeEnd::Stopped => return Ok(kept),
             end => return Err(RuntimeError::from(end)),
         }
@@ -121,13 +126,13 @@ where
 
 /// Serves a node over a keeper of its handlers' states, and over a link:
 /// 1. It stores each handler that has no record; a node that resumes refuses it instead. Then it runs what is pending.
-/// 2. It serves until its turns are over. When its history is full, it closes the node, which compares each pass with
-///    the history, and opens it again over the same keeper and link. A client sees this as a restart of the node: it
-///    loses no answer if it repeats.
+/// 2. It serves until its turns are over or another thread asks it to end. When its history is full, it closes the node, which
+///    compares each pass with the history, and opens it again over the same keeper and link. A client sees this as a restart of
+///    the node: it loses no answer if it repeats.
 /// 3. It closes the node and returns the keeper.
 ///
-/// It writes a line when it is ready, one at each reopening, and one at its end. A failed call of the link is written to
-/// `notes`; only the thousandth in a row ends the node.
+/// It writes a line when it is ready, one at each reopening, and one at its end. The link notes its failed calls; only the
+/// thousandth in a row ends the node.
 ///
 /// Refused, without the keeper:
 /// - `store: NoHandler` if a node that resumes has no record of a handler;
@@ -140,11 +145,9 @@ pub fn node_run<O, K, L, E, W, R>(
     rt: &R,
     alloc: Global,
     plan: &NodePlan<O>,
-    serving: &Serving,
     keeper: K,
-    link: L,
-    notes: E,
-    writer: &mut W,
+    link: &mut PatientLink<L, E>,
+    around: &mut Around<'_, W>,
 ) -> Result<K, RuntimeError>
 where
     O: Objects,
@@ -155,39 +158,11 @@ where
     R: Threads + Wait + Clock + Sync,
     ensures { IfOk result (NodeRan K.handlers K.is_honest plan.now.members.items keeper) }
 {
-    let ending = Ending::new();
-    node_run_until(
-        rt, alloc, plan, serving, keeper, link, notes, writer, &ending,
-    )
-}
-
-/// The same for a node that another thread may ask to end: then it serves no further, and closes.
-pub fn node_run_until<O, K, L, E, W, R>(
-    rt: &R,
-    alloc: Global,
-    plan: &NodePlan<O>,
-    serving: &Serving,
-    keeper: K,
-    link: L,
-    notes: E,
-    writer: &mut W,
-    ending: &Ending,
-) -> Result<K, RuntimeError>
-where
-    O: Objects,
-    K: Keeper<Global> + Send,
-    L: Link,
-    E: Write + Drop,
-    W: Write,
-    R: Threads + Wait + Clock + Sync,
-    ensures { IfOk result (NodeRan K.handlers K.is_honest plan.now.members.items keeper) }
-{
-    let mut link = PatientLink::new(link, "node", notes);
-    let resting = run_first(rt, alloc, plan, serving, keeper)?;
-    let written = print_ready(&plan.place, &plan.numbers, writer);
-    told(written, writer)?;
-    let resting = serve_on(rt, alloc, plan, serving, resting, &mut link, writer, ending)?;
-    let written = print_closed(plan.place.number, writer);
-    told(written, writer)?;
+    let resting = run_first(rt, alloc, plan, keeper)?;
+    let written = print_ready(&plan.place, &plan.numbers, around.lines);
+    told(written, around.lines)?;
+    let resting = serve_on(rt, alloc, plan, resting, link, around)?;
+    let written = print_closed(plan.place.number, around.lines);
+    told(written, around.lines)?;
     Ok(resting.keeper)
 }

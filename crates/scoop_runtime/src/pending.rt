@@ -5,7 +5,7 @@ ghost use Rattle.scoop_runtime.specs.NodeLives.{GainedAt, GoesOn, IsKept, Opened
 
 use crate::objects::Objects;
 use crate::openings::{require_handlers, store_openings};
-use crate::plan::{NodePlan, Serving};
+use crate::plan::NodePlan;
 use scoop_book::{Book, BookError, Node, OpenError, Pass, ReopenError, Standing};
 use scoop_client::BeginError;
 use scoop_errors::PartyError;
@@ -168,13 +168,12 @@ pub(crate) fn run_all<O: Objects, K: Keeper<Global>, R: Wait>(
 fn prepare<O: Objects, K: Keeper<Global>>(
     alloc: Global,
     plan: &NodePlan<O>,
-    serving: &Serving,
     keeper: &mut K,
 ) -> Result<(), RuntimeError>
     ensures gained { K.is_honest keeper.new → OnOk result ((h : ℕ) → GainedAt (K.handlers keeper.old) (K.handlers keeper.new) plan.now.members.items h) }
     ensures honest { K.is_honest keeper.new → K.is_honest keeper.old }
 {
-    if serving.goes_on() {
+    if plan.serving.goes_on() {
         require_handlers(plan, keeper)
     } else {
         store_openings(alloc, plan, keeper)
@@ -186,13 +185,12 @@ pub(crate) fn run_first<O: Objects, K: Keeper<Global>, R: Wait>(
     rt: &R,
     alloc: Global,
     plan: &NodePlan<O>,
-    serving: &Serving,
     mut keeper: K,
 ) -> Result<Resting<O::Object, K>, RuntimeError>
     ensures ran { IfOk result (λ r. RanTo K.handlers K.is_honest plan.now.members.items keeper r.keeper r.stood) }
     ensures kept { IfOk result (λ r. IsKept K.handlers K.is_honest r.stood r.keeper) }
 {
-    prepare(alloc, plan, serving, &mut keeper)?;
+    prepare(alloc, plan, &mut keeper)?;
     let (resting, left) = run_opened(alloc, plan, keeper)?;
     run_left(rt, alloc, plan, resting, left)
 }
@@ -201,7 +199,6 @@ pub(crate) fn run_first<O: Objects, K: Keeper<Global>, R: Wait>(
 pub(crate) fn open_node<O: Objects, K: Keeper<Global>>(
     alloc: Global,
     plan: &NodePlan<O>,
-    serving: &Serving,
     resting: Resting<O::Object, K>,
 ) -> Result<(Node<O::Object, K>, Vec<Pass>), RuntimeError>
     ensures enough { IfOk result (λ opened. 2 ≤ vec_len opened.1) }
@@ -209,8 +206,8 @@ pub(crate) fn open_node<O: Objects, K: Keeper<Global>>(
 {
     let handlers = plan.handed(alloc)?;
     let Resting { keeper, stood } = resting;
-    let passes = serving.passes();
-    match Node::reopen_limited(alloc, handlers, keeper, passes, serving.history(), &stood) {
+    let (passes, history) = (plan.serving.passes(), plan.serving.history());
+    match Node::reopen_limited(alloc, handlers, keeper, passes, history, &stood) {
         Ok(opened) => Ok(opened),
         Err(error) => Err(not_reopened(error)),
     }

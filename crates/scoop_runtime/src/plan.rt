@@ -133,10 +133,11 @@ impl Member {
     }
 }
 
-/// A node of a system, and what makes its objects.
+/// A node of a system, with its settings and what makes its objects.
 #[derive(Drop)]
 pub struct NodePlan<O: Objects = Tables> {
     pub(crate) place: NodePlace,
+    pub(crate) serving: Serving,
     pub(crate) members: Vec<Member>,
     pub(crate) numbers: Vec<HandlerId>,
     pub(crate) objects: O,
@@ -183,15 +184,21 @@ fn numbers_of(alloc: Global, members: &[Member]) -> Result<Vec<HandlerId>, OutOf
 }
 
 impl NodePlan {
-    /// The node with its handlers, in the order of the file, each with its class and words. Its objects interpret their
-    /// classes.
-    pub fn of(alloc: Global, system: &System, place: &NodePlace) -> Result<NodePlan, RuntimeError>
+    /// The node with its handlers, in the order of the file, each with its class and words, and these settings. Its objects
+    /// interpret their classes.
+    pub fn of(
+        alloc: Global,
+        system: &System,
+        place: &NodePlace,
+        serving: Serving,
+    ) -> Result<NodePlan, RuntimeError>
         ensures { IfOk result (IsPlanOf system.now place.now) }
     {
         let members = members_on(alloc, system, place.number)?;
         let numbers = numbers_of(alloc, &members)?;
         Ok(NodePlan {
             place: *place,
+            serving,
             members,
             numbers,
             objects: Tables,
@@ -202,16 +209,18 @@ impl NodePlan {
 impl<O: Objects> NodePlan<O> {
     /// The same node, whose objects these make.
     pub fn with<P: Objects>(self, objects: P) -> NodePlan<P>
-        ensures { (result.place ≡ self.place) × (result.members ≡ self.members) × (result.numbers ≡ self.numbers) × (result.objects ≡ objects) }
+        ensures { (result.place ≡ self.place) × (result.serving ≡ self.serving) × (result.members ≡ self.members) × (result.numbers ≡ self.numbers) × (result.objects ≡ objects) }
     {
         let NodePlan {
             place,
+            serving,
             members,
             numbers,
             ..
         } = self;
         NodePlan {
             place,
+            serving,
             members,
             numbers,
             objects,

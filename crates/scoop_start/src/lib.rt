@@ -31,10 +31,11 @@ mod arguments;
 
 pub use arguments::{report_command_line, report_memory, words};
 use clap::ArgMatches;
+use scoop_client_command::run_own_client;
 use scoop_command_line::{client_options, node_options, parse_client, parse_node};
+use scoop_node_command::serve_node;
 use scoop_report::Status;
 use scoop_runtime::{ClientProgram, Objects};
-use scoop_system_commands::{run_own_client, serve_own_node};
 use std::net::Net;
 use std::process::ExitCode;
 use std::sync::Wait;
@@ -46,7 +47,7 @@ use std::time::Clock;
 pub fn start_node<T: Threads + Wait + Clock + Net + Sync, O: Objects + Sync>(
     rt: &HostRuntime,
     threads: &T,
-    objects: &O,
+    objects: O,
 ) -> ExitCode {
     code(node(rt, threads, objects))
 }
@@ -54,7 +55,7 @@ pub fn start_node<T: Threads + Wait + Clock + Net + Sync, O: Objects + Sync>(
 fn node<T: Threads + Wait + Clock + Net + Sync, O: Objects + Sync>(
     rt: &HostRuntime,
     threads: &T,
-    objects: &O,
+    objects: O,
 ) -> Result<(), Status> {
     let words = words(rt)?;
     match parse_node(rt.alloc(), words.as_slice()) {
@@ -68,9 +69,9 @@ fn serve<T: Threads + Wait + Clock + Net + Sync, O: Objects + Sync>(
     rt: &HostRuntime,
     threads: &T,
     matches: &ArgMatches<'_>,
-    objects: &O,
+    objects: O,
 ) -> Result<(), Status> {
-    serve_own_node(rt, threads, &node_options(matches), objects)
+    serve_node(rt, threads, &node_options(matches), objects)
 }
 
 /// Runs this program as the client of the program's words, and returns the program's status. The second handle, which is the

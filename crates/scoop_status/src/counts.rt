@@ -1,6 +1,7 @@
 //! The counts of a node, each by one name in JSON, on the page and in metrics.
 
-use scoop_watch::{LinkTally, NOTES, REASONS, Tally};
+use scoop_node_link::LinkTally;
+use scoop_watch::{NOTES, REASONS, Tally};
 use serde::{Described, Serialize, Serializer};
 
 /// The names of a node's counts, in the order of `CountsView::values`.
@@ -54,8 +55,8 @@ impl CountsView {
             link.sent,
             link.received.saturating_sub(tally.heard()),
             link.faults,
-            link.refused,
-            tally.strangers,
+            link.forged,
+            link.strangers,
             tally.cuts,
             tally.ran,
             tally.puts,

@@ -43,6 +43,7 @@ pub fn gather<'a, R: Wait + Clock>(
     let handlers = handlers_of(rt, alloc, watch, about)?;
     let clients = clients_at(alloc, about.system, &handlers)?;
     let tally = watch.tally(rt);
+    let link = watch.link_tally();
     Ok(NodeView {
         node: about.place.number,
         address: Printed(about.place.address),
@@ -54,11 +55,8 @@ pub fn gather<'a, R: Wait + Clock>(
         handlers,
         clients,
         history_entries: tally.history,
-        last_unknown_client: tally.last_stranger.map(|stranger| stranger.0.0),
-        counts: CountsView {
-            tally,
-            link: watch.link_tally(),
-        },
+        last_unknown_client: link.last_stranger.map(|stranger| stranger.0.0),
+        counts: CountsView { tally, link },
     })
 }
 

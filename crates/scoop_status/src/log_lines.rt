@@ -2,7 +2,8 @@
 
 use crate::budget::Budget;
 use jiff::Timestamp;
-use scoop_watch::{Event, EventList, Level, LinkTally, LogLevel, MAX_EVENTS, Tally, Watch};
+use scoop_node_link::LinkTally;
+use scoop_watch::{Event, EventList, Level, LogLevel, MAX_EVENTS, Watch};
 use std::io;
 use std::io::Write;
 use std::sync::Wait;
@@ -77,7 +78,7 @@ impl<W: Write + Drop> Log<W> {
     /// Writes what has happened since the last call. The milliseconds are counted from the log's beginning.
     pub fn write_all<R: Wait + Clock>(&mut self, rt: &R, watch: &Watch, millis: u64) {
         if self.level.tells(Level::Warn) {
-            self.write_counts(rt, &watch.link_tally(), &watch.tally(rt), millis);
+            self.write_counts(rt, &watch.link_tally(), millis);
         }
         for level in [Level::Warn, Level::Info, Level::Debug] {
             if self.level.tells(level) {
@@ -88,12 +89,12 @@ impl<W: Write + Drop> Log<W> {
     }
 
     // Writes that datagrams were refused by the seal, and that clients sent that the file doesn't name.
-    fn write_counts<R: Clock>(&mut self, rt: &R, link: &LinkTally, tally: &Tally, millis: u64) {
-        if let Some(count) = self.seal.rise(link.refused, millis) {
+    fn write_counts<R: Clock>(&mut self, rt: &R, link: &LinkTally, millis: u64) {
+        if let Some(count) = self.seal.rise(link.forged, millis) {
             self.write_line(rt, Event::SealRefused(count), 0);
         }
-        if let Some((client, handler)) = tally.last_stranger {
-            if let Some(count) = self.strangers.rise(tally.strangers, millis) {
+        if let Some((client, handler)) = link.last_stranger {
+            if let Some(count) = self.strangers.rise(link.strangers, millis) {
                 self.write_line(rt, Event::UnknownClient(client, handler, count), 0);
             }
         }

@@ -84,7 +84,7 @@ fn print_store<W: Write>(store: Option<&str>, writer: &mut W) -> io::Result<()> 
 fn print_alerts<W: Write>(view: &NodeView<'_>, writer: &mut W) -> io::Result<()> {
     let (tally, link) = (&view.counts.tally, &view.counts.link);
     print_alert(
-        link.refused,
+        link.forged,
         "Wrong key: somebody sends with another key than this node's, or with none. Refused datagrams:",
         writer,
     )?;
@@ -113,7 +113,7 @@ fn print_stranger<W: Write>(view: &NodeView<'_>, writer: &mut W) -> io::Result<(
     let Some(client) = view.last_unknown_client else {
         return Ok(());
     };
-    let count = view.counts.tally.strangers;
+    let count = view.counts.link.strangers;
     writeln!(
         writer,
         "<p class=\"alert\">Unknown clients: the file doesn't name them, as client {client}. Messages: {count}</p>"

@@ -6,16 +6,16 @@ ghost use Rattle.scoop_client.specs.declared.phase.Phase.TheVariants.{Idle as At
 ghost use Rattle.scoop_two_cells.specs.Plans.{TakesNext};
 ghost use Rattle.scoop_two_cells.specs.Orders.{as_begun, client_traffic};
 
-use crate::alarm::Alarm;
 use crate::guarded_link::GuardedLink;
 use crate::outcome::{Outcome, Waited};
-use crate::plan::{ACCOUNT, FIRST_CELL, Plan, SECOND_CELL};
+use crate::plan::{ACCOUNT, FIRST_CELL, SECOND_CELL};
 use crate::progress::Progress;
+use crate::stage::Stage;
 use scoop_client::{BeginError, Client, Phase};
 use scoop_driver::{Condition, Diary, Driver, DriverError, StepList};
 use scoop_errors::PartyError;
 use scoop_keeper::{Keeper, MemoryKeeper};
-use scoop_link::{Link, PacedLink, Party as LinkParty, Peers, REPEATS, UdpLink};
+use scoop_link::{Link, PacedLink, Peers, REPEATS, UdpLink};
 use scoop_message::{Answer, Args, ClientId, HandlerId, OutOfMemory, Request};
 use scoop_weaver::Party;
 use std::alloc::Global;
@@ -81,35 +81,21 @@ fn begin_client(
     }
 }
 
-/// The settings that all clients of a demo share.
-#[derive(Clone, Copy)]
-pub(crate) struct Setting<'a, 'p> {
-    /// Whether there is an account.
-    pub(crate) waits: bool,
-    /// A call of a driver takes at most this many turns.
-    pub(crate) turns: u64,
-    /// The alarm that guards their links.
-    pub(crate) alarm: &'a Alarm,
-    /// The ports of the handlers.
-    pub(crate) table: &'p [(LinkParty, u16)],
-}
-
-// A link from this port.
+// A link from this port to the nodes' ports.
 fn open_wire<'a, R: Net>(
-    rt: &R,
+    stage: &Stage<'a, R>,
     alloc: Global,
-    setting: &Setting<'a, '_>,
     own: u16,
 ) -> Result<Wire<'a>, PartyError> {
-    let table = setting.table;
-    let socket = match UdpLink::open(rt, alloc, Peers { own, table }) {
+    let table = stage.plan.ports.of_handlers();
+    let socket = match UdpLink::open(stage.rt, alloc, Peers { own, table: &table }) {
         Ok(socket) => socket,
         Err(error) => return Err(PartyError::from(error)),
     };
     let Ok(link) = PacedLink::new(alloc, socket, PARTIES, REPEATS) else {
         return Err(PartyError::OutOfMemory);
     };
-    Ok(GuardedLink::new(link, setting.alarm))
+    Ok(GuardedLink::new(link, stage.alarm))
 }
 
 // A client that hasn't greeted any handler, with its next incarnation, which the keeper gives.
@@ -133,23 +119,22 @@ fn next_client(
 /// A client of this number over its own port, with its next incarnation, which the keeper gives. Its driver passes its
 /// steps to the diary.
 pub(crate) fn open_client<'a, R: Net, D: Diary<Global>>(
-    rt: &R,
+    stage: &Stage<'a, R>,
     alloc: Global,
     keeper: &mut MemoryKeeper,
-    setting: &Setting<'a, '_>,
     number: ClientId,
     own: u16,
     diary: D,
 ) -> Result<Player<Wire<'a>, D>, PartyError>
     ensures { IfOk result (λ _. TakesNext keeper.old keeper.new number) }
 {
-    let link = open_wire(rt, alloc, setting, own)?;
-    let (client, inc) = next_client(alloc, keeper, number, setting.waits)?;
+    let link = open_wire(stage, alloc, own)?;
+    let (client, inc) = next_client(alloc, keeper, number, stage.waits)?;
     Ok(Player {
-        driver: Driver::with_diary(client, link, setting.turns, diary),
+        driver: Driver::with_diary(client, link, stage.plan.turns, diary),
         number,
         inc,
-        waits: setting.waits,
+        waits: stage.waits,
     })
 }
 
@@ -211,17 +196,16 @@ fn paint_once<L: Link, D: Diary<Global>>(
 
 // Greets the handlers, then paints both cells in as many joint blocks as the plan says. The progress line shows each.
 fn paint<L: Link, D: Diary<Global>, W: Write + Drop, R: Wait>(
-    rt: &R,
+    stage: &Stage<'_, R>,
     driver: &mut Driver<L, D>,
     number: ClientId,
     colour: u64,
-    plan: &Plan,
     progress: &Progress<W>,
 ) -> Result<(), DriverError> {
-    greet(driver, plan.turns)?;
-    for round in 0..plan.rounds {
+    greet(driver, stage.plan.turns)?;
+    for round in 0..stage.plan.rounds {
         paint_once(driver, colour)?;
-        progress.tell(rt, number, round + 1);
+        progress.tell(stage.rt, number, round + 1);
     }
     Ok(())
 }
@@ -288,33 +272,25 @@ impl<L: Link, D: Diary<Global>> Painter<L, D> {
     /// Paints the cells. An error rings the alarm.
     pub(crate) fn paint<W: Write + Drop, R: Wait>(
         &mut self,
-        rt: &R,
-        plan: &Plan,
+        stage: &Stage<'_, R>,
         progress: &Progress<W>,
-        alarm: &Alarm,
     ) {
-        let painted = paint(
-            rt,
-            &mut self.player.driver,
-            self.player.number,
-            self.colour,
-            plan,
-            progress,
-        );
+        let Player { driver, number, .. } = &mut self.player;
+        let painted = paint(stage, driver, *number, self.colour, progress);
         if let Err(error) = painted {
-            alarm.ring(rt, PartyError::from(error));
+            stage.ring(PartyError::from(error));
         }
     }
 
     /// Deposits, or waits and withdraws. An error rings the alarm.
-    pub(crate) fn wait<R: Wait>(&mut self, rt: &R, alarm: &Alarm) {
+    pub(crate) fn wait<R: Wait>(&mut self, stage: &Stage<'_, R>) {
         let met = match self.part {
             Part::Deposits => deposit(&mut self.player.driver).map(|()| true),
             Part::Withdraws => withdraw(&mut self.player.driver),
         };
         match met {
             Ok(met) => self.has_met = met,
-            Err(error) => alarm.ring(rt, PartyError::from(error)),
+            Err(error) => stage.ring(PartyError::from(error)),
         }
     }
 }

@@ -5,7 +5,7 @@ ghost use Rattle.scoop_message.specs.declared.limits.TheConstants.{MAX_HANDLERS}
 ghost use Rattle.scoop_message.specs.Lists.{NoRepeats};
 ghost use Rattle.scoop_book.specs.Opening.{numbers_of};
 
-use crate::alarm::Alarm;
+use crate::stage::Stage;
 use scoop_book::{CloseRefusal, Event, Node, OpenError, Pass, Reply};
 use scoop_errors::PartyError;
 use scoop_keeper::MemoryKeeper;
@@ -81,10 +81,8 @@ impl<B: Behaviour> Host<B> {
     /// Serves the node until it is asked to stop. Any other end rings the alarm.
     pub(crate) fn serve<R: Threads + Wait + Clock + Sync>(
         &mut self,
-        rt: &R,
+        stage: &Stage<'_, R>,
         alloc: Global,
-        turns: u64,
-        alarm: &Alarm,
     )
     where
         B: Send,
@@ -92,20 +90,19 @@ impl<B: Behaviour> Host<B> {
         let Some(passes) = self.passes.take() else {
             return;
         };
-        let stop = alarm.stop();
         let (end, list) = serve(
-            rt,
+            stage.rt,
             alloc,
             &self.node,
             &mut self.link,
             passes.list,
             &OpenGate,
-            stop,
-            turns,
+            stage.alarm.stop(),
+            stage.plan.node_turns(),
         );
         self.passes = Some(Passes { list });
         if end != ServeEnd::Stopped {
-            alarm.ring(rt, PartyError::from(end));
+            stage.ring(PartyError::from(end));
         }
     }
 

@@ -1,16 +1,15 @@
 //! The demo of two cells, `scoop demo`: two nodes, three clients and real datagrams in one process.
 //!
 //! [`demo_run`] runs the demo and prints its outcome, [`show`] only runs it, and [`print_outcome`] only prints. The
-//! caller passes the objects, the keeper of the clients' incarnations, and the ports. [`show_parties`] also returns the
-//! messages that each node and client heard and sent.
+//! caller passes the demo, with its objects and ports, and the keeper of the clients' incarnations. [`show_parties`] also
+//! returns the messages that each node and client heard and sent.
 //!
 //! ```
 //! // each node has a cell, and the clients take their incarnations from the keeper
-//! let objects = cells(alloc)?;
+//! let demo = Demo { plan: plan(&rt)?, objects: cells(alloc)? };
 //! let mut keeper = MemoryKeeper::new(alloc).with_incarnation(ClientId(8), 4)?;
 //! let (mut line, mut output) = (Vec::new(alloc), Vec::new(alloc));
-//! let (plan, told) = (plan(&rt)?, Some(&mut line));
-//! let outcome = demo_run(&rt, alloc, objects, &mut keeper, &plan, told, &mut output)?;
+//! let outcome = demo_run(&rt, alloc, demo, &mut keeper, Some(&mut line), &mut output)?;
 //! // both clients painted both cells in their blocks, so that a third one reads the same value in both
 //! assert_eq!(rt; outcome.first, outcome.second);
 //! assert_eq!(rt; outcome.status(), 0);
@@ -33,8 +32,9 @@ mod playing;
 mod progress;
 mod run;
 mod showing;
+mod stage;
 
 pub use outcome::{Outcome, Waited, Woven, print_outcome};
-pub use plan::{Objects, PORTS, Plan, Ports};
+pub use plan::{Demo, Objects, PORTS, Plan, Ports};
 pub use run::demo_run;
 pub use showing::{show, show_parties};

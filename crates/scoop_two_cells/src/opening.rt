@@ -1,20 +1,20 @@
 //! The opening of a demo's nodes and clients.
 
-ghost use Rattle.std.specs.Prelude.{◌≤◌, length, IfOk, OnOk};
+ghost use Rattle.std.specs.Prelude.{◌≤◌, length, IfOk};
 ghost use Rattle.scoop_message.specs.Lists.{NoRepeats};
 ghost use Rattle.scoop_book.specs.Opening.{numbers_of};
-ghost use Rattle.scoop_two_cells.specs.Plans.{HaveBegun, TakesNext};
+ghost use Rattle.scoop_two_cells.specs.Plans.{HaveBegun};
 
-use crate::alarm::Alarm;
-use crate::client::{Painter, Part, Setting, Wire, open_client};
+use crate::client::{Painter, Part, Player, Wire, open_client};
 use crate::host::Host;
-use crate::plan::{ACCOUNT, EIGHT, FIRST_CELL, NINE, Objects, Plan, Ports, SECOND_CELL, SEVEN};
+use crate::plan::{ACCOUNT, EIGHT, FIRST_CELL, NINE, Objects, Ports, SECOND_CELL, SEVEN};
 use crate::playing::Clients;
+use crate::stage::Stage;
 use scoop_driver::Diary;
 use scoop_errors::PartyError;
 use scoop_keeper::MemoryKeeper;
-use scoop_link::{Party, Peers};
-use scoop_message::{ClientId, HandlerId, OutOfMemory};
+use scoop_link::{Link, Peers};
+use scoop_message::{HandlerId, OutOfMemory};
 use scoop_object::{Behaviour, Class};
 use std::alloc::Global;
 use std::net::Net;
@@ -57,17 +57,13 @@ fn add_host<B: Behaviour, R: Net>(
     alloc: Global,
     handlers: Handlers<B>,
     own: u16,
-    clients: [u16; 3],
+    ports: &Ports,
     hosts: &mut Vec<Host<B>>,
 ) -> Result<(), PartyError>
     requires few { length handlers.items ≤ 2 }
     requires apart { NoRepeats (numbers_of handlers.items) }
 {
-    let table = [
-        (Party::Client(SEVEN), clients[0]),
-        (Party::Client(EIGHT), clients[1]),
-        (Party::Client(NINE), clients[2]),
-    ];
+    let table = ports.of_clients();
     let host = Host::open(rt, alloc, handlers, Peers { own, table: &table })?;
     hosts.push(host).map_err(OutOfMemory::from)?;
     Ok(())
@@ -83,7 +79,7 @@ fn add_first<B: Behaviour, R: Net>(
     hosts: &mut Vec<Host<B>>,
 ) -> Result<(), PartyError> {
     let handlers = on_first(alloc, cell, account)?;
-    add_host(rt, alloc, handlers, ports.nodes[0], ports.clients, hosts)
+    add_host(rt, alloc, handlers, ports.nodes[0], ports, hosts)
 }
 
 // Opens node 2.
@@ -95,7 +91,7 @@ fn add_second<B: Behaviour, R: Net>(
     hosts: &mut Vec<Host<B>>,
 ) -> Result<(), PartyError> {
     let handlers = on_second(alloc, cell)?;
-    add_host(rt, alloc, handlers, ports.nodes[1], ports.clients, hosts)
+    add_host(rt, alloc, handlers, ports.nodes[1], ports, hosts)
 }
 
 /// Opens the nodes. They reply to the clients' ports.
@@ -116,78 +112,32 @@ pub(crate) fn open_hosts<B: Behaviour, R: Net>(
     Ok(hosts)
 }
 
-// Opens a client that paints with this colour and adds it to the list.
-fn add_painter<'a, R: Net, D: Diary<Global>>(
-    rt: &R,
+// The clients that paint: one deposits, and the other withdraws.
+fn painters_of<L: Link, D: Diary<Global>>(
     alloc: Global,
-    keeper: &mut MemoryKeeper,
-    setting: &Setting<'a, '_>,
-    number: ClientId,
-    own: u16,
-    diary: D,
-    colour: u64,
-    part: Part,
-    painters: &mut Vec<Painter<Wire<'a>, D>>,
-) -> Result<(), PartyError>
-    ensures { OnOk result (TakesNext keeper.old keeper.new number) }
-{
-    let player = open_client(rt, alloc, keeper, setting, number, own, diary)?;
-    let painter = Painter::new(player, colour, part);
-    painters.push(painter).map_err(OutOfMemory::from)?;
-    Ok(())
+    depositor: Player<L, D>,
+    withdrawer: Player<L, D>,
+) -> Result<Vec<Painter<L, D>>, OutOfMemory> {
+    let mut painters = Vec::new(alloc);
+    painters.push(Painter::new(depositor, 1, Part::Deposits))?;
+    painters.push(Painter::new(withdrawer, 2, Part::Withdraws))?;
+    Ok(painters)
 }
 
 /// Opens the clients. Each sends to the nodes' ports, and passes its steps to one of the diaries.
 pub(crate) fn open_clients<'a, R: Net, D: Diary<Global>>(
-    rt: &R,
+    stage: &Stage<'a, R>,
     alloc: Global,
     keeper: &mut MemoryKeeper,
-    plan: &Plan,
-    waits: bool,
-    alarm: &'a Alarm,
     diaries: (D, D, D),
 ) -> Result<Clients<Wire<'a>, D>, PartyError>
     ensures { IfOk result (λ _. HaveBegun keeper.old keeper.new) }
 {
-    let [one, two] = plan.ports.nodes;
-    let table = [
-        (Party::Handler(FIRST_CELL), one),
-        (Party::Handler(SECOND_CELL), two),
-        (Party::Handler(ACCOUNT), one),
-    ];
-    let setting = Setting {
-        waits,
-        turns: plan.turns,
-        alarm,
-        table: &table,
-    };
-    let [seven, eight, nine] = plan.ports.clients;
+    let [seven, eight, nine] = stage.plan.ports.clients;
     let (first, second, third) = diaries;
-    let mut painters = Vec::new(alloc);
-    add_painter(
-        rt,
-        alloc,
-        keeper,
-        &setting,
-        SEVEN,
-        seven,
-        first,
-        1,
-        Part::Deposits,
-        &mut painters,
-    )?;
-    add_painter(
-        rt,
-        alloc,
-        keeper,
-        &setting,
-        EIGHT,
-        eight,
-        second,
-        2,
-        Part::Withdraws,
-        &mut painters,
-    )?;
-    let reader = open_client(rt, alloc, keeper, &setting, NINE, nine, third)?;
+    let depositor = open_client(stage, alloc, keeper, SEVEN, seven, first)?;
+    let withdrawer = open_client(stage, alloc, keeper, EIGHT, eight, second)?;
+    let reader = open_client(stage, alloc, keeper, NINE, nine, third)?;
+    let painters = painters_of(alloc, depositor, withdrawer)?;
     Ok(Clients { painters, reader })
 }

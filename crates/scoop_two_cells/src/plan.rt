@@ -3,6 +3,7 @@
 ghost use Rattle.std.specs.Prelude.{◌≡◌};
 ghost use Rattle.scoop_two_cells.specs.Plans.{node_turns};
 
+use scoop_link::Party;
 use scoop_message::{ClientId, HandlerId};
 use scoop_object::Class;
 
@@ -31,6 +32,28 @@ pub struct Ports {
     pub nodes: [u16; 2],
     /// Those of clients 7, 8 and 9.
     pub clients: [u16; 3],
+}
+
+impl Ports {
+    /// The port of each handler: that of its node.
+    pub(crate) fn of_handlers(&self) -> [(Party, u16); 3] {
+        let [one, two] = self.nodes;
+        [
+            (Party::Handler(FIRST_CELL), one),
+            (Party::Handler(SECOND_CELL), two),
+            (Party::Handler(ACCOUNT), one),
+        ]
+    }
+
+    /// The port of each client.
+    pub(crate) fn of_clients(&self) -> [(Party, u16); 3] {
+        let [seven, eight, nine] = self.clients;
+        [
+            (Party::Client(SEVEN), seven),
+            (Party::Client(EIGHT), eight),
+            (Party::Client(NINE), nine),
+        ]
+    }
 }
 
 /// The ports that the program uses.
@@ -72,4 +95,11 @@ pub struct Objects<B> {
     /// The account of handler 3 on node 1; with it the demo has a wait too. Operation 1 deposits, 2 withdraws if the
     /// balance suffices, and 3 returns the balance.
     pub account: Option<(Class, B)>,
+}
+
+/// A demo: its size and ports, and its objects.
+#[derive(Drop)]
+pub struct Demo<B> {
+    pub plan: Plan,
+    pub objects: Objects<B>,
 }

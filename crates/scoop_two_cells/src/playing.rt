@@ -2,12 +2,11 @@
 
 ghost use Rattle.std.specs.Prelude.{◌≡◌, IfOk, is_some};
 
-use crate::alarm::Alarm;
 use crate::client::{Painter, Player, Wire, read};
 use crate::host::Host;
 use crate::outcome::Outcome;
-use crate::plan::Plan;
 use crate::progress::Progress;
+use crate::stage::Stage;
 use scoop_driver::Diary;
 use scoop_errors::PartyError;
 use scoop_link::Link;
@@ -33,18 +32,16 @@ fn paint_all<
     W: Write + Drop + Send,
     R: Threads + Wait + Sync,
 >(
-    rt: &R,
+    stage: &Stage<'_, R>,
     mut painters: Vec<Painter<L, D>>,
-    plan: &Plan,
     progress: &Progress<W>,
-    alarm: &Alarm,
 ) -> Vec<Painter<L, D>> {
     let lent = painters.as_mut_slice();
-    thread::scope(thread::scope_env(), rt, move |scope| {
+    thread::scope(thread::scope_env(), stage.rt, move |scope| {
         for painter in lent.iter_mut() {
-            let spawned = scope.spawn(move || painter.paint(rt, plan, progress, alarm));
+            let spawned = scope.spawn(move || painter.paint(stage, progress));
             if spawned.is_err() {
-                alarm.ring(rt, PartyError::NoThread);
+                stage.ring(PartyError::NoThread);
             }
         }
     });
@@ -53,16 +50,15 @@ fn paint_all<
 
 // One client deposits while the other waits and withdraws, each in a thread.
 fn wait_all<L: Link + Send, D: Diary<Global> + Send, R: Threads + Wait + Sync>(
-    rt: &R,
+    stage: &Stage<'_, R>,
     mut painters: Vec<Painter<L, D>>,
-    alarm: &Alarm,
 ) -> Vec<Painter<L, D>> {
     let lent = painters.as_mut_slice();
-    thread::scope(thread::scope_env(), rt, move |scope| {
+    thread::scope(thread::scope_env(), stage.rt, move |scope| {
         for painter in lent.iter_mut() {
-            let spawned = scope.spawn(move || painter.wait(rt, alarm));
+            let spawned = scope.spawn(move || painter.wait(stage));
             if spawned.is_err() {
-                alarm.ring(rt, PartyError::NoThread);
+                stage.ring(PartyError::NoThread);
             }
         }
     });
@@ -71,50 +67,45 @@ fn wait_all<L: Link + Send, D: Diary<Global> + Send, R: Threads + Wait + Sync>(
 
 // Does the wait if there is one. Returns whether its condition was met.
 fn wait_where_asked<L: Link + Send, D: Diary<Global> + Send, R: Threads + Wait + Sync>(
-    rt: &R,
+    stage: &Stage<'_, R>,
     painters: Vec<Painter<L, D>>,
-    waits: bool,
-    alarm: &Alarm,
 ) -> (Vec<Painter<L, D>>, Option<bool>)
-    ensures { is_some result.1 ≡ waits }
+    ensures { is_some result.1 ≡ stage.now.waits }
 {
-    if !waits {
+    if !stage.waits {
         return (painters, None);
     }
-    let painters = wait_all(rt, painters, alarm);
+    let painters = wait_all(stage, painters);
     let met = painters.iter().all(|painter| painter.has_met());
     (painters, Some(met))
 }
 
 // Runs the clients' parts, one after the other, and returns the clients. An error has rung the alarm.
 fn play<L, D, W, R>(
-    rt: &R,
+    stage: &Stage<'_, R>,
     clients: Clients<L, D>,
-    plan: &Plan,
-    waits: bool,
     progress: Option<W>,
-    alarm: &Alarm,
 ) -> (Result<Outcome, PartyError>, Clients<L, D>)
 where
     L: Link + Send,
     D: Diary<Global> + Send,
     W: Write + Drop + Send,
     R: Threads + Wait + Sync,
-    ensures { IfOk result.0 (λ outcome. is_some outcome.waited ≡ waits) }
+    ensures { IfOk result.0 (λ outcome. is_some outcome.waited ≡ stage.now.waits) }
 {
     let Clients {
         painters,
         mut reader,
     } = clients;
-    let progress = Progress::new(progress, plan.rounds);
-    let painters = paint_all(rt, painters, plan, &progress, alarm);
+    let progress = Progress::new(progress, stage.plan.rounds);
+    let painters = paint_all(stage, painters, &progress);
     progress.finish();
-    let (painters, withdrew) = wait_where_asked(rt, painters, waits, alarm);
-    match read(&mut reader.driver, plan.turns, withdrew) {
+    let (painters, withdrew) = wait_where_asked(stage, painters);
+    match read(&mut reader.driver, stage.plan.turns, withdrew) {
         Ok(outcome) => (Ok(outcome), Clients { painters, reader }),
         Err(error) => {
             let error = PartyError::from(error);
-            alarm.ring(rt, error);
+            stage.ring(error);
             (Err(error), Clients { painters, reader })
         }
     }
@@ -130,38 +121,34 @@ pub(crate) struct Played<B: Behaviour, L: Link, D: Diary<Global>> {
 
 /// Serves the nodes, each in a thread, while the clients run, and joins all threads. An error has rung the alarm.
 pub(crate) fn play_beside<'a, B, D, W, R>(
-    rt: &R,
+    stage: &Stage<'a, R>,
     alloc: Global,
     mut hosts: Vec<Host<B>>,
     clients: Clients<Wire<'a>, D>,
-    plan: &Plan,
-    waits: bool,
     progress: Option<W>,
-    alarm: &Alarm,
 ) -> Played<B, Wire<'a>, D>
 where
     B: Behaviour + Send,
     D: Diary<Global> + Send,
     W: Write + Drop + Send,
     R: Threads + Wait + Clock + Sync,
-    ensures { IfOk result.outcome (λ outcome. is_some outcome.waited ≡ waits) }
+    ensures { IfOk result.outcome (λ outcome. is_some outcome.waited ≡ stage.now.waits) }
 {
-    let turns = plan.node_turns();
     let lent = hosts.as_mut_slice();
     let (outcome, clients) = thread::scope(
         thread::scope_env(),
-        rt,
+        stage.rt,
         move |scope| -> (Result<Outcome, PartyError>, Clients<Wire, D>)
-            ensures { IfOk result.0 (λ outcome. is_some outcome.waited ≡ waits) }
+            ensures { IfOk result.0 (λ outcome. is_some outcome.waited ≡ stage.now.waits) }
         {
             for host in lent.iter_mut() {
-                let spawned = scope.spawn(move || host.serve(rt, alloc, turns, alarm));
+                let spawned = scope.spawn(move || host.serve(stage, alloc));
                 if spawned.is_err() {
-                    alarm.ring(rt, PartyError::NoThread);
+                    stage.ring(PartyError::NoThread);
                 }
             }
-            let played = play(rt, clients, plan, waits, progress, alarm);
-            alarm.stop().ask();
+            let played = play(stage, clients, progress);
+            stage.alarm.stop().ask();
             played
         },
     );

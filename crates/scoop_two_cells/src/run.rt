@@ -5,7 +5,7 @@ ghost use Rattle.std.specs.Io.KnownBytes.{Appends, Keeps};
 ghost use Rattle.scoop_two_cells.specs.Outcomes.{outcome_text};
 
 use crate::outcome::{Outcome, print_outcome};
-use crate::plan::{Objects, Plan};
+use crate::plan::Demo;
 use crate::showing::show;
 use scoop_errors::PartyError;
 use scoop_keeper::MemoryKeeper;
@@ -23,9 +23,8 @@ use std::time::Clock;
 pub fn demo_run<B, P, W, R>(
     rt: &R,
     alloc: Global,
-    objects: Objects<B>,
+    demo: Demo<B>,
     keeper: &mut MemoryKeeper,
-    plan: &Plan,
     progress: Option<P>,
     writer: &mut W,
 ) -> Result<Outcome, PartyError>
@@ -37,7 +36,7 @@ where
     ensures written { IfOk result (λ outcome. Appends (W.contents writer.old) (W.contents writer.new) (outcome_text outcome)) }
     ensures refused { IfErr result (λ e. (e ≡ PartyError.Write → ⊥) → Keeps (W.contents writer.old) (W.contents writer.new)) }
 {
-    let outcome = show(rt, alloc, objects, keeper, plan, progress)?;
+    let outcome = show(rt, alloc, demo, keeper, progress)?;
     match print_outcome(&outcome, writer) {
         Ok(()) => {}
         Err(_) => return Err(PartyError::Write),

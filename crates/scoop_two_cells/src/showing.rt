@@ -9,8 +9,9 @@ use crate::host::Host;
 use crate::opening::{open_clients, open_hosts};
 use crate::order::{order_told, parties_of};
 use crate::outcome::Outcome;
-use crate::plan::{Objects, Plan};
+use crate::plan::{Demo, Objects};
 use crate::playing::{Clients, Played, play_beside};
+use crate::stage::Stage;
 use scoop_book::{Event, Reply};
 use scoop_driver::{Diary, NoDiary, StepList};
 use scoop_errors::PartyError;
@@ -52,33 +53,30 @@ fn close_all<B: Behaviour, R: Wait>(
 
 // Closes the nodes and returns the outcome with their histories. The error that rang the alarm comes first.
 fn end_all<B: Behaviour, R: Wait>(
-    rt: &R,
+    stage: &Stage<'_, R>,
     alloc: Global,
     outcome: Result<Outcome, PartyError>,
     hosts: Vec<Host<B>>,
-    alarm: &Alarm,
 ) -> Result<(Outcome, Histories), PartyError>
     ensures { IfOk result (λ ended. outcome ≡ Ok ended.0) }
 {
-    if let Some(error) = alarm.first(rt) {
+    if let Some(error) = stage.alarm.first(stage.rt) {
         return Err(error);
     }
-    let histories = close_all(rt, alloc, hosts)?;
+    let histories = close_all(stage.rt, alloc, hosts)?;
     match outcome {
         Ok(outcome) => Ok((outcome, histories)),
         Err(error) => Err(error),
     }
 }
 
-// Runs the demo with these diaries, from its opening to the end of its nodes.
+// Runs the demo of these objects with these diaries, from its opening to the end of its nodes.
 fn show_with<'a, B, D, W, R>(
-    rt: &R,
+    stage: &Stage<'a, R>,
     alloc: Global,
     objects: Objects<B>,
     keeper: &mut MemoryKeeper,
-    plan: &Plan,
     progress: Option<W>,
-    alarm: &'a Alarm,
     diaries: (D, D, D),
 ) -> Result<Shown<'a, D>, PartyError>
 where
@@ -86,18 +84,18 @@ where
     D: Diary<Global> + Send,
     W: Write + Drop + Send,
     R: Threads + Wait + Clock + Net + Sync,
-    ensures waited { IfOk result (λ shown. is_some shown.outcome.waited ≡ is_some objects.account) }
+    requires { is_some objects.account ≡ stage.now.waits }
+    ensures waited { IfOk result (λ shown. is_some shown.outcome.waited ≡ stage.now.waits) }
     ensures begun { IfOk result (λ _. HaveBegun keeper.old keeper.new) }
 {
-    let waits = objects.account.is_some();
-    let hosts = open_hosts(rt, alloc, objects, &plan.ports)?;
-    let clients = open_clients(rt, alloc, keeper, plan, waits, alarm, diaries)?;
+    let hosts = open_hosts(stage.rt, alloc, objects, &stage.plan.ports)?;
+    let clients = open_clients(stage, alloc, keeper, diaries)?;
     let Played {
         outcome,
         hosts,
         clients,
-    } = play_beside(rt, alloc, hosts, clients, plan, waits, progress, alarm);
-    let (outcome, histories) = end_all(rt, alloc, outcome, hosts, alarm)?;
+    } = play_beside(stage, alloc, hosts, clients, progress);
+    let (outcome, histories) = end_all(stage, alloc, outcome, hosts)?;
     Ok(Shown {
         outcome,
         histories,
@@ -109,22 +107,22 @@ where
 fn show_plainly<B, W, R>(
     rt: &R,
     alloc: Global,
-    objects: Objects<B>,
+    demo: Demo<B>,
     keeper: &mut MemoryKeeper,
-    plan: &Plan,
     progress: Option<W>,
 ) -> Result<Outcome, PartyError>
 where
     B: Behaviour + Send,
     W: Write + Drop + Send,
     R: Threads + Wait + Clock + Net + Sync,
-    ensures waited { IfOk result (λ outcome. is_some outcome.waited ≡ is_some objects.account) }
+    ensures waited { IfOk result (λ outcome. is_some outcome.waited ≡ is_some demo.objects.account) }
     ensures begun { IfOk result (λ _. HaveBegun keeper.old keeper.new) }
     ensures woven { IfOk result (λ outcome. outcome.woven ≡ None) }
 {
     let alarm = Alarm::new();
+    let stage = Stage::of(rt, &demo, &alarm);
     let diaries = (NoDiary, NoDiary, NoDiary);
-    let shown = show_with(rt, alloc, objects, keeper, plan, progress, &alarm, diaries)?;
+    let shown = show_with(&stage, alloc, demo.objects, keeper, progress, diaries)?;
     let mut outcome = shown.outcome;
     outcome.woven = None;
     Ok(outcome)
@@ -134,20 +132,19 @@ where
 fn show_woven<B, W, R>(
     rt: &R,
     alloc: Global,
-    objects: Objects<B>,
+    demo: Demo<B>,
     keeper: &mut MemoryKeeper,
-    plan: &Plan,
     progress: Option<W>,
 ) -> Result<Outcome, PartyError>
 where
     B: Behaviour + Send,
     W: Write + Drop + Send,
     R: Threads + Wait + Clock + Net + Sync,
-    ensures waited { IfOk result (λ outcome. is_some outcome.waited ≡ is_some objects.account) }
+    ensures waited { IfOk result (λ outcome. is_some outcome.waited ≡ is_some demo.objects.account) }
     ensures begun { IfOk result (λ _. HaveBegun keeper.old keeper.new) }
     ensures woven { IfOk result (λ outcome. is_some outcome.woven ≡ true) }
 {
-    let (mut outcome, parties) = show_parties(rt, alloc, objects, keeper, plan, progress)?;
+    let (mut outcome, parties) = show_parties(rt, alloc, demo, keeper, progress)?;
     outcome.woven = Some(order_told(alloc, &parties)?);
     Ok(outcome)
 }
@@ -171,23 +168,22 @@ where
 pub fn show<B, W, R>(
     rt: &R,
     alloc: Global,
-    objects: Objects<B>,
+    demo: Demo<B>,
     keeper: &mut MemoryKeeper,
-    plan: &Plan,
     progress: Option<W>,
 ) -> Result<Outcome, PartyError>
 where
     B: Behaviour + Send,
     W: Write + Drop + Send,
     R: Threads + Wait + Clock + Net + Sync,
-    ensures waited { IfOk result (λ outcome. is_some outcome.waited ≡ is_some objects.account) }
+    ensures waited { IfOk result (λ outcome. is_some outcome.waited ≡ is_some demo.objects.account) }
     ensures begun { IfOk result (λ _. HaveBegun keeper.old keeper.new) }
-    ensures woven { IfOk result (λ outcome. is_some outcome.woven ≡ plan.now.weaves) }
+    ensures woven { IfOk result (λ outcome. is_some outcome.woven ≡ demo.plan.weaves) }
 {
-    if plan.weaves {
-        show_woven(rt, alloc, objects, keeper, plan, progress)
+    if demo.plan.weaves {
+        show_woven(rt, alloc, demo, keeper, progress)
     } else {
-        show_plainly(rt, alloc, objects, keeper, plan, progress)
+        show_plainly(rt, alloc, demo, keeper, progress)
     }
 }
 
@@ -196,25 +192,25 @@ where
 pub fn show_parties<B, W, R>(
     rt: &R,
     alloc: Global,
-    objects: Objects<B>,
+    demo: Demo<B>,
     keeper: &mut MemoryKeeper,
-    plan: &Plan,
     progress: Option<W>,
 ) -> Result<(Outcome, Vec<Party>), PartyError>
 where
     B: Behaviour + Send,
     W: Write + Drop + Send,
     R: Threads + Wait + Clock + Net + Sync,
-    ensures waited { IfOk result (λ shown. is_some shown.0.waited ≡ is_some objects.account) }
+    ensures waited { IfOk result (λ shown. is_some shown.0.waited ≡ is_some demo.objects.account) }
     ensures begun { IfOk result (λ _. HaveBegun keeper.old keeper.new) }
 {
     let alarm = Alarm::new();
+    let stage = Stage::of(rt, &demo, &alarm);
     let diaries = (
         StepList::new(alloc),
         StepList::new(alloc),
         StepList::new(alloc),
     );
-    let shown = show_with(rt, alloc, objects, keeper, plan, progress, &alarm, diaries)?;
+    let shown = show_with(&stage, alloc, demo.objects, keeper, progress, diaries)?;
     let parties = parties_of(alloc, &shown)?;
     Ok((shown.outcome, parties))
 }

@@ -3,7 +3,6 @@
 ghost use Rattle.std.specs.Prelude.{◌<◌};
 
 use scoop_handler::{Note, Reason};
-use scoop_message::{ClientId, HandlerId};
 
 /// The kinds of notes, as a tally counts them. Dropped messages are counted by their reasons.
 pub const NOTES: [&str; 7] = [
@@ -33,10 +32,6 @@ pub struct Tally {
     pub notes: [u64; 7],
     /// Messages that handlers dropped, in the order of `REASONS`.
     pub dropped: [u64; 10],
-    /// Messages of clients that the file doesn't name.
-    pub strangers: u64,
-    /// The last such client, and the handler that it sent to.
-    pub last_stranger: Option<(ClientId, HandlerId)>,
     /// Private queues that were cut.
     pub cuts: u64,
     /// Entries that have run.
@@ -61,8 +56,6 @@ impl Tally {
             is_open: false,
             notes: [0; 7],
             dropped: [0; 10],
-            strangers: 0,
-            last_stranger: None,
             cuts: 0,
             ran: 0,
             puts: 0,
@@ -104,12 +97,6 @@ impl Tally {
         self.is_open = true;
         count(&mut self.reopened);
         self.history = 0;
-    }
-
-    /// Counts a message of a client that the file doesn't name.
-    pub fn meet_stranger(&mut self, client: ClientId, handler: HandlerId) {
-        count(&mut self.strangers);
-        self.last_stranger = Some((client, handler));
     }
 }
 

@@ -1,15 +1,15 @@
 //! The watch of a node, which threads share.
 
-ghost use Rattle.std.specs.Prelude.{◌≡◌};
+ghost use Rattle.std.specs.Prelude.{◌≡◌, IfOk};
 
 use crate::board::Board;
 use crate::event::{Event, Level, LogLevel};
 use crate::event_list::EventList;
-use crate::link_counts::{LinkCounts, LinkTally};
 use crate::tally::Tally;
 use scoop_handler::{HandlerState, Heard};
 use scoop_keeper::KeeperError;
-use scoop_message::{ClientId, HandlerId, Message, OutOfMemory};
+use scoop_message::{HandlerId, Message, OutOfMemory};
+use scoop_node_link::{LinkTally, NodeCounts};
 use std::alloc::Global;
 use std::marker::Model;
 use std::sync::atomic::{AtomicBool, Ordering};
@@ -24,12 +24,12 @@ pub struct Settings {
     pub shows_states: bool,
 }
 
-/// The board of a node, the counts of its link, and whether the node has ended. All threads share it. Contracts see its
+/// The board of a node, its counts, and whether the node has ended. All threads share it. Contracts see its
 /// settings alone: what another thread may change at any time, no clause can name.
 #[derive(Drop)]
 pub struct Watch {
     board: Mutex<Board>,
-    link: LinkCounts,
+    counts: NodeCounts,
     ended: AtomicBool,
     settings: Settings,
 }
@@ -43,16 +43,20 @@ impl Model for Watch {
 }
 
 impl Watch {
-    /// A watch of a node that begins.
-    pub fn new(alloc: Global, settings: Settings) -> Watch
-        ensures { result ≡ settings }
+    /// A watch of a node that begins. `OutOfMemory` means that the memory was refused.
+    pub fn new(alloc: Global, settings: Settings) -> Result<Watch, OutOfMemory>
+        ensures { IfOk result (λ watch. watch ≡ settings) }
     {
-        Watch {
+        let counts = match NodeCounts::new(alloc) {
+            Ok(counts) => counts,
+            Err(error) => return Err(error),
+        };
+        Ok(Watch {
             board: Mutex::new(Board::new(alloc)),
-            link: LinkCounts::new(),
+            counts,
             ended: AtomicBool::new(false),
             settings,
-        }
+        })
     }
 
     /// How often things happened at the node's handlers.
@@ -62,12 +66,12 @@ impl Watch {
 
     /// How many datagrams passed through the node's link.
     pub fn link_tally(&self) -> LinkTally {
-        self.link.tally()
+        self.counts.tally()
     }
 
-    // The counts of the node's link.
-    pub(crate) fn link_counts(&self) -> &LinkCounts {
-        &self.link
+    /// The counts of the node, which its link and its keeper raise.
+    pub fn counts(&self) -> &NodeCounts {
+        &self.counts
     }
 
     /// A copy of the handler's latest state, `None` if none is known. It is the state of one moment: the copy of one put.
@@ -121,11 +125,6 @@ impl Watch {
     /// Notes that a handler heard a message.
     pub(crate) fn hear<R: Wait>(&self, rt: &R, message: &Message, heard: &Heard) {
         self.board.lock(rt).hear(message, heard, self.settings.log);
-    }
-
-    /// Notes a frame of a client that the file doesn't name, which no handler heard.
-    pub(crate) fn meet_stranger<R: Wait>(&self, rt: &R, client: ClientId, handler: HandlerId) {
-        self.board.lock(rt).tally.meet_stranger(client, handler);
     }
 
     /// Notes that an entry has run.

@@ -33,5 +33,5 @@ impl Objects for Shelves {
 }
 
 fn main(rt: HostRuntime) -> ExitCode {
-    start_node(&rt, &rt, &Shelves)
+    start_node(&rt, &rt, Shelves)
 }

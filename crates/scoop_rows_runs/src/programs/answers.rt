@@ -8,15 +8,16 @@
 //! - `@history` answers the number of the history's entries, `@stored` whether the closed store has a state.
 
 use super::{ONE, Programs};
-use crate::reading::{made, text_of};
-use crate::telling::{add_error, add_line, tells, tells_lines};
+use crate::reading::made;
+use crate::telling::{add_error, tells_lines};
 use scoop_book::Book;
 use scoop_demo::{answer_run, open_book, tell_frames};
 use scoop_keeper::{FailingKeeper, Keeper, MemoryKeeper};
 use scoop_message::HandlerId;
 use scoop_object::Table;
 use scoop_row_player::Bad;
-use scoop_row_player::words::{last, number};
+use scoop_row_player::answers::{add_line, keeps, tells};
+use scoop_row_player::words::{handler, text_of};
 
 pub type Answering = Book<Table, FailingKeeper<MemoryKeeper>>;
 
@@ -29,13 +30,8 @@ impl Programs {
         };
         let keeper = FailingKeeper::new(keeper, self.calls);
         let (class, object) = made(self.alloc, line)?;
-        match open_book(self.alloc, keeper, ONE, class, object) {
-            Ok(book) => {
-                self.book = Some(book);
-                tells("ok", answer)
-            }
-            Err(error) => tells(error, answer),
-        }
+        let book = open_book(self.alloc, keeper, ONE, class, object);
+        keeps(&mut self.book, book, answer)
     }
 
     /// Answers whether the closed store has a state.
@@ -55,10 +51,7 @@ impl Programs {
                 tells(book.history().len(), answer)
             }
             b"run" => self.gives(None, false, answer),
-            b"words" => {
-                let shown = HandlerId(number(last(line)?)?);
-                self.gives(Some(shown), false, answer)
-            }
+            b"words" => self.gives(Some(handler(line)?), false, answer),
             b"close" => {
                 let book = self.book.take().ok_or(Bad::Command)?;
                 self.keeper = Some(book.into_keeper().into_inner());

@@ -7,14 +7,14 @@
 //! - `@draws TEXT` answers whether the picture has TEXT.
 
 use super::Programs;
-use crate::reading::text_of;
-use crate::telling::{add_error, finds, tells, tells_lines};
+use crate::telling::{add_error, finds, tells_lines};
 use scoop_demo::{Picture, PlayOptions, RunError, world_run_charted};
 use scoop_keeper::MemoryKeeper;
 use scoop_lines::{decimal, two_words};
 use scoop_message::ClientId;
 use scoop_row_player::Bad;
-use scoop_row_player::words::{last, number};
+use scoop_row_player::answers::tells;
+use scoop_row_player::words::{last, number, text_of};
 use std::io::Write;
 
 impl Programs {

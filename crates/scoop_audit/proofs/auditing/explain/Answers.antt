@@ -23,7 +23,7 @@ returns-clause-explains c =
     (λ order weaves none.
     run_explained s js post ms trails order.items c.in_ok-members.ensures.parties c.in_ok-members.ensures.owned
     (subst (λ (xs : List Member). TellMembers s js post xs trails) c.deref.ensures.value (c.in-Ok.ensures.told none))
-    (subst (λ (xs : List (List Passage)). Weaves post xs order.items) c.deref-3.ensures.value weaves)) c.order_of.ensures.order
+    weaves) c.order_of.ensures.order
 
 pub returns-clause-error : goal.returns-clause-error
 returns-clause-error c =
@@ -34,5 +34,4 @@ returns-clause-error c =
     let trails = c.replay_all.new.replayed.trails.items in
     order_failed c.order_of.result s js post ms trails c.in_ok-members.ensures.parties c.in_ok-members.ensures.owned
     (λ none. subst (λ (xs : List Member). TellMembers s js post xs trails) c.deref.ensures.value (c.in-Ok.ensures.told none))
-    (subst (λ (xs : List (List Passage)). (parties : List (List Traffic)) → HaveTraffic post xs parties → IfErr c.order_of.result (IsOrderError parties))
-    c.deref-3.ensures.value c.order_of.ensures.lacks)
+    c.order_of.ensures.lacks

@@ -5,9 +5,9 @@ use Rattle.scoop_audit.proofs.auditing.unsent.Goals as goal
 
 pub returns : goal.returns
 returns c parties have unexplained =
-    let trails = c.args.trails.now in
+    let trails = c.args.replayed.now.trails.items in
     let p = c.args.party in
     let trail = c.in-Some-get.trail.now in
     let at = c.in-Some-get.ensures.lookup in
-    unsent_so c.args.post.now trails parties p c.args.place trail c.in-Some-get-2.next c.in-Some-message.message c.silent_party-silent.result have unexplained
+    unsent_so c.args.replayed.now.post trails parties p c.args.place trail c.in-Some-get-2.next c.in-Some-message.message c.silent_party-silent.result have unexplained
     (slice_get_read trails (length trails) p trail refl at.3.0 at.1) (sym c.in-Some-get-2.ensures.value) (sym c.in-Some-message.ensures)

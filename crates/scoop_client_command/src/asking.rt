@@ -1,0 +1,254 @@
+//! `scoop client`: a client of a system, whose commands are the lines of standard input.
+
+use crate::config::ClientConfig;
+use crate::tasks::{ClientTask, Cut, Input, Program, Script};
+use crate::typed_lines::TypedLines;
+use scoop_command_line::{ClientOptions, StoreChoice};
+use scoop_etcd_stores::Fate;
+use scoop_files::{FiledStore, Named, StoreName, close};
+use scoop_journal::{Journal, JournalFile};
+use scoop_link::UdpLink;
+use scoop_links::{ClientLink, ClientNotes};
+use scoop_message::ClientId;
+use scoop_observed::{NodeJournal, ObservedKeeper, Observers};
+use scoop_opening::{
+    End, OpenStore, check_choice, client_keeper, fated_end, note_owner, open_client, open_journal,
+    read_system, read_text, report_end, report_fault, report_plainly, store_in_client, store_name,
+    with_journal,
+};
+use scoop_pacing::{SlowNotes, SystemTimes};
+use scoop_record::Store;
+use scoop_report::{Hints, Status, hint, report};
+use scoop_runtime::{ClientProgram, ClientRecord, FileFault, check_script, open_client_link};
+use scoop_seal::SealedLink;
+use scoop_system::System;
+use scoop_watch::Unwatched;
+use sqlite::Alter;
+use std::io::{IsTerminal, Stderr};
+use std::net::Net;
+
+/// The link of a client that runs.
+pub type AskingLink<'r> = ClientLink<
+    SealedLink<UdpLink>,
+    SystemTimes<'r, HostRuntime>,
+    SlowNotes<Stderr, SystemTimes<'r, HostRuntime>>,
+>;
+
+/// Runs the client of the options. Its system, its key and its port come first, and then its store.
+pub fn run_client<T: Net>(
+    rt: &HostRuntime,
+    net: &T,
+    options: &ClientOptions<'_>,
+) -> Result<(), Status> {
+    let system = system_of(rt, options)?;
+    run_in(rt, net, options, &system)
+}
+
+// The system of the options, which name a store.
+fn system_of(rt: &HostRuntime, options: &ClientOptions<'_>) -> Result<System, Status> {
+    if let StoreChoice::None = options.store {
+        return Err(report_no_store(rt));
+    }
+    check_choice(rt, options.store)?;
+    read_system(rt, options.system)
+}
+
+fn report_no_store(rt: &HostRuntime) -> Status {
+    report(rt, "a client needs a store");
+    hint(
+        rt,
+        Hints::Always,
+        "use --new FILE for a client that never ran, and --store FILE to resume the store that it made. If that store is lost, \
+        use --new FILE --after N",
+    );
+    Status(2)
+}
+
+// Runs the client of this system, which is borrowed, so that no early return has to drop it.
+fn run_in<T: Net>(
+    rt: &HostRuntime,
+    net: &T,
+    options: &ClientOptions<'_>,
+    system: &System,
+) -> Result<(), Status> {
+    if options.only_cuts {
+        let config = ClientConfig::read(rt, options, system, false)?;
+        return run_task(rt, net, &config, &mut Cut);
+    }
+    let Some(path) = options.lines else {
+        let config = ClientConfig::read(rt, options, system, rt.stdin().is_terminal())?;
+        return run_task(rt, net, &config, &mut Input { net, names: &[] });
+    };
+    let text = read_text(rt, path)?;
+    check_lines(rt, options, system, path, &text)?;
+    let config = ClientConfig::read(rt, options, system, false)?;
+    run_task(rt, net, &config, &mut Script { text: &text })
+}
+
+/// Runs a program as the client of the options. With `only_cuts` it cuts the block of a run that was killed, and the program
+/// doesn't run. The order of what it opens and refuses is that of [`run_client`].
+pub fn run_own_client<T: Net, G: ClientProgram>(
+    rt: &HostRuntime,
+    net: &T,
+    options: &ClientOptions<'_>,
+    program: &mut G,
+) -> Result<(), Status> {
+    let system = system_of(rt, options)?;
+    let config = ClientConfig::read(rt, options, &system, false)?;
+    if options.only_cuts {
+        run_task(rt, net, &config, &mut Cut)
+    } else {
+        run_task(rt, net, &config, &mut Program { program })
+    }
+}
+
+// Checks the lines of a file, before anything is sent.
+fn check_lines(
+    rt: &HostRuntime,
+    options: &ClientOptions<'_>,
+    system: &System,
+    path: &str,
+    text: &str,
+) -> Result<(), Status> {
+    let mut lines = TypedLines::new(text.as_bytes());
+    let client = system.client(ClientId(options.number));
+    match check_script(system, client, &mut lines, &mut rt.stderr()) {
+        Ok(true) => Ok(()),
+        Ok(false) => Err(report_fault(rt, path, "nothing was sent", FileFault::NoScript)),
+        Err(error) => Err(report_plainly(rt, error)),
+    }
+}
+
+// Runs the client for this task, and reports why it ends early.
+fn run_task<T: Net, C: ClientTask>(
+    rt: &HostRuntime,
+    net: &T,
+    config: &ClientConfig<'_>,
+    task: &mut C,
+) -> Result<(), Status> {
+    match run_journaled(rt, net, config, task) {
+        Ok(()) => Ok(()),
+        Err(end) => Err(report_end(rt, &config.party(), end)),
+    }
+}
+
+// Runs the client with its journal, if it writes one.
+fn run_journaled<T: Net, C: ClientTask>(
+    rt: &HostRuntime,
+    net: &T,
+    config: &ClientConfig<'_>,
+    task: &mut C,
+) -> Result<(), End> {
+    let journal = open_journal(rt, config.journal, config.owner())?;
+    let journal = journal.as_ref();
+    let ended = run_at(rt, net, config, journal, task);
+    with_journal(journal, ended)
+}
+
+// Runs the client at its place, over its store, and closes that.
+fn run_at<T: Net, C: ClientTask>(
+    rt: &HostRuntime,
+    net: &T,
+    config: &ClientConfig<'_>,
+    journal: Option<&JournalFile>,
+    task: &mut C,
+) -> Result<(), End> {
+    let link = client_link(rt, net, config)?;
+    let name = store_name(rt.alloc(), config.store)?;
+    let asking = Asking {
+        config,
+        name: name.as_ref(),
+        journal,
+        link,
+    };
+    let client = config.plan.place().client;
+    let (ran, store) = match open_client(rt, config.store, config.after, client) {
+        Ok(store) => run_over(rt, asking, store, task),
+        Err(end) => return Err(end),
+    };
+    closed(ran, store)
+}
+
+// Closes the store of a client that ran so, if it is in a file.
+fn closed(ran: Result<(), End>, store: Option<FiledStore>) -> Result<(), End> {
+    let closed = match store {
+        Some(store) => close(store),
+        None => Ok(()),
+    };
+    ran?;
+    Ok(closed?)
+}
+
+/// The link of a client at its place. Its datagrams are sealed, and go again by measured round trips.
+pub fn client_link<'r, T: Net>(
+    rt: &'r HostRuntime,
+    net: &T,
+    config: &ClientConfig<'_>,
+) -> Result<AskingLink<'r>, End> {
+    let (system, place) = (config.plan.system(), config.plan.place());
+    let link = open_client_link(net, rt.alloc(), system, &place)?;
+    let link = SealedLink::new(link, config.key);
+    let notes = ClientNotes {
+        waits: slow_notes(rt),
+        faults: slow_notes(rt),
+    };
+    let clock = SystemTimes::new(rt);
+    Ok(ClientLink::new(rt.alloc(), link, clock, notes, system, place.client.0)?)
+}
+
+// Standard error, for at most one line a second.
+fn slow_notes(rt: &HostRuntime) -> SlowNotes<Stderr, SystemTimes<'_, HostRuntime>> {
+    SlowNotes::new(rt.stderr(), SystemTimes::new(rt))
+}
+
+/// A client with its link, before it runs.
+#[derive(Drop)]
+pub struct Asking<'a, 'r> {
+    pub config: &'a ClientConfig<'a>,
+    /// The name of its store, if that is a file.
+    pub name: Option<&'a StoreName>,
+    pub journal: Option<&'a JournalFile>,
+    pub link: AskingLink<'r>,
+}
+
+/// Runs the client over its store, which knows its owner from then on, and returns it if it is in a file. The text beside it gets
+/// the client's incarnation.
+pub fn run_over<S: Alter + Drop, C: ClientTask>(
+    rt: &HostRuntime,
+    asking: Asking<'_, '_>,
+    store: OpenStore<'_, S>,
+    task: &mut C,
+) -> (Result<(), End>, Option<Store<S>>) {
+    let Asking {
+        config,
+        name,
+        journal,
+        mut link,
+    } = asking;
+    note_owner(rt, config.store, config.plan.system(), config.owner());
+    let fate = Fate::new();
+    let keeper = client_keeper(rt.alloc(), store, &fate);
+    let observers = Observers {
+        name: match name {
+            Some(name) => Some(Named::new(rt, name)),
+            None => None,
+        },
+        counts: None,
+        journal: None::<NodeJournal<&JournalFile>>,
+        watcher: Unwatched,
+    };
+    let mut record = ClientRecord {
+        store: ObservedKeeper::new(keeper, observers),
+        journal: match journal {
+            Some(file) => Some(Journal::new(rt.alloc(), file)),
+            None => None,
+        },
+    };
+    let ran = task.run(rt, &config.plan, &mut record, &mut link);
+    let ClientRecord { store, .. } = record;
+    let store = store_in_client(store.into_inner());
+    match ran {
+        Ok(()) => (Ok(()), store),
+        Err(end) => (Err(fated_end(&fate, end)), store),
+    }
+}

@@ -1,5 +1,0 @@
-use Rattle.std.proofs.Common.{length}
-use Rattle.scoop_journal_keeper.proofs.opening.+gather_states.Given as goal
-
-abbrev pub decreases-gather_states : goal.decreases-gather_states
-decreases-gather_states g l = length l.handlers.now

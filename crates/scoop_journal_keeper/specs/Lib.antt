@@ -1,2 +1,0 @@
-pub mod Journaled
-pub mod Shared

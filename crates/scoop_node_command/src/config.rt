@@ -1,0 +1,205 @@
+//! What the command line and the system's file say of a node.
+
+use jiff::Timestamp;
+use scoop_command_line::{JournalChoice, LogChoice, NodeOptions, StoreChoice};
+use scoop_journal::Owner;
+use scoop_opening::{
+    End, OpenStore, Party, check_owner, open_node, read_key, report_fault, report_range,
+};
+use scoop_report::{Hints, Status, hint, report};
+use scoop_runtime::{FileFault, Serving};
+use scoop_seal::Key;
+use scoop_status::About;
+use scoop_system::{NodePlace, System};
+use scoop_watch::{LogLevel, Settings};
+use sqlite::{File, FileStore};
+use std::net::SocketAddr;
+
+/// All that is said of a node. It is read once.
+#[derive(Clone, Copy)]
+pub struct NodeConfig<'a> {
+    pub(crate) about: About<'a>,
+    pub(crate) serving: Serving,
+    pub(crate) store: StoreChoice<'a>,
+    pub(crate) journal: JournalChoice<'a>,
+    pub(crate) key: Option<Key>,
+    pub(crate) log: LogLevel,
+    /// The address of its status, if it has one.
+    pub(crate) status: Option<SocketAddr>,
+    /// Whether it goes on if its status can't be served there.
+    pub(crate) may_lack_page: bool,
+}
+
+impl<'a> NodeConfig<'a> {
+    /// The node of these options in this system, with these settings. Reports what is wrong: the number of a node that the file
+    /// lacks, its key, a store of another owner, the clock, the address of its status.
+    pub(crate) fn read(
+        rt: &HostRuntime,
+        options: &NodeOptions<'a>,
+        serving: Serving,
+        system: &'a System,
+    ) -> Result<NodeConfig<'a>, Status> {
+        let place = place_of(rt, options, system)?;
+        let key = read_key(rt, options.key, system)?;
+        check_owner(rt, options.store, system, Owner::Node(options.number))?;
+        let about = About {
+            system,
+            place,
+            store: options.store.path(),
+            is_sealed: key.is_some(),
+            started: now(rt)?,
+        };
+        Ok(NodeConfig {
+            about,
+            serving,
+            store: options.store,
+            journal: options.journal,
+            key,
+            log: level_of(options.log),
+            status: status_of(rt, options.status, &place)?,
+            may_lack_page: options.status.is_none() && place.addresses.as_slice().len() > 1,
+        })
+    }
+
+    /// The node at this place of the system, over this store, without a key, a journal, a log and a status.
+    pub fn plain(
+        rt: &HostRuntime,
+        system: &'a System,
+        place: NodePlace,
+        serving: Serving,
+        store: StoreChoice<'a>,
+    ) -> Result<NodeConfig<'a>, Status> {
+        let about = About {
+            system,
+            place,
+            store: store.path(),
+            is_sealed: false,
+            started: now(rt)?,
+        };
+        Ok(NodeConfig {
+            about,
+            serving: continued(serving, store),
+            store,
+            journal: JournalChoice {
+                path: None,
+                syncs: false,
+            },
+            key: None,
+            log: LogLevel::Off,
+            status: None,
+            may_lack_page: false,
+        })
+    }
+
+    /// The same node at this place.
+    pub(crate) fn at(&self, place: NodePlace) -> NodeConfig<'a> {
+        let mut config = *self;
+        config.about.place = place;
+        config
+    }
+
+    /// Opens its store. An old one in an etcd is taken over.
+    pub fn open<'r>(&self, rt: &'r HostRuntime) -> Result<OpenStore<'r, FileStore<File>>, End> {
+        open_node(rt, self.store, self.about.system, self.about.place.number)
+    }
+
+    /// What a report of its end may name.
+    pub fn party(&self) -> Party<'a> {
+        Party {
+            system: self.about.system,
+            address: self.about.place.address,
+            store: self.store.path(),
+            journal: self.journal.path,
+        }
+    }
+
+    /// The extent of its watch. States are copied only if there is a status that shows them.
+    pub(crate) fn settings(&self) -> Settings {
+        Settings {
+            log: self.log,
+            shows_states: self.status.is_some(),
+        }
+    }
+
+    /// Whether its replies wait for a commit.
+    pub(crate) fn holds(&self) -> bool {
+        self.store.path().is_some() || self.journal.path.is_some()
+    }
+}
+
+/// The settings that the options ask for.
+pub(crate) fn serving_of(rt: &HostRuntime, options: &NodeOptions<'_>) -> Result<Serving, Status> {
+    match Serving::new(options.executors, options.history as usize, options.turns) {
+        Ok(serving) => Ok(continued(serving, options.store)),
+        Err(range) => Err(report_range(rt, range)),
+    }
+}
+
+// The same settings for a node over this store.
+fn continued(serving: Serving, store: StoreChoice<'_>) -> Serving {
+    match store {
+        StoreChoice::Old(_) => serving.going_on(),
+        StoreChoice::New(_) | StoreChoice::None => serving,
+    }
+}
+
+// The node's place in the system.
+fn place_of(
+    rt: &HostRuntime,
+    options: &NodeOptions<'_>,
+    system: &System,
+) -> Result<NodePlace, Status> {
+    let number = options.number;
+    match system.node(number) {
+        Some(place) => Ok(*place),
+        None => Err(report_fault(
+            rt,
+            options.system,
+            format_args!("no node {number}"),
+            FileFault::NoNode,
+        )),
+    }
+}
+
+// The time, which the status shows.
+fn now(rt: &HostRuntime) -> Result<Timestamp, Status> {
+    match Timestamp::now(rt) {
+        Ok(now) => Ok(now),
+        Err(_) => {
+            report(rt, "the clock can't be read");
+            Err(Status(3))
+        }
+    }
+}
+
+fn level_of(choice: LogChoice) -> LogLevel {
+    match choice {
+        LogChoice::Off => LogLevel::Off,
+        LogChoice::Warn => LogLevel::Warn,
+        LogChoice::Info => LogLevel::Info,
+        LogChoice::Debug => LogLevel::Debug,
+    }
+}
+
+// The address of the node's status, if it has one: that of the command line, or else that of the file.
+fn status_of(
+    rt: &HostRuntime,
+    written: Option<&str>,
+    place: &NodePlace,
+) -> Result<Option<SocketAddr>, Status> {
+    let Some(text) = written else {
+        return Ok(place.status);
+    };
+    match text.parse::<SocketAddr>() {
+        Ok(address) => Ok(Some(address)),
+        Err(_) => {
+            report(rt, format_args!("--status {text}: not an address"));
+            hint(
+                rt,
+                Hints::Always,
+                "write an IP address and a port, as in 127.0.0.1:9101",
+            );
+            Err(Status(2))
+        }
+    }
+}

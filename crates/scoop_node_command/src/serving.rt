@@ -1,0 +1,150 @@
+//! `scoop node`: a node of a system, over UDP.
+
+use crate::config::{NodeConfig, serving_of};
+use crate::host::{Host, run_beside};
+use crate::page::{Screen, open_server};
+use scoop_command_line::{NodeOptions, StoreChoice};
+use scoop_etcd_stores::Fate;
+use scoop_files::FiledStore;
+use scoop_journal::Owner;
+use scoop_link::UdpLink;
+use scoop_opening::{
+    End, OpenStore, check_choice, close_store, fated_end, node_end, node_keeper, open_journal,
+    read_system, report_end, store_in_node, store_name, with_journal,
+};
+use scoop_record::Store;
+use scoop_report::{Hints, Status, hint, report};
+use scoop_runtime::Objects;
+use scoop_status::Log;
+use scoop_status_server::Server;
+use sqlite::{Alter, File, FileStore};
+use std::net::Net;
+use std::sync::Wait;
+use std::thread::Threads;
+use std::time::Clock;
+
+/// Serves the node of the options, whose objects these make. Its system, its key and its port come first, and then its store.
+pub fn serve_node<T: Threads + Wait + Clock + Net + Sync, O: Objects + Sync>(
+    rt: &HostRuntime,
+    threads: &T,
+    options: &NodeOptions<'_>,
+    objects: O,
+) -> Result<(), Status> {
+    require_store(rt, options)?;
+    check_choice(rt, options.store)?;
+    let serving = serving_of(rt, options)?;
+    let system = read_system(rt, options.system)?;
+    let config = NodeConfig::read(rt, options, serving, &system)?;
+    match serve(rt, threads, &config, objects) {
+        Ok(()) => Ok(()),
+        Err(end) => Err(report_end(rt, &config.party(), end)),
+    }
+}
+
+// A node has either a store or the option `--volatile`.
+fn require_store(rt: &HostRuntime, options: &NodeOptions<'_>) -> Result<(), Status> {
+    let (fault, advice) = match (options.store, options.is_volatile) {
+        (StoreChoice::None, false) => (
+            "a node needs a store",
+            "name one by --new or --store, or say --volatile for a trial: then a restart forgets what was acknowledged",
+        ),
+        (StoreChoice::New(_) | StoreChoice::Old(_), true) => (
+            "--volatile with a store",
+            "leave one of them out",
+        ),
+        _ => return Ok(()),
+    };
+    report(rt, fault);
+    hint(rt, Hints::Always, advice);
+    Err(Status(2))
+}
+
+// Serves the node with its journal, if it writes one. The port of its status comes after its own, and then its store.
+fn serve<T: Threads + Wait + Clock + Net + Sync, O: Objects + Sync>(
+    rt: &HostRuntime,
+    threads: &T,
+    config: &NodeConfig<'_>,
+    objects: O,
+) -> Result<(), End> {
+    let journal = open_journal(rt, config.journal, Owner::Node(config.about.place.number))?;
+    let journal = journal.as_ref();
+    let name = store_name(rt.alloc(), config.store)?;
+    let ended = match Host::open(rt, threads, config, objects, journal, name.as_ref()) {
+        Ok((host, link)) => match open_behind(rt, &host) {
+            Ok((server, store)) => {
+                let (ended, store) = serve_over(rt, threads, &host, link, server, store);
+                closed(&host, ended, store)
+            }
+            Err(end) => Err(end),
+        },
+        Err(end) => Err(end),
+    };
+    with_journal(journal, ended)
+}
+
+// The server of the node's status, if it has one, and its store.
+fn open_behind<'r, O: Objects>(
+    rt: &'r HostRuntime,
+    host: &Host<'_, O>,
+) -> Result<(Option<Server>, OpenStore<'r, FileStore<File>>), End> {
+    let config = host.config();
+    let server = open_server(rt, config)?;
+    if let StoreChoice::None = config.store {
+        report(
+            rt,
+            "no store: if this node restarts, it forgets what it acknowledged, which breaks the promise",
+        );
+    }
+    match config.open(rt) {
+        Ok(store) => Ok((server, store)),
+        Err(end) => Err(end),
+    }
+}
+
+// Closes the store of a node that ended so, if it is in a file.
+fn closed<O: Objects>(
+    host: &Host<'_, O>,
+    ended: Result<(), End>,
+    store: Option<FiledStore>,
+) -> Result<(), End> {
+    match (ended, host.name()) {
+        (Ok(()), Some(name)) => Ok(close_store(store, name)?),
+        (ended, _) => ended,
+    }
+}
+
+// Serves the node over its store, and returns it if it is in a file and the node ended in peace. Refuses one that is older than
+// the text beside it says. The node ends if a file loses its name, or another program takes over a store in an etcd.
+fn serve_over<S, T, O>(
+    rt: &HostRuntime,
+    threads: &T,
+    host: &Host<'_, O>,
+    link: UdpLink,
+    server: Option<Server>,
+    store: OpenStore<'_, S>,
+) -> (Result<(), End>, Option<Store<S>>)
+where
+    S: Alter + Drop + Send,
+    T: Threads + Wait + Clock + Net + Sync,
+    O: Objects + Sync,
+{
+    let config = host.config();
+    let about = &config.about;
+    let fate = Fate::new();
+    let mut keeper = node_keeper(rt.alloc(), store, &fate);
+    if let Err(status) = host.go_on(rt, &mut keeper) {
+        return (Err(End::from(status)), None);
+    }
+    let screen = Screen {
+        threads,
+        alloc: rt.alloc(),
+        watch: host.watch(),
+        about,
+        server,
+        log: Log::new(rt.stderr(), about.place.number, config.log),
+    };
+    match run_beside(rt, threads, host, link, keeper, screen) {
+        Ok(keeper) => (Ok(()), store_in_node(keeper)),
+        Err(error) => (Err(fated_end(&fate, node_end(host.name(), error))), None),
+    }
+}

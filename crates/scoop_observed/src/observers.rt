@@ -1,0 +1,84 @@
+//! Who observes a keeper, and what they do at its calls.
+
+ghost use Rattle.std.specs.Prelude.{◌≡◌, ◌⊎◌, true, None, Some, Ok, Err, IfErr, IfSome, IsSome, OnOk, OnErr};
+ghost use Rattle.std.specs.Option.{option_map};
+ghost use Rattle.scoop_keeper.specs.Keeper.{IsPutError, IsSame, Keeps, Stays};
+ghost use Rattle.scoop_observed.specs.Observed.{IsPut, answered, untold};
+
+use crate::node_journal::NodeJournal;
+use scoop_files::Named;
+use scoop_handler::HandlerState;
+use scoop_keeper::{Keeper, KeeperError};
+use scoop_node_link::NodeCounts;
+use std::alloc::Global;
+use std::io::Write;
+
+/// Who observes a keeper. A client's keeper has a name alone.
+#[derive(Drop)]
+pub struct Observers<'a, O, W: Write + Drop> {
+    /// The name of the keeper's store, which is open. A put or commit whose name is lost is refused.
+    pub name: Option<Named<'a>>,
+    /// Counts of the states, which are raised before each put.
+    pub counts: Option<&'a NodeCounts>,
+    /// The journal of the keeper's node.
+    pub journal: Option<NodeJournal<W>>,
+    /// The watcher of the keeper, which is told of each call after it was made.
+    pub watcher: O,
+}
+
+impl<'a, O: Drop, W: Write + Drop> Observers<'a, O, W> {
+    // The name looks at its file once more.
+    pub(crate) fn end(self) {
+        let Observers { name, .. } = self;
+        match name {
+            Some(name) => name.end(),
+            None => {}
+        }
+    }
+}
+
+/// Puts the state, if its name isn't lost, and notes its marks for the name. The counts are raised before the put.
+pub(crate) fn put_named<K: Keeper<Global>>(
+    keeper: &mut K,
+    name: &mut Option<Named<'_>>,
+    counts: Option<&NodeCounts>,
+    state: &HandlerState,
+) -> Result<(), KeeperError>
+    ensures put { IsPut (λ own. K.put_gives keeper.old state.now own keeper.new) name.old keeper.old keeper.new result }
+    ensures name { name.new ≡ name.old }
+    ensures stored { K.is_honest keeper.new → OnOk result (Keeps (K.handlers keeper.old) (K.handlers keeper.new) state.now) }
+    ensures incarnations { K.is_honest keeper.new → IsSame (K.incarnations keeper.old) (K.incarnations keeper.new) }
+    ensures refused { K.is_honest keeper.new → OnErr result (Stays (K.handlers keeper.old) (K.handlers keeper.new)) }
+    ensures named { IfErr result IsPutError }
+    ensures honest { K.is_honest keeper.new → K.is_honest keeper.old }
+{
+    if let Some(name) = name {
+        if !name.passes() {
+            return Err(KeeperError::Refused);
+        }
+    }
+    if let Some(counts) = counts {
+        counts.count_change(state.handler());
+    }
+    let put = keeper.put_handler(state);
+    if put.is_ok() {
+        if let Some(name) = name {
+            name.note(state);
+        }
+    }
+    put
+}
+
+/// The result of a put, with what it says of its own, by the journal.
+pub(crate) fn judge<W: Write + Drop>(
+    journal: &mut Option<NodeJournal<W>>,
+    put: Result<(), KeeperError>,
+) -> Result<(), KeeperError>
+    ensures answer { result ≡ answered journal.old put }
+    ensures journal { journal.new ≡ option_map untold journal.old }
+{
+    match journal {
+        Some(journal) => journal.judge(put),
+        None => put,
+    }
+}

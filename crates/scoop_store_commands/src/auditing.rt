@@ -1,0 +1,217 @@
+//! `scoop audit`: whether the journals of a system's parties are those of one run.
+
+use scoop_audit::{
+    AuditError, Explained, Fault, Journal, Move, Wrong, audit, chart_of, print_explained,
+    unexplained_text,
+};
+use scoop_chart::{Chart, ChartError};
+use scoop_command_line::AuditOptions;
+use scoop_errors::PartyError;
+use scoop_message::OutOfMemory;
+use scoop_opening::{read_system, report_plainly};
+use scoop_report::{Hints, Status, hint_of_file, report};
+use scoop_runtime::RuntimeError;
+use scoop_system::System;
+use std::alloc::Global;
+use std::fs::File;
+use std::io::{BufWriter, ErrorKind, Write};
+use std::{fs, io};
+
+// The status of a run without an explanation.
+const UNEXPLAINED: u8 = 1;
+
+// The status of a journal that can't be read.
+const UNREAD: u8 = 3;
+
+// Reports that there is no memory.
+fn report_memory(rt: &HostRuntime) -> Status {
+    report_plainly(rt, RuntimeError::from(OutOfMemory))
+}
+
+// The bytes of a journal.
+fn read_journal(rt: &HostRuntime, path: &str) -> Result<Vec<u8>, Status> {
+    match fs::read(rt, path) {
+        Ok(bytes) => Ok(bytes),
+        Err(error) => Err(report_unread(rt, path, &error)),
+    }
+}
+
+fn report_unread(rt: &HostRuntime, path: &str, error: &io::Error) -> Status {
+    let wrong = match error.kind() {
+        ErrorKind::OutOfMemory => return report_memory(rt),
+        ErrorKind::NotFound => "there is no such file",
+        _ => "the file could not be read",
+    };
+    report(rt, format_args!("{path}: {wrong}"));
+    let advice = "check the name of the journal, and that you may read it";
+    hint_of_file(rt, Hints::Always, path, advice);
+    Status(UNREAD)
+}
+
+// Reports a fault of the journal at this place.
+fn report_fault(rt: &HostRuntime, paths: &[&str], place: usize, line: u64, fault: Fault) -> Status {
+    let path = path_at(paths, place);
+    match fault {
+        Fault::Twice(_, other) => {
+            let first = path_at(paths, other);
+            report(rt, format_args!("{path}: line {line}: {fault}: {first}"));
+        }
+        _ => report(rt, format_args!("{path}: line {line}: {fault}")),
+    }
+    let advice = "name each party's journal once, and the system's file with which it was written";
+    hint_of_file(rt, Hints::Always, path, advice);
+    Status(UNREAD)
+}
+
+fn path_at<'a>(paths: &'a [&'a str], place: usize) -> &'a str {
+    match paths.get(place) {
+        Some(path) => path,
+        None => "",
+    }
+}
+
+// Prints why a move has no explanation.
+fn report_unexplained(rt: &HostRuntime, found: &Move, wrong: &Wrong) -> Status {
+    let mut text = String::new(rt.alloc());
+    match unexplained_text(found, wrong, &mut text) {
+        Ok(()) => {}
+        Err(_) => return report_memory(rt),
+    }
+    match println!(rt; "unexplained: {text}") {
+        Ok(()) => Status(UNEXPLAINED),
+        Err(_) => report_plainly(rt, RuntimeError::from(PartyError::Write)),
+    }
+}
+
+// Reports why there is no explanation.
+fn report_error(rt: &HostRuntime, paths: &[&str], error: AuditError) -> Status {
+    match error {
+        AuditError::OutOfMemory => report_memory(rt),
+        AuditError::Fault(place, line, fault) => report_fault(rt, paths, place, line, fault),
+        AuditError::Unexplained(found, wrong) => report_unexplained(rt, &found, &wrong),
+    }
+}
+
+// Prints the run and its order.
+fn print_run(rt: &HostRuntime, run: &Explained, lists_blocks: bool) -> Result<(), PartyError> {
+    let mut output = BufWriter::new(rt.alloc(), io::writer(rt)).map_err(|_| OutOfMemory)?;
+    let printed = print_explained(rt.alloc(), run, lists_blocks, &mut output);
+    if printed.is_ok() && output.flush().is_ok() {
+        Ok(())
+    } else {
+        Err(PartyError::Write)
+    }
+}
+
+// Reports that the moves have more rows than a chart shows.
+fn report_long(rt: &HostRuntime, path: &str) -> Status {
+    report(
+        rt,
+        "chart: a chart shows at most 2000 rows, and these moves have more",
+    );
+    let advice = "it is not written: choose fewer moves by --from and --to";
+    hint_of_file(rt, Hints::Always, path, advice);
+    Status(UNEXPLAINED)
+}
+
+// Writes the chart of the moves that are chosen into this file.
+fn draw(
+    rt: &HostRuntime,
+    system: &System,
+    run: &Explained,
+    options: &AuditOptions<'_>,
+    path: &str,
+) -> Result<(), Status> {
+    match chart_of(rt.alloc(), system, run, options.from, options.to) {
+        Ok(chart) => write_chart(rt, &chart, path),
+        Err(ChartError::TooLong) => Err(report_long(rt, path)),
+        Err(ChartError::OutOfMemory) => Err(report_memory(rt)),
+    }
+}
+
+fn write_chart(rt: &HostRuntime, chart: &Chart, path: &str) -> Result<(), Status> {
+    match File::create(rt, path) {
+        Ok(file) => write_into(rt, chart, file, path),
+        Err(_) => Err(report_unwritten(rt, path)),
+    }
+}
+
+fn write_into(rt: &HostRuntime, chart: &Chart, file: File, path: &str) -> Result<(), Status> {
+    let Ok(mut output) = BufWriter::new(rt.alloc(), file) else {
+        return Err(report_memory(rt));
+    };
+    if chart.draw(&mut output).is_ok() && output.flush().is_ok() {
+        Ok(())
+    } else {
+        Err(report_unwritten(rt, path))
+    }
+}
+
+// Reports that the chart's file could not be written.
+fn report_unwritten(rt: &HostRuntime, path: &str) -> Status {
+    report(rt, "chart: the file could not be written");
+    let advice =
+        "check that its folder exists, that you may write the file, and that the disk has room";
+    hint_of_file(rt, Hints::Always, path, advice);
+    Status(UNREAD)
+}
+
+/// Audits the run that the journals tell, and prints its explanation.
+pub fn explain(rt: &HostRuntime, options: &AuditOptions<'_>) -> Result<(), Status> {
+    let system = read_system(rt, options.system)?;
+    let contents = read_journals(rt, options.journals)?;
+    explain_all(rt, &system, &contents, options)
+}
+
+// The bytes of the journals, each.
+fn read_journals(rt: &HostRuntime, paths: &[&str]) -> Result<Vec<Vec<u8>>, Status> {
+    let mut contents = Vec::new(rt.alloc());
+    for path in paths {
+        let bytes = read_journal(rt, path)?;
+        if contents.push(bytes).is_err() {
+            return Err(report_memory(rt));
+        }
+    }
+    Ok(contents)
+}
+
+// Audits the run that these journals tell. It borrows them and the system, so that no early return has to drop these.
+fn explain_all(
+    rt: &HostRuntime,
+    system: &System,
+    contents: &[Vec<u8>],
+    options: &AuditOptions<'_>,
+) -> Result<(), Status> {
+    let Ok(journals) = journals_of(rt.alloc(), contents) else {
+        return Err(report_memory(rt));
+    };
+    match audit(rt.alloc(), system, &journals, options.chart.is_some()) {
+        Ok(run) => show_run(rt, system, &run, options),
+        Err(error) => Err(report_error(rt, options.journals, error)),
+    }
+}
+
+fn journals_of(alloc: Global, contents: &[Vec<u8>]) -> Result<Vec<Journal<'_>>, OutOfMemory> {
+    let mut journals = Vec::new(alloc);
+    for bytes in contents {
+        journals.push(Journal { bytes }).map_err(OutOfMemory::from)?;
+    }
+    Ok(journals)
+}
+
+// Prints the run, and draws its chart if the options ask for one.
+fn show_run(
+    rt: &HostRuntime,
+    system: &System,
+    run: &Explained,
+    options: &AuditOptions<'_>,
+) -> Result<(), Status> {
+    match print_run(rt, run, options.lists_blocks) {
+        Ok(()) => {}
+        Err(error) => return Err(report_plainly(rt, RuntimeError::from(error))),
+    }
+    match options.chart {
+        Some(path) => draw(rt, system, run, options, path),
+        None => Ok(()),
+    }
+}

@@ -1,0 +1,114 @@
+//! Nodes in threads of this process, beside a task.
+
+use scoop_files::StoreName;
+use scoop_keeper::SharedKeeper;
+use scoop_link::UdpLink;
+use scoop_node_command::{Host, Task};
+use scoop_opening::{node_end, report_end};
+use scoop_report::{Hints, Status, hint, report};
+use scoop_runtime::{Ending, RuntimeError, Tables};
+use std::alloc::Global;
+use std::io::Write;
+use std::sync::Wait;
+use std::thread;
+use std::thread::Threads;
+use std::time::Clock;
+
+/// A node with its port and its keeper, which its thread has while it runs.
+#[derive(Drop)]
+pub(crate) struct Hosted<'a, K: SharedKeeper<Global>> {
+    host: Host<'a, Tables>,
+    link: Option<UdpLink>,
+    keeper: Option<K>,
+    error: Option<RuntimeError>,
+}
+
+impl<'a, K: SharedKeeper<Global> + Send> Hosted<'a, K> {
+    /// The node over this keeper, before it runs.
+    pub(crate) fn new(host: Host<'a, Tables>, link: UdpLink, keeper: K) -> Hosted<'a, K> {
+        Hosted {
+            host,
+            link: Some(link),
+            keeper: Some(keeper),
+            error: None,
+        }
+    }
+
+    // Runs the node until it is asked to end. If it ends early, a line says so at once. Its lines go to standard error.
+    fn run<T: Threads + Wait + Clock + Sync>(
+        &mut self,
+        rt: &HostRuntime,
+        threads: &T,
+        ending: &Ending,
+    ) {
+        let (Some(link), Some(keeper)) = (self.link.take(), self.keeper.take()) else {
+            return;
+        };
+        match self
+            .host
+            .run(rt, threads, link, keeper, rt.stderr(), ending)
+        {
+            Ok(keeper) => self.keeper = Some(keeper),
+            Err(error) => {
+                let _told = writeln!(rt.stderr(), "scoop: a node has ended: {error}");
+                self.error = Some(error);
+            }
+        }
+    }
+
+    /// Reports why the node ended early, if it did.
+    pub(crate) fn report(&self, rt: &HostRuntime) -> Result<(), Status> {
+        let Some(error) = self.error else {
+            return Ok(());
+        };
+        let end = node_end(self.host.name(), error);
+        Err(report_end(rt, &self.host.config().party(), end))
+    }
+
+    /// The keeper, unless the node ended early.
+    pub(crate) fn into_keeper(self) -> Option<K> {
+        let Hosted { keeper, .. } = self;
+        keeper
+    }
+}
+
+/// Starts a thread for each node, does the task in this one, asks the nodes to end, and waits for all.
+pub(crate) fn run_beside<K, S, T, E>(
+    rt: &HostRuntime,
+    threads: &T,
+    nodes: &mut [Hosted<'_, K>],
+    task: S,
+) -> E
+where
+    K: SharedKeeper<Global> + Send,
+    S: Task<E>,
+    T: Threads + Wait + Clock + Sync,
+{
+    let ending = Ending::new();
+    let ending = &ending;
+    thread::scope(thread::scope_env(), threads, move |scope| {
+        for node in nodes.iter_mut() {
+            let spawned = scope.spawn(move || node.run(rt, threads, ending));
+            if spawned.is_err() {
+                report_no_thread(rt);
+            }
+        }
+        let ran = task.run();
+        ending.ask();
+        ran
+    })
+}
+
+fn report_no_thread(rt: &HostRuntime) {
+    report(rt, "a node has no thread");
+    hint(
+        rt,
+        Hints::Always,
+        "the operating system refuses more threads: end other programs",
+    );
+}
+
+/// The first of these names that its store has lost.
+pub(crate) fn lost<'n>(names: &'n [StoreName]) -> Option<&'n StoreName> {
+    names.iter().find(|name| name.is_lost())
+}

@@ -1,0 +1,457 @@
+//! `scoop up`: all nodes of a system in one process, and a client.
+
+use crate::hosted::{Hosted, lost, run_beside};
+use scoop_client_command::{Asking, ClientConfig, Input, client_link, run_over};
+use scoop_command_line::{JournalChoice, StoreChoice, UpOptions};
+use scoop_etcd_place::begins_as_etcd;
+use scoop_etcd_stores::Fate;
+use scoop_files::{FileError, FiledStore, StoreName, report_file};
+use scoop_journal::Owner;
+use scoop_link::UdpLink;
+use scoop_message::{ClientId, OutOfMemory};
+use scoop_node_command::{Host, NodeConfig, Task};
+use scoop_opening::{
+    End, NodeKeeper, OpenStore, check_owner, choice_of, close_store, make_folder, node_keeper,
+    open_client, read_system, report_end, report_fault, report_plainly, report_range,
+    store_in_node, store_path,
+};
+use scoop_record::Store;
+use scoop_report::{Hints, Status, hint, report};
+use scoop_runtime::{ClientPlan, FileFault, OutOfRange, RuntimeError, Serving, Tables};
+use scoop_system::{ClientPlace, System};
+use sqlite::{Alter, File, FileStore};
+use std::io::IsTerminal;
+use std::net::Net;
+use std::sync::Wait;
+use std::thread::Threads;
+use std::time::Clock;
+
+// The settings of the nodes: those that `scoop node` has by default.
+const EXECUTORS: u32 = 2;
+
+const HISTORY: usize = 100_000;
+
+// The turns of a command of the client: those that `scoop client` has by default.
+const TURNS: u64 = 100_000;
+
+/// Runs all nodes of the options' system, and a client whose commands are the lines of standard input. At the end of the
+/// client the nodes are asked to end.
+pub fn run_up<T: Threads + Wait + Clock + Net + Sync>(
+    rt: &HostRuntime,
+    threads: &T,
+    options: &UpOptions<'_>,
+) -> Result<(), Status> {
+    require_folder(rt, options)?;
+    let serving = match Serving::new(EXECUTORS, HISTORY, u64::MAX) {
+        Ok(serving) => serving,
+        Err(range) => return Err(report_range(rt, range)),
+    };
+    let system = read_system(rt, options.system)?;
+    let Some(place) = client_place(&system, options.client) else {
+        return Err(report_no_client(rt, options));
+    };
+    match plan_of(rt, &system, place, options.is_strict) {
+        Ok(plan) => run_in(rt, threads, options, serving, &plan),
+        Err(range) => Err(report_range(rt, range)),
+    }
+}
+
+// Refuses a place in an etcd: the stores are files of a folder.
+fn require_folder(rt: &HostRuntime, options: &UpOptions<'_>) -> Result<(), Status> {
+    match options.dir {
+        Some(dir) if begins_as_etcd(dir) => {}
+        _ => return Ok(()),
+    }
+    report(rt, "--dir takes a folder, and no etcd");
+    hint(
+        rt,
+        Hints::Always,
+        "run the nodes over an etcd by scoop node N --system FILE --new etcd://HOST:PORT/NAME",
+    );
+    Err(Status(2))
+}
+
+// Reports that the system's file lacks the client that the options name, or any client.
+fn report_no_client(rt: &HostRuntime, options: &UpOptions<'_>) -> Status {
+    let (path, fault) = (options.system, FileFault::NoClient);
+    match options.client {
+        Some(number) => report_fault(rt, path, format_args!("no client {number}"), fault),
+        None => report_fault(rt, path, "it has no clients", fault),
+    }
+}
+
+// The client that the options name, or the first one.
+fn client_place(system: &System, client: Option<u32>) -> Option<&ClientPlace> {
+    match client {
+        Some(number) => system.client(ClientId(number)),
+        None => system.clients().first(),
+    }
+}
+
+fn plan_of<'a>(
+    rt: &HostRuntime,
+    system: &'a System,
+    place: &ClientPlace,
+    is_strict: bool,
+) -> Result<ClientPlan<'a>, OutOfRange> {
+    let is_typed = rt.stdin().is_terminal();
+    if is_strict {
+        ClientPlan::new_strict(system, *place, TURNS, is_typed)
+    } else {
+        ClientPlan::new(system, *place, TURNS, is_typed)
+    }
+}
+
+// Runs the parties over stores in the folder of the options, or over memory alone.
+fn run_in<T: Threads + Wait + Clock + Net + Sync>(
+    rt: &HostRuntime,
+    threads: &T,
+    options: &UpOptions<'_>,
+    serving: Serving,
+    plan: &ClientPlan<'_>,
+) -> Result<(), Status> {
+    match options.dir {
+        Some(dir) => make_folder(rt, dir)?,
+        None => report(rt, "no --dir: nothing is stored"),
+    }
+    let paths = paths_of(rt, plan, options.dir)?;
+    let stores = choices_of(rt, &paths)?;
+    let names = names_of(rt, &paths)?;
+    let nodes = nodes_of(rt, plan, serving, &stores)?;
+    let client = client_of(rt, plan, &stores)?;
+    let parties = Parties {
+        nodes: &nodes,
+        client: &client,
+        names: &names,
+    };
+    run_parties(rt, threads, &parties)
+}
+
+// ---- what is known before anything is opened
+
+// The nodes and the client, and the names of their stores in files, in this order. Without a folder there are no names.
+#[derive(Clone, Copy)]
+struct Parties<'a> {
+    nodes: &'a [NodeConfig<'a>],
+    client: &'a ClientConfig<'a>,
+    names: &'a [StoreName],
+}
+
+impl<'a> Parties<'a> {
+    // The names of the nodes' stores.
+    fn node_names(&self) -> &'a [StoreName] {
+        match self.names {
+            [nodes @ .., _client] => nodes,
+            [] => &[],
+        }
+    }
+
+    // The name of the client's store, if it is in a file.
+    fn client_name(&self) -> Option<&'a StoreName> {
+        self.names.last()
+    }
+}
+
+fn no_memory(rt: &HostRuntime) -> Status {
+    report_plainly(rt, RuntimeError::from(OutOfMemory))
+}
+
+// Puts it behind the others.
+fn put<T>(rt: &HostRuntime, list: &mut Vec<T>, it: T) -> Result<(), Status> {
+    match list.push(it) {
+        Ok(()) => Ok(()),
+        Err(_) => Err(no_memory(rt)),
+    }
+}
+
+// The files of the parties' stores in the folder, the client's last. None without a folder.
+fn paths_of(
+    rt: &HostRuntime,
+    plan: &ClientPlan<'_>,
+    dir: Option<&str>,
+) -> Result<Vec<String>, Status> {
+    let mut paths = Vec::new(rt.alloc());
+    let Some(dir) = dir else {
+        return Ok(paths);
+    };
+    for place in plan.system().nodes() {
+        put(rt, &mut paths, store_path(rt, dir, "node", place.number)?)?;
+    }
+    let client = plan.place().client.0;
+    put(rt, &mut paths, store_path(rt, dir, "client", client)?)?;
+    Ok(paths)
+}
+
+// The stores in these files; new ones where there is no file.
+fn choices_of<'p>(rt: &HostRuntime, paths: &'p [String]) -> Result<Vec<StoreChoice<'p>>, Status> {
+    let mut choices = Vec::new(rt.alloc());
+    for path in paths {
+        put(rt, &mut choices, choice_of(rt, path.as_str())?)?;
+    }
+    Ok(choices)
+}
+
+fn names_of(rt: &HostRuntime, paths: &[String]) -> Result<Vec<StoreName>, Status> {
+    let mut names = Vec::new(rt.alloc());
+    for path in paths {
+        match StoreName::new(rt.alloc(), path.as_str()) {
+            Ok(name) => put(rt, &mut names, name)?,
+            Err(_) => return Err(no_memory(rt)),
+        }
+    }
+    Ok(names)
+}
+
+// The nodes of the system over these stores. Refuses a store of another owner.
+fn nodes_of<'a>(
+    rt: &HostRuntime,
+    plan: &ClientPlan<'a>,
+    serving: Serving,
+    stores: &[StoreChoice<'a>],
+) -> Result<Vec<NodeConfig<'a>>, Status> {
+    let system = plan.system();
+    let mut nodes = Vec::new(rt.alloc());
+    for (at, place) in system.nodes().iter().enumerate() {
+        let store = stores.get(at).copied().unwrap_or(StoreChoice::None);
+        check_owner(rt, store, system, Owner::Node(place.number))?;
+        let config = NodeConfig::plain(rt, system, *place, serving, store)?;
+        put(rt, &mut nodes, config)?;
+    }
+    Ok(nodes)
+}
+
+// The client over the last of these stores.
+fn client_of<'a>(
+    rt: &HostRuntime,
+    plan: &ClientPlan<'a>,
+    stores: &[StoreChoice<'a>],
+) -> Result<ClientConfig<'a>, Status> {
+    let store = stores.last().copied().unwrap_or(StoreChoice::None);
+    check_owner(rt, store, plan.system(), Owner::Client(plan.place().client))?;
+    Ok(ClientConfig {
+        plan: *plan,
+        store,
+        after: None,
+        journal: JournalChoice {
+            path: None,
+            syncs: false,
+        },
+        key: None,
+    })
+}
+
+// ---- opening
+
+// A node at its place, with its port.
+type Opened<'a> = (Host<'a, Tables>, UdpLink);
+
+// Opens the ports of the nodes.
+fn open_hosts<'a, T: Net>(
+    rt: &HostRuntime,
+    net: &T,
+    parties: &Parties<'a>,
+    hosts: &mut Vec<Opened<'a>>,
+) -> Result<(), Status> {
+    for (at, config) in parties.nodes.iter().enumerate() {
+        let name = parties.node_names().get(at);
+        match Host::open(rt, net, config, Tables, None, name) {
+            Ok(opened) => put(rt, hosts, opened)?,
+            Err(end) => return Err(report_end(rt, &config.party(), end)),
+        }
+    }
+    Ok(())
+}
+
+// Opens the stores of the nodes, and then the client's.
+fn open_stores<'r>(
+    rt: &'r HostRuntime,
+    parties: &Parties<'_>,
+    stores: &mut Vec<OpenStore<'r, FileStore<File>>>,
+) -> Result<(), Status> {
+    for config in parties.nodes {
+        match config.open(rt) {
+            Ok(store) => put(rt, stores, store)?,
+            Err(end) => return Err(report_end(rt, &config.party(), end)),
+        }
+    }
+    let client = parties.client;
+    match open_client(rt, client.store, None, client.plan.place().client) {
+        Ok(store) => put(rt, stores, store),
+        Err(end) => Err(report_end(rt, &client.party(), end)),
+    }
+}
+
+// ---- running
+
+// How the client and the nodes ended, and the stores that are left, the client's last.
+#[derive(Drop)]
+struct Left<S: Alter + Drop> {
+    ran: Result<(), Status>,
+    ended: Result<(), Status>,
+    stores: Vec<Option<Store<S>>>,
+}
+
+// Runs the parties. All ports and stores are opened before anything runs.
+fn run_parties<T: Threads + Wait + Clock + Net + Sync>(
+    rt: &HostRuntime,
+    threads: &T,
+    parties: &Parties<'_>,
+) -> Result<(), Status> {
+    let mut hosts = Vec::new(rt.alloc());
+    open_hosts(rt, threads, parties, &mut hosts)?;
+    let link = match client_link(rt, threads, parties.client) {
+        Ok(link) => link,
+        Err(end) => return Err(report_end(rt, &parties.client.party(), end)),
+    };
+    let asking = Asking {
+        config: parties.client,
+        name: parties.client_name(),
+        journal: None,
+        link,
+    };
+    let mut stores = Vec::new(rt.alloc());
+    open_stores(rt, parties, &mut stores)?;
+    closed(
+        rt,
+        parties,
+        run_over_stores(rt, threads, parties, hosts, asking, stores),
+    )
+}
+
+// Runs the nodes and the client over their stores.
+fn run_over_stores<S, T>(
+    rt: &HostRuntime,
+    threads: &T,
+    parties: &Parties<'_>,
+    hosts: Vec<Opened<'_>>,
+    asking: Asking<'_, '_>,
+    mut stores: Vec<OpenStore<'_, S>>,
+) -> Left<S>
+where
+    S: Alter + Drop + Send,
+    T: Threads + Wait + Clock + Net + Sync,
+{
+    let store = stores.pop().unwrap_or(OpenStore::Memory);
+    let fate = Fate::new();
+    let mut nodes = Vec::new(rt.alloc());
+    if let Err(status) = host_all(rt, hosts, stores, &fate, &mut nodes) {
+        return Left {
+            ran: Err(status),
+            ended: Ok(()),
+            stores: Vec::new(rt.alloc()),
+        };
+    }
+    let client = Beside {
+        rt,
+        net: threads,
+        asking,
+        store,
+        names: parties.node_names(),
+    };
+    let (ran, store) = run_beside(rt, threads, nodes.as_mut_slice(), client);
+    let ran = match ran {
+        Ok(()) => Ok(()),
+        Err(end) => Err(report_end(rt, &parties.client.party(), end)),
+    };
+    left(rt, ran, nodes, store)
+}
+
+// Puts each node over its store.
+fn host_all<'a, 'f, 'r, S: Alter + Drop + Send>(
+    rt: &HostRuntime,
+    hosts: Vec<Opened<'a>>,
+    stores: Vec<OpenStore<'r, S>>,
+    fate: &'f Fate,
+    nodes: &mut Vec<Hosted<'a, NodeKeeper<'f, 'r, S>>>,
+) -> Result<(), Status> {
+    for ((host, link), store) in hosts.into_iter().zip(stores) {
+        let mut keeper = node_keeper(rt.alloc(), store, fate);
+        host.go_on(rt, &mut keeper)?;
+        put(rt, nodes, Hosted::new(host, link, keeper))?;
+    }
+    Ok(())
+}
+
+// The client, before it runs over its store with the lines of standard input. It ends when a store of these names is lost.
+#[derive(Drop)]
+struct Beside<'a, 'r, 'n, S: Alter + Drop, T: Net> {
+    rt: &'r HostRuntime,
+    net: &'a T,
+    asking: Asking<'a, 'r>,
+    store: OpenStore<'r, S>,
+    names: &'n [StoreName],
+}
+
+impl<'a, 'r, 'n, S: Alter + Drop, T: Net> Task<(Result<(), End>, Option<Store<S>>)>
+    for Beside<'a, 'r, 'n, S, T> {
+    fn run(self) -> (Result<(), End>, Option<Store<S>>) {
+        let Beside {
+            rt,
+            net,
+            asking,
+            store,
+            names,
+        } = self;
+        run_over(rt, asking, store, &mut Input { net, names })
+    }
+}
+
+// What is left when all have ended. Reports each node that ended early.
+fn left<S: Alter + Drop + Send>(
+    rt: &HostRuntime,
+    ran: Result<(), Status>,
+    nodes: Vec<Hosted<'_, NodeKeeper<'_, '_, S>>>,
+    client: Option<Store<S>>,
+) -> Left<S> {
+    let mut left = Left {
+        ran,
+        ended: Ok(()),
+        stores: Vec::new(rt.alloc()),
+    };
+    for node in nodes {
+        let reported = node.report(rt);
+        left.ended = left.ended.and(reported);
+        let store = match node.into_keeper() {
+            Some(keeper) => store_in_node(keeper),
+            None => None,
+        };
+        let _kept = left.stores.push(store);
+    }
+    let _kept = left.stores.push(client);
+    left
+}
+
+// ---- the end
+
+// Closes the stores that are left, and returns how the parties ended: by a store that was lost, the client, or the first node.
+fn closed(
+    rt: &HostRuntime,
+    parties: &Parties<'_>,
+    left: Left<FileStore<File>>,
+) -> Result<(), Status> {
+    let Left {
+        ran,
+        mut ended,
+        stores,
+    } = left;
+    for (store, name) in stores.into_iter().zip(parties.names) {
+        ended = ended.and(close_one(rt, name, store));
+    }
+    match (lost(parties.node_names()), ran, ended) {
+        (Some(_), _, Err(status)) => Err(status),
+        (Some(name), _, Ok(())) => {
+            let lost = FileError::Lost;
+            Err(report_file(rt, Hints::Always, name.path(), lost))
+        }
+        (None, Err(status), _) => Err(status),
+        (None, Ok(()), ended) => ended,
+    }
+}
+
+// Closes the store of this name, unless it has lost that.
+fn close_one(rt: &HostRuntime, name: &StoreName, store: Option<FiledStore>) -> Result<(), Status> {
+    match close_store(store, name) {
+        Ok(()) => Ok(()),
+        Err(error) => Err(report_file(rt, Hints::Always, name.path(), error)),
+    }
+}
