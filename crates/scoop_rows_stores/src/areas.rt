@@ -48,7 +48,8 @@ fn play_stores(case: Case<'_>, heap: Heap<'_>, sheet: &mut Sheet) -> Result<(), 
 
 fn play_journals(case: Case<'_>, heap: Heap<'_>, sheet: &mut Sheet) -> Result<(), Bad> {
     let text = RefCell::new(Vec::new(sheet.alloc()));
-    play_rows(case, heap, &mut Journals::new(&text), sheet)
+    let told = RefCell::new(Vec::new(sheet.alloc()));
+    play_rows(case, heap, &mut Journals::new(&text, &told), sheet)
 }
 
 fn play_folder(
