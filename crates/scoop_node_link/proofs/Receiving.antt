@@ -1,10 +1,12 @@
 -- The datagrams that a receive has taken so far.
-use Rattle.std.proofs.Common.{◌≡◌, ℕ, ◌+◌, ◌≤◌, ◌<◌, List, [], ◌∷◌, ◌++◌, length, take, Option, Some, None, Result, Ok, Err, refl, ap, sym, subst, ◌∙◌, ◌⊎◌, inl, inr, length-append, arith}
+use Rattle.std.proofs.Common.{◌≡◌, ℕ, Bool, true, false, ◌+◌, ◌≤◌, ◌<◌, List, [], ◌∷◌, ◌++◌, length, take, Option, Some, None, Result, Ok, Err, refl, ap, sym, subst, ◌∙◌, ◌⊎◌, inl, inr, length-append, arith}
 use Rattle.std.proofs.lemmas.List.{append-nil}
+use Rattle.scoop_link.specs.declared.party.Party.{Party}
 use Rattle.scoop_link.specs.declared.link.LinkFault.{LinkFault}
 use Rattle.scoop_link.specs.Link.{Datagrams, Told, Exchanges}
 use Rattle.scoop_link.proofs.Exchanges.{exchanges_nothing, exchanges-append}
 use Rattle.scoop_node_link.specs.Admission.{IsAdmitted}
+use Rattle.scoop_node_link.specs.Held.{HeldValue, Keeps}
 use Rattle.scoop_node_link.specs.NodeLink.{NodeState, StopsOne, StopsAll, TakesOne, Passes, Loses, Ends, EndsNext, Receives, Stays}
 
 -- this number of datagrams was stopped
@@ -67,10 +69,16 @@ stays-then a b c first then = record {
   holds = then.holds ∙ first.holds;
 }
 
+keeps-holds : (h : Bool) (old : HeldValue) (d : Party × List ℕ) (new : HeldValue) → Keeps h old d new → new.holds ≡ old.holds
+keeps-holds true old d new (inl held) = ap (λ (v : HeldValue). v.holds) held
+keeps-holds true old d new (inr lost) = ap (λ (v : HeldValue). v.holds) lost
+keeps-holds false old d new same = ap (λ (v : HeldValue). v.holds) same
+
 one-stays : (s : NodeState) (d : List ℕ) (gone : Datagrams) (new : NodeState) → StopsOne s d gone new → Stays s new
 one-stays s _ _ _ (StopsOne.is_over now d j) = record { clients = refl; memories = refl; holds = refl }
 one-stays s _ _ _ (StopsOne.is_strange now d names j) = record { clients = refl; memories = refl; holds = refl }
-one-stays s _ _ _ (StopsOne.is_answered now m held j there keeps) = record { clients = refl; memories = refl; holds = ? }
+one-stays s _ _ _ (StopsOne.is_answered now m held j there keeps) =
+    record { clients = refl; memories = refl; holds = keeps-holds s.held.holds _ _ held keeps }
 
 all-stays : (old : NodeState) (ds : List (List ℕ)) (gone : Datagrams) (new : NodeState) → StopsAll old ds gone new → Stays old new
 all-stays old _ _ _ StopsAll.none = stays-same old

@@ -321,6 +321,7 @@ impl<'a, L: Link, C: Times, A: Allocator> Link for NodeLink<'a, L, C, A> {
         }
     }
 
+    #[tactic(auto, using(crate::proofs::Receiving::receives_stay, crate::proofs::Receiving::receives_admit))]
     fn receive(&mut self, buffer: &mut [u8; BUFFER_LEN]) -> Result<Option<usize>, LinkFault>
         ensures in_bounds { IfOk result (λ got. IfSome got (λ n. n ≤ BUFFER_LEN)) }
         ensures faults { CountsFault result (faults_of L.fault_count self.old.inner) (faults_of L.fault_count self.new.inner) }
