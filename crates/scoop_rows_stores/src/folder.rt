@@ -12,14 +12,9 @@
 //! - `append SYNC FILE TEXT` opens the journal of node 1 in a file and appends a line. With `syncs` as SYNC it waits for the
 //!   disk. `hold FILE` opens the journal and keeps it open.
 
-<<<<<<< HEAD
-use crate::disk::files;
-use crate::keeping::keeper_does;
-=======
 use crate::disk::{add_text, files, path};
 use crate::keeping::{keeps, says};
 use crate::paper::{Owning, Paper};
->>>>>>> 23c510ae51707c8184b4d92052c32b9a32416355
 use scoop_files::{
     FileError, FiledStore, NameWatch, Named, StoreName, adopt_for, close_named, create_after,
     update_marks,
@@ -94,15 +89,6 @@ impl<'a> Folder<'a> {
     fn begins(&mut self, line: &[u8], answer: &mut Vec<u8>) -> Result<(), Bad> {
         let calls = long(last(line)?)?;
         let keeper = FailingKeeper::new(MemoryKeeper::new(self.rt.alloc()), calls);
-<<<<<<< HEAD
-        self.keeper = Some(NamedKeeper::new(self.rt, keeper, self.name));
-        tells("ok", answer)
-    }
-
-    fn closes(&mut self, answer: &mut Vec<u8>) -> Result<(), Bad> {
-        if take_inner(&mut self.keeper).is_some() {
-            return tells("ok", answer);
-=======
         let left = u64::MAX;
         self.keeper = Some(kept(
             self.rt,
@@ -119,7 +105,6 @@ impl<'a> Folder<'a> {
         match kept.into_inner() {
             AnyKeeper::File(store) => tells_closed(close_named(store, self.name), answer),
             _ => says("ok", answer),
->>>>>>> 23c510ae51707c8184b4d92052c32b9a32416355
         }
     }
 
@@ -239,13 +224,8 @@ fn keeps_opened<'a>(
 ) -> Result<(), Bad> {
     match opened {
         Ok(store) => {
-<<<<<<< HEAD
-            *kept = Some(NamedKeeper::new(rt, store, name));
-            tells("ok", answer)
-=======
             *keeper = Some(kept(rt, name, AnyKeeper::File(store)));
             says("ok", answer)
->>>>>>> 23c510ae51707c8184b4d92052c32b9a32416355
         }
         Err(error) => tells(error, answer),
     }

@@ -11,13 +11,8 @@
 //! - `text` answers what was written, and empties it. `told` does so for what the keeper's watcher was told.
 
 use crate::bytes::read_blobs;
-<<<<<<< HEAD
-use crate::keeping::{done, keeper_does};
-use crate::paper::{Owning, Paper};
-=======
 use crate::keeping::{done, keeps, says};
 use crate::paper::{Owning, Paper, Teller};
->>>>>>> 23c510ae51707c8184b4d92052c32b9a32416355
 use scoop_handler::{Heard, Note};
 use scoop_journal::{Line, read, write};
 use scoop_keeper::{FailingKeeper, Keeper, MemoryKeeper};
@@ -54,15 +49,10 @@ impl<'a> Journals<'a> {
 
     fn begins(&mut self, line: &[u8], answer: &mut Vec<u8>) -> Result<(), Bad> {
         let alloc = *answer.allocator();
-<<<<<<< HEAD
-        let (storage, calls, writes, line) = first_three(line)?;
-        let left = long(calls)?;
-=======
         let (place, line) = first(line)?;
         let (calls, line) = first(line)?;
         let (writes, line) = first(line)?;
         let left = decimal(calls).ok_or(Bad::Number)?;
->>>>>>> 23c510ae51707c8184b4d92052c32b9a32416355
         let paper = Paper {
             text: self.text,
             left: long(writes)?,
@@ -72,17 +62,6 @@ impl<'a> Journals<'a> {
         let keeper = if is(place, "shared") {
             AnyKeeper::Shared(Owning { keeper, left })
         } else {
-<<<<<<< HEAD
-            let storage = if is(storage, "file") {
-                Storage::File
-            } else {
-                Storage::Memory
-            };
-            let keeper = FailingKeeper::new(keeper, left);
-            self.alone = Some(JournaledKeeper::new(alloc, keeper, storage, paper, 1, handlers));
-        }
-        tells("ok", answer)
-=======
             AnyKeeper::File(FailingKeeper::new(keeper, left))
         };
         let observers = Observers {
@@ -93,7 +72,6 @@ impl<'a> Journals<'a> {
         };
         self.keeper = Some(ObservedKeeper::new(keeper, observers));
         says("ok", answer)
->>>>>>> 23c510ae51707c8184b4d92052c32b9a32416355
     }
 
     fn ends(&mut self, answer: &mut Vec<u8>) -> Result<(), Bad> {
@@ -103,18 +81,9 @@ impl<'a> Journals<'a> {
         tells("ok", answer)
     }
 
-<<<<<<< HEAD
-    fn notes(&mut self, name: &[u8], line: &[u8], answer: &mut Vec<u8>) -> Result<(), Bad> {
-        if let Some(alone) = &mut self.alone {
-            return notes(alone, name, line, answer);
-        }
-        match &mut self.shared {
-            Some(shared) => notes(shared, name, line, answer),
-=======
     fn tells(&mut self, name: &[u8], line: &[u8], answer: &mut Vec<u8>) -> Result<(), Bad> {
         match &mut self.keeper {
             Some(keeper) => tells(keeper, name, line, answer),
->>>>>>> 23c510ae51707c8184b4d92052c32b9a32416355
             None => Err(Bad::Command),
         }
     }
@@ -141,21 +110,12 @@ impl Subject for Journals<'_> {
             b"keep" => self.begins(line, answer),
             b"end" => self.ends(answer),
             b"drop" => {
-<<<<<<< HEAD
-                self.alone = None;
-                self.shared = None;
-                tells("ok", answer)
-            }
-            b"text" => self.shows_text(answer),
-            _ => self.notes(name, line, answer),
-=======
                 self.keeper = None;
                 says("ok", answer)
             }
             b"text" => shows_text(self.text, answer),
             b"told" => shows_text(self.told, answer),
             _ => self.tells(name, line, answer),
->>>>>>> 23c510ae51707c8184b4d92052c32b9a32416355
         }
     }
 }

@@ -11,11 +11,7 @@
 //!
 //! [`crate::shown`] has the commands that show it.
 
-<<<<<<< HEAD
-use scoop_node_link::Strangers;
-=======
 use crate::text::{numbers, read_text, tells, told};
->>>>>>> 23c510ae51707c8184b4d92052c32b9a32416355
 use scoop_demo::read_message;
 use scoop_frame::{Version, encode};
 use scoop_handler::{Handler, Heard, Note};
@@ -26,13 +22,8 @@ use scoop_message::limits::BUFFER_LEN;
 use scoop_message::{ClientId, HandlerId, Message};
 use scoop_node_link::NodeLink;
 use scoop_object::{Class, Table};
-<<<<<<< HEAD
-use scoop_row_player::answers::{tells, told};
-use scoop_row_player::words::{after_space, first, handler, number, numbers, read_text};
-=======
 use scoop_pacing::SystemTimes;
 use scoop_row_player::words::{first, last, number};
->>>>>>> 23c510ae51707c8184b4d92052c32b9a32416355
 use scoop_row_player::{Bad, Subject};
 use scoop_seal::{Key, SealedLink};
 use scoop_system::System;
@@ -88,12 +79,6 @@ impl<R: Wait + Clock> Subject for Watches<'_, R> {
         match name {
             b"hear" | b"greeted" => self.hears(name, line, answer),
             b"run" => self.runs(answer),
-<<<<<<< HEAD
-            b"put" => told(self.keeper.put_handler(self.handler.state()), answer),
-            b"refuse" => self.refuses(answer),
-            b"load" => self.loads(handler(line)?, answer),
-            b"shown" => self.compares(handler(line)?, answer),
-=======
             b"put" => self.puts(Ok(()), answer),
             b"refuse" => self.puts(Err(KeeperError::Refused), answer),
             b"load" => {
@@ -101,7 +86,6 @@ impl<R: Wait + Clock> Subject for Watches<'_, R> {
                 tells("ok", answer)
             }
             b"shown" => self.compares(HandlerId(number(last(line)?)?), answer),
->>>>>>> 23c510ae51707c8184b4d92052c32b9a32416355
             b"stranger" => self.meets(line, answer),
             b"link" => self.passes(line, answer),
             b"says" => self.outputs(line, answer),
@@ -179,11 +163,6 @@ impl<'a, R: Wait + Clock> Watches<'a, R> {
     // Brings a greeting of a client over a link that hears another one alone.
     fn meets(&self, line: &[u8], answer: &mut Vec<u8>) -> Result<(), Bad> {
         let (client, line) = first(line)?;
-<<<<<<< HEAD
-        let handler = handler(line)?;
-        WatchedStrangers::new(self.rt, self.watch).meet(ClientId(number(client)?), handler);
-        tells("ok", answer)
-=======
         let handler = HandlerId(number(last(line)?)?);
         let hello = Message::Hello(handler, ClientId(number(client)?), 1);
         let mut frame = [0; BUFFER_LEN];
@@ -225,7 +204,6 @@ impl<'a, R: Wait + Clock> Watches<'a, R> {
         }
         let mut link = self.link_over(alloc, SealedLink::new(tape, Some(Key::new(KEY))))?;
         exchanges(&mut link, *sends, answer)
->>>>>>> 23c510ae51707c8184b4d92052c32b9a32416355
     }
 
     // Writes a line of the node's output. Adds whether the node is open before its flush, whether after it, and whether the
