@@ -1,3 +1,3 @@
 mod Releasing
 mod Taking
-mod Recalling
+mod Receiving

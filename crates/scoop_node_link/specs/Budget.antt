@@ -1,16 +1,11 @@
 -- The budgets of clients, and which datagrams they let pass.
-use Rattle.std.specs.Prelude.{◌≡◌, ℕ, ◌+◌, ◌-◌, ◌^◌, ◌≤◌, min, nat_lt, nat_le, ◌==◌, ◌||◌, Bool, true, List, [], ◌∷◌, length, map, find, take}
-use Rattle.std.specs.Prelude.{slice_index, Option, Some, None, Result, Ok, Err, IsTrue, IsFalse, if◌then◌else◌}
-use Rattle.std.specs.Int.{w32, from_be_bytes}
+use Rattle.std.specs.Prelude.{◌≡◌, ℕ, ◌+◌, ◌-◌, ◌^◌, min, nat_lt, nat_le, ◌==◌, ◌||◌, Bool, true, List, map, find}
+use Rattle.std.specs.Prelude.{Option, Some, None, if◌then◌else◌}
+use Rattle.std.specs.Option.{option_map}
 use Rattle.scoop_message.specs.declared.name.ClientId.{ClientId}
-use Rattle.scoop_message.specs.declared.limits.TheConstants.{BUFFER_LEN, MIN_FRAME}
-use Rattle.scoop_link.specs.declared.link.LinkFault.{LinkFault}
-use Rattle.scoop_link.specs.Link.{Told, Exchanges}
+use Rattle.scoop_frame.specs.Peek.{names_in}
 use Rattle.scoop_node_link.specs.declared.budget.Spent.{Spent}
 use Rattle.scoop_node_link.specs.declared.budget.TheConstants.{BUDGET, PERIOD}
-use Rattle.scoop_node_link.specs.declared.taken.Taken.{Taken}
-use Rattle.scoop_node_link.specs.declared.taken.Taken.TheVariants.{Nothing, Dropped, Passed}
-use Rattle.scoop_node_link.specs.Taking.{Drops}
 
 -- the datagrams that each client has spent in the present period, and the time at which the period began
 pub record BudgetValue : Type 0 where
@@ -23,12 +18,9 @@ unspent c = record { client = c; count = 0 }
 abbrev pub fresh_budget : List ClientId → BudgetValue
 fresh_budget clients = record { spends = map unspent clients; since = 0 }
 
--- the client that the bytes name where a frame has its client; none if they are too short for a frame
+-- the client that the bytes name, if they name one
 abbrev pub client_in : List ℕ → Option ClientId
-client_in bytes =
-    if nat_lt (length bytes) MIN_FRAME then None else Some (record {
-      0 = from_be_bytes w32 (slice_index bytes 8 ∷ slice_index bytes 9 ∷ slice_index bytes 10 ∷ slice_index bytes 11 ∷ []);
-    })
+client_in bytes = option_map (λ names. names.client) (names_in bytes)
 
 abbrev pub is_of : ClientId → Spent → Bool
 is_of c s = s.client.0 == c.0
@@ -66,31 +58,3 @@ after_datagram b now bytes =
     if has_left b.spends (client_in bytes)
     then record b { spends = spend b.spends (client_in bytes) }
     else if nat_le PERIOD (now - b.since) then record { spends = spend (map renewed b.spends) (client_in bytes); since = now } else b
-
--- at some time the datagram doesn't pass
-pub record IsOver (b : BudgetValue) (bytes : List ℕ) : Type 0 where
-  pub time : ℕ
-  pub over : IsFalse (passes b time bytes)
-
--- the inner link, the clock, the budgets, and the number of datagrams that were dropped
-pub record BudgetLinkValue (L C : Type 0) : Type 0 where
-  pub inner : L
-  pub clock : C
-  pub budget : BudgetValue
-  pub dropped : ℕ
-
-abbrev pub budgeting : {L C : Type 0} → L → C → List ClientId → BudgetLinkValue L C
-budgeting inner clock clients = record { inner = inner; clock = clock; budget = fresh_budget clients; dropped = 0 }
-
--- the datagram passes at this time, and counts
-pub record Spends (old new : BudgetValue) (now : ℕ) (bytes : List ℕ) : Type 0 where
-  pub passes : IsTrue (passes old now bytes)
-  pub counts : new ≡ after_datagram old now bytes
-
--- the outcome of one receive of the inner link
-abbrev pub TakesOneOf : Result Taken LinkFault → Option Told → Option Told → (old new : BudgetValue) → ℕ → (dropped now : ℕ) → List ℕ → Type 0
-TakesOneOf (Ok Nothing) before after old new time dropped now buffer = Exchanges before after [] [] × (new ≡ old) × (now ≡ dropped)
-TakesOneOf (Ok Dropped) before after old new time dropped now buffer = (new ≡ old) × (d : List ℕ) × Drops (IsOver old) before after dropped now d
-TakesOneOf (Ok (Passed n)) before after old new time dropped now buffer =
-    Exchanges before after (take n buffer ∷ []) [] × Spends old new time (take n buffer) × (now ≡ dropped) × (n ≤ BUFFER_LEN)
-TakesOneOf (Err fault) before after old new time dropped now buffer = Exchanges before after [] [] × (new ≡ old) × (now ≡ dropped)

@@ -1,6 +1,9 @@
+pub use Rattle.scoop_seal.specs.Sealed
 pub use Rattle.scoop_link.specs.Link
-pub mod Holding
-pub mod Taking
-pub mod Admission
+pub use Rattle.scoop_frame.specs.Peek
+pub use Rattle.scoop_frame.specs.Frame
 pub mod Budget
-pub mod Recall
+pub mod Admission
+pub mod Replies
+pub mod Held
+pub mod NodeLink

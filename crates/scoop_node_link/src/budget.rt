@@ -1,10 +1,10 @@
 //! The budgets of clients in a period.
 
-ghost use Rattle.std.specs.Prelude.{◌≡◌, map, IfOk, IsTrue, IsFalse};
+ghost use Rattle.std.specs.Prelude.{◌≡◌, map, IfOk, IsFalse};
 ghost use Rattle.std.specs.Option.{option_copied};
-ghost use Rattle.scoop_node_link.specs.Budget.{client_in, unspent, fresh_budget, spent_by, has_left, one_spent, renewed, spend, passes, after_datagram, IsOver, Spends};
+ghost use Rattle.scoop_node_link.specs.Budget.{client_in, unspent, fresh_budget, spent_by, has_left, one_spent, renewed, spend, passes, after_datagram};
 
-use scoop_message::limits::MIN_FRAME;
+use scoop_frame::peek;
 use scoop_message::{ClientId, OutOfMemory};
 use scoop_pacing::Times;
 use std::alloc::{AllocError, Allocator};
@@ -24,7 +24,11 @@ pub struct Spent {
     pub count: u32,
 }
 
-/// The budgets of clients.
+/// The budgets of clients: at most 64 datagrams of a client pass in a period, which lasts a millisecond or longer.
+///
+/// A datagram is the client's that it names where a frame has its client; it isn't decoded. A period begins with the first
+/// datagram whose client had spent its budget a millisecond or more after the last one began. Datagrams that name none of the
+/// clients pass.
 #[derive(Drop)]
 pub(crate) struct Budget<A: Allocator> {
     spends: Vec<Spent, A>,
@@ -39,15 +43,14 @@ impl<A: Allocator> Model for Budget<A> {
     ghost view = { λ b. record { spends = b.spends.items; since = b.since } };
 }
 
-// The client that the bytes name where a frame has its client.
+// The client that the bytes name, if they name one.
 fn client_in(bytes: &[u8]) -> Option<ClientId>
     ensures { result ≡ client_in bytes.now }
 {
-    if bytes.len() < MIN_FRAME {
-        return None;
+    match peek(bytes) {
+        Some(names) => Some(names.client),
+        None => None,
     }
-    let number = u32::from_be_bytes([bytes[8], bytes[9], bytes[10], bytes[11]]);
-    Some(ClientId(number))
 }
 
 // The client's spending in the present period, if it has spent.
@@ -140,8 +143,7 @@ impl<A: Allocator> Budget<A> {
     pub(crate) fn pass<C: Times>(&mut self, clock: &mut C, bytes: &[u8]) -> bool
         ensures passes { result ≡ passes self.old (C.time clock.new) bytes.now }
         ensures counts { self.new ≡ after_datagram self.old (C.time clock.new) bytes.now }
-        ensures over { IsFalse result → (self.new ≡ self.old) × IsOver self.old bytes.now }
-        ensures spends { IsTrue result → Spends self.old self.new (C.time clock.new) bytes.now }
+        ensures over { IsFalse result → self.new ≡ self.old }
     {
         let client = client_in(bytes);
         if !has_left(&self.spends, client) {
