@@ -1,6 +1,6 @@
 use Rattle.std.proofs.Common.{◌∙◌, refl}
 use Rattle.scoop_node_link.proofs.Receiving.{so_far-nothing, so_far-next}
-use Rattle.scoop_node_link.proofs.node_link.NodeLink.pull.Goals as goal
+use Rattle.scoop_node_link.proofs.node_link.NodeLink.take_until_one_passes.Goals as goal
 
 pub loop-init : goal.loop-init
 loop-init g c = record { so_far = so_far-nothing _ _; inner = refl; full = λ _. refl }

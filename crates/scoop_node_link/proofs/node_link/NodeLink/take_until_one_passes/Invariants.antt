@@ -2,7 +2,7 @@ use Rattle.std.proofs.Common.{◌≡◌, IsTrue}
 use Rattle.scoop_node_link.specs.Held.{is_full}
 use Rattle.scoop_node_link.specs.NodeLink.{told_of, faults_of}
 use Rattle.scoop_node_link.proofs.Receiving.{SoFar}
-use Rattle.scoop_node_link.proofs.node_link.NodeLink.pull.Given as goal
+use Rattle.scoop_node_link.proofs.node_link.NodeLink.take_until_one_passes.Given as goal
 
 -- this number of datagrams was stopped, none of them by a link that is full
 abbrev pub invariant-loop : goal.invariant-loop
