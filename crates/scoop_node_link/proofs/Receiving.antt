@@ -1,5 +1,6 @@
 -- The datagrams that a receive has taken so far.
 use Rattle.std.proofs.Common.{◌≡◌, ℕ, Bool, true, false, ◌+◌, ◌≤◌, ◌<◌, List, [], ◌∷◌, ◌++◌, length, take, Option, Some, None, Result, Ok, Err, refl, ap, sym, subst, ◌∙◌, ◌⊎◌, inl, inr, length-append, arith}
+use Rattle.std.specs.Prelude.{IfOk, IfSome}
 use Rattle.std.proofs.lemmas.List.{append-nil}
 use Rattle.scoop_link.specs.declared.party.Party.{Party}
 use Rattle.scoop_link.specs.declared.link.LinkFault.{LinkFault}
@@ -7,7 +8,7 @@ use Rattle.scoop_link.specs.Link.{Datagrams, Told, Exchanges}
 use Rattle.scoop_link.proofs.Exchanges.{exchanges_nothing, exchanges-append}
 use Rattle.scoop_node_link.specs.Admission.{IsAdmitted}
 use Rattle.scoop_node_link.specs.Held.{HeldValue, Keeps}
-use Rattle.scoop_node_link.specs.NodeLink.{NodeState, StopsOne, StopsAll, TakesOne, Passes, Loses, Ends, EndsNext, Receives, Stays}
+use Rattle.scoop_node_link.specs.NodeLink.{NodeState, StopsOne, StopsAll, TakesOne, Passes, Loses, Ends, EndsNext, Receives, Stays, forgetting}
 
 -- this number of datagrams was stopped
 pub record SoFar (before after : Option Told) (old new : NodeState) (n : ℕ) : Type 0 where
@@ -99,14 +100,18 @@ ends-stays (Err fault) last s now new buffer (inr (d, one, loses)) = loses-stays
 
 -- the clients, the remembered replies and whether the link holds stay the same
 pub receives_stay : (result : Result (Option ℕ) LinkFault) (a b : Option Told) (old : NodeState) (now : ℕ) (new : NodeState) (buffer : List ℕ)
-    → Receives result a b old now new buffer → Stays old new
+    → Receives result a b (forgetting old) now new buffer → Stays old new
 receives_stay result a b old now new buffer receives =
-    stays-then old receives.between new (all-stays old receives.stopped receives.gone receives.between receives.stops)
-    (ends-stays result receives.last receives.between now new buffer receives.ends)
+    stays-then old (forgetting old) new (record { clients = refl; memories = refl; holds = refl })
+    (stays-then (forgetting old) receives.between new (all-stays (forgetting old) receives.stopped receives.gone receives.between receives.stops)
+    (ends-stays result receives.last receives.between now new buffer receives.ends))
 
 -- what passes on is admitted
-pub receives_admit : (n : ℕ) (a b : Option Told) (old : NodeState) (now : ℕ) (new : NodeState) (buffer : List ℕ)
-    → Receives (Ok (Some n)) a b old now new buffer → IsAdmitted old.admission.clients (take n buffer)
-receives_admit n a b old now new buffer receives =
+pub receives_admit : (result : Result (Option ℕ) LinkFault) (a b : Option Told) (old : NodeState) (now : ℕ) (new : NodeState) (buffer : List ℕ)
+    → Receives result a b old now new buffer
+    → IfOk result (λ got. IfSome got (λ n. IsAdmitted old.admission.clients (take n buffer)))
+receives_admit (Ok (Some n)) a b old now new buffer receives =
     let same = (all-stays old receives.stopped receives.gone receives.between receives.stops).clients in
     subst (λ clients. IsAdmitted clients (take n buffer)) same receives.ends.1.admitted.1
+receives_admit (Ok None) a b old now new buffer receives = tt
+receives_admit (Err fault) a b old now new buffer receives = tt
