@@ -1,11 +1,14 @@
 -- The datagrams that a receive has taken so far.
-use Rattle.std.proofs.Common.{◌≡◌, ℕ, ◌+◌, ◌≤◌, ◌<◌, List, [], ◌∷◌, ◌++◌, length, take, Option, Some, None, Result, Ok, Err, refl, ap, sym, subst, ◌∙◌, ◌⊎◌, inl, inr, length-append, arith}
+use Rattle.std.proofs.Common.{◌≡◌, ℕ, Bool, true, false, ◌+◌, ◌≤◌, ◌<◌, List, [], ◌∷◌, ◌++◌, length, take, Option, Some, None, Result, Ok, Err, refl, ap, sym, subst, ◌∙◌, ◌⊎◌, inl, inr, length-append, arith}
+use Rattle.std.specs.Prelude.{IfOk, IfSome}
 use Rattle.std.proofs.lemmas.List.{append-nil}
+use Rattle.scoop_link.specs.declared.party.Party.{Party}
 use Rattle.scoop_link.specs.declared.link.LinkFault.{LinkFault}
 use Rattle.scoop_link.specs.Link.{Datagrams, Told, Exchanges}
 use Rattle.scoop_link.proofs.Exchanges.{exchanges_nothing, exchanges-append}
 use Rattle.scoop_node_link.specs.Admission.{IsAdmitted}
-use Rattle.scoop_node_link.specs.NodeLink.{NodeState, StopsOne, StopsAll, TakesOne, Passes, Loses, Ends, EndsNext, Receives, Stays}
+use Rattle.scoop_node_link.specs.Held.{HeldValue, Keeps}
+use Rattle.scoop_node_link.specs.NodeLink.{NodeState, StopsOne, StopsAll, TakesOne, Passes, Loses, Ends, EndsNext, Receives, Stays, forgetting}
 
 -- this number of datagrams was stopped
 pub record SoFar (before after : Option Told) (old new : NodeState) (n : ℕ) : Type 0 where
@@ -67,10 +70,16 @@ stays-then a b c first then = record {
   holds = then.holds ∙ first.holds;
 }
 
+keeps-holds : (h : Bool) (old : HeldValue) (d : Party × List ℕ) (new : HeldValue) → Keeps h old d new → new.holds ≡ old.holds
+keeps-holds true old d new (inl held) = ap (λ (v : HeldValue). v.holds) held
+keeps-holds true old d new (inr lost) = ap (λ (v : HeldValue). v.holds) lost
+keeps-holds false old d new same = ap (λ (v : HeldValue). v.holds) same
+
 one-stays : (s : NodeState) (d : List ℕ) (gone : Datagrams) (new : NodeState) → StopsOne s d gone new → Stays s new
 one-stays s _ _ _ (StopsOne.is_over now d j) = record { clients = refl; memories = refl; holds = refl }
 one-stays s _ _ _ (StopsOne.is_strange now d names j) = record { clients = refl; memories = refl; holds = refl }
-one-stays s _ _ _ (StopsOne.is_answered now m held j there keeps) = record { clients = refl; memories = refl; holds = ? }
+one-stays s _ _ _ (StopsOne.is_answered now m held j there keeps) =
+    record { clients = refl; memories = refl; holds = keeps-holds s.held.holds _ _ held keeps }
 
 all-stays : (old : NodeState) (ds : List (List ℕ)) (gone : Datagrams) (new : NodeState) → StopsAll old ds gone new → Stays old new
 all-stays old _ _ _ StopsAll.none = stays-same old
@@ -91,14 +100,18 @@ ends-stays (Err fault) last s now new buffer (inr (d, one, loses)) = loses-stays
 
 -- the clients, the remembered replies and whether the link holds stay the same
 pub receives_stay : (result : Result (Option ℕ) LinkFault) (a b : Option Told) (old : NodeState) (now : ℕ) (new : NodeState) (buffer : List ℕ)
-    → Receives result a b old now new buffer → Stays old new
+    → Receives result a b (forgetting old) now new buffer → Stays old new
 receives_stay result a b old now new buffer receives =
-    stays-then old receives.between new (all-stays old receives.stopped receives.gone receives.between receives.stops)
-    (ends-stays result receives.last receives.between now new buffer receives.ends)
+    stays-then old (forgetting old) new (record { clients = refl; memories = refl; holds = refl })
+    (stays-then (forgetting old) receives.between new (all-stays (forgetting old) receives.stopped receives.gone receives.between receives.stops)
+    (ends-stays result receives.last receives.between now new buffer receives.ends))
 
 -- what passes on is admitted
-pub receives_admit : (n : ℕ) (a b : Option Told) (old : NodeState) (now : ℕ) (new : NodeState) (buffer : List ℕ)
-    → Receives (Ok (Some n)) a b old now new buffer → IsAdmitted old.admission.clients (take n buffer)
-receives_admit n a b old now new buffer receives =
+pub receives_admit : (result : Result (Option ℕ) LinkFault) (a b : Option Told) (old : NodeState) (now : ℕ) (new : NodeState) (buffer : List ℕ)
+    → Receives result a b old now new buffer
+    → IfOk result (λ got. IfSome got (λ n. IsAdmitted old.admission.clients (take n buffer)))
+receives_admit (Ok (Some n)) a b old now new buffer receives =
     let same = (all-stays old receives.stopped receives.gone receives.between receives.stops).clients in
     subst (λ clients. IsAdmitted clients (take n buffer)) same receives.ends.1.admitted.1
+receives_admit (Ok None) a b old now new buffer receives = tt
+receives_admit (Err fault) a b old now new buffer receives = tt

@@ -6,7 +6,7 @@ use Rattle.scoop_link.proofs.Kept.{kept-short}
 use Rattle.std.proofs.lemmas.List.{append-nil}
 use Rattle.scoop_link.specs.declared.party.Party.{Party}
 use Rattle.scoop_link.specs.Link.{Datagrams, Told, Exchanges}
-use Rattle.scoop_node_link.specs.Held.{HeldValue, SendsAll, Stops, flushed}
+use Rattle.scoop_node_link.specs.Held.{HeldValue, SendsAll, SendsSome, flushed}
 use Rattle.scoop_link.proofs.Exchanges.{exchanges-append}
 
 -- these were sent from the front, and the rest is still held
@@ -39,7 +39,7 @@ sends_next a b c old held rest to bytes fits is so_far next = record {
 
 -- the next one failed
 pub stops_next : (a b c : Option Told) (old held rest : HeldValue) (d : Party × List ℕ) → held ≡ record rest { datagrams = d ∷ rest.datagrams }
-    → Sends a b old held → Exchanges b c [] [] → Stops a c old rest
+    → Sends a b old held → Exchanges b c [] [] → SendsSome a c old rest
 stops_next a b c old held rest d is so_far next = record {
   gone = so_far.gone;
   lost = d;

@@ -99,14 +99,18 @@ ends_lost a b c old s now d ad new fault buffer came fails =
     let is = came-judged a b old s Admitted now d ad came in
     let from : Fails b c (judged old Admitted now d) new d = subst (λ t. Fails b c t new d) is fails in record {
       last = d ∷ [];
-      ends = inr (d, refl, record {
-        memory = from.memory;
-        question = from.question;
-        remembered = from.remembered;
-        not_held = from.not_held;
-        admitted = came-judges a b old s Admitted now d ad came;
-        others = from.others;
-      });
+      ends = inr (
+        d,
+        refl,
+        record {
+          memory = from.memory;
+          question = from.question;
+          remembered = from.remembered;
+          not_held = from.not_held;
+          admitted = came-judges a b old s Admitted now d ad came;
+          others = from.others;
+        },
+      );
       exchanged = exchanges-append a b c (d ∷ []) [] [] [] came.exchanged from.sent;
       at_most = lit≤ tt;
     }

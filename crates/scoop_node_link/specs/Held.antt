@@ -51,7 +51,7 @@ pub record SendsAll (before after : Option Told) (old new : HeldValue) : Type 0 
   pub none_left : new ≡ flushed old
 
 -- These were sent from the front. The next one failed and is lost, and the rest is still held.
-pub record Stops (before after : Option Told) (old new : HeldValue) : Type 0 where
+pub record SendsSome (before after : Option Told) (old new : HeldValue) : Type 0 where
   pub gone : Datagrams
   pub lost : Party × List ℕ
   pub split : old.datagrams ≡ gone ++ lost ∷ new.datagrams
@@ -61,9 +61,9 @@ pub record Stops (before after : Option Told) (old new : HeldValue) : Type 0 whe
 -- what is held goes out, up to the first send that fails
 abbrev pub Releases : Result (Unit {0}) LinkFault → (before after : Option Told) → (old new : HeldValue) → Type 0
 Releases (Ok _) before after old new = SendsAll before after old new
-Releases (Err fault) before after old new = Stops before after old new
+Releases (Err fault) before after old new = SendsSome before after old new
 
 -- a flush that fails after all was sent failed in the inner link
 abbrev pub Flushes : Result (Unit {0}) LinkFault → (before after : Option Told) → (old new : HeldValue) → Type 0
 Flushes (Ok _) before after old new = SendsAll before after old new
-Flushes (Err fault) before after old new = SendsAll before after old new ⊎ Stops before after old new
+Flushes (Err fault) before after old new = SendsAll before after old new ⊎ SendsSome before after old new

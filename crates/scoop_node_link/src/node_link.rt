@@ -92,7 +92,7 @@ fn send_now<I: Link>(
 }
 
 // Holds a datagram back, or sends it.
-fn put_out<I: Link, A: Allocator>(
+fn hold_or_send<I: Link, A: Allocator>(
     inner: &mut I,
     held: &mut Held<A>,
     counts: &NodeCounts,
@@ -185,7 +185,7 @@ impl<'a, L: Link, C: Times, A: Allocator> NodeLink<'a, L, C, A> {
     }
 
     /// The number of datagrams that were over their clients' budgets. It stops at 2^64-1.
-    pub fn over(&self) -> u64
+    pub fn over_budget(&self) -> u64
         ensures { result ≡ self.now.state.admission.over }
     {
         self.admission.over()
@@ -199,7 +199,7 @@ impl<'a, L: Link, C: Times, A: Allocator> NodeLink<'a, L, C, A> {
     }
 
     // Takes one datagram from the inner link, unless a flush has to come first.
-    fn next(&mut self, buffer: &mut [u8; BUFFER_LEN]) -> Result<Option<usize>, LinkFault>
+    fn receive_inner(&mut self, buffer: &mut [u8; BUFFER_LEN]) -> Result<Option<usize>, LinkFault>
         ensures in_bounds { IfOk result (λ got. IfSome got (λ n. n ≤ BUFFER_LEN)) }
         ensures faults { CountsFault result (faults_of L.fault_count self.old.inner) (faults_of L.fault_count self.new.inner) }
 
@@ -236,7 +236,13 @@ impl<'a, L: Link, C: Times, A: Allocator> NodeLink<'a, L, C, A> {
             return Ok(false);
         };
         let reply = memory.reply.as_slice();
-        match put_out(&mut self.inner, &mut self.held, self.counts, memory.to, reply) {
+        match hold_or_send(
+            &mut self.inner,
+            &mut self.held,
+            self.counts,
+            memory.to,
+            reply,
+        ) {
             Ok(()) => Ok(true),
             Err(fault) => Err(fault),
         }
@@ -248,7 +254,7 @@ impl<'a, L: Link, C: Times, A: Allocator> NodeLink<'a, L, C, A> {
         ensures taken { Takes result (told_of L.told self.old.inner) (told_of L.told self.new.inner) self.old.state (C.time self.new.clock) self.new.state buffer.new }
         ensures full { IsTrue (is_full self.old.state.held) → (result ≡ Ok Taken.Nothing) × (self.new ≡ self.old) }
     {
-        let Some(len) = self.next(buffer)? else {
+        let Some(len) = self.receive_inner(buffer)? else {
             return Ok(Taken::Nothing);
         };
         let bytes = &buffer[..len];
@@ -267,7 +273,10 @@ impl<'a, L: Link, C: Times, A: Allocator> NodeLink<'a, L, C, A> {
     }
 
     // Takes datagrams from the inner link until one passes on.
-    fn pull(&mut self, buffer: &mut [u8; BUFFER_LEN]) -> Result<Option<usize>, LinkFault>
+    fn take_until_one_passes(
+        &mut self,
+        buffer: &mut [u8; BUFFER_LEN],
+    ) -> Result<Option<usize>, LinkFault>
         ensures in_bounds { IfOk result (λ got. IfSome got (λ n. n ≤ BUFFER_LEN)) }
         ensures faults { CountsFault result (faults_of L.fault_count self.old.inner) (faults_of L.fault_count self.new.inner) }
 
@@ -312,7 +321,7 @@ impl<'a, L: Link, C: Times, A: Allocator> Link for NodeLink<'a, L, C, A> {
           state = record self.old.state { replies = self.new.state.replies; held = self.new.state.held };
         } }
     {
-        match put_out(&mut self.inner, &mut self.held, self.counts, to, bytes) {
+        match hold_or_send(&mut self.inner, &mut self.held, self.counts, to, bytes) {
             Ok(()) => {
                 self.replies.remember(to, bytes);
                 Ok(())
@@ -331,7 +340,7 @@ impl<'a, L: Link, C: Times, A: Allocator> Link for NodeLink<'a, L, C, A> {
         ensures stays { Stays self.old.state self.new.state }
     {
         self.forget();
-        self.pull(buffer)
+        self.take_until_one_passes(buffer)
     }
 
     fn flush(&mut self) -> Result<(), LinkFault>

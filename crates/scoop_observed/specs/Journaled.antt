@@ -1,8 +1,7 @@
 -- The journal of a node: lines wait, and are written together.
-use Rattle.std.specs.Prelude.{◌≡◌, ℕ, Bool, true, false, if◌then◌else◌, List, [], ◌++◌, Option, Result, Ok, Err}
+use Rattle.std.specs.Prelude.{◌≡◌, ℕ, Bool, true, false, if◌then◌else◌, List, [], ◌++◌, Option, Result, Ok}
 use Rattle.scoop_message.specs.declared.name.HandlerId.{HandlerId}
 use Rattle.scoop_keeper.specs.declared.keeper.KeeperError.{KeeperError}
-use Rattle.scoop_keeper.specs.declared.keeper.KeeperError.TheVariants.{Refused}
 use Rattle.scoop_journal.specs.declared.line.Line.TheVariants.{Begin, Finish}
 use Rattle.scoop_journal.specs.Journal.{Commits, JournalState, ended}
 

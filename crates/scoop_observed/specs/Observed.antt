@@ -1,5 +1,5 @@
 -- A keeper with observers over it.
-use Rattle.std.specs.Prelude.{◌≡◌, Bool, true, false, if◌then◌else◌, ◌⊎◌, Option, Some, None, IsSome, IfSome, Result, Ok, Err}
+use Rattle.std.specs.Prelude.{◌≡◌, false, if◌then◌else◌, ◌⊎◌, Option, Some, None, IsSome, Result, Ok, Err}
 use Rattle.std.specs.Option.{option_map}
 use Rattle.scoop_keeper.specs.declared.keeper.KeeperError.{KeeperError}
 use Rattle.scoop_keeper.specs.declared.keeper.KeeperError.TheVariants.{Refused}

@@ -1,6 +1,6 @@
 //! A keeper with observers over it.
 
-ghost use Rattle.std.specs.Prelude.{◌≡◌, ◌⊎◌, true, false, None, Some, Ok, Err, IfOk, IfErr, IfSome, IsSome, OnOk, OnErr, if◌then◌else◌};
+ghost use Rattle.std.specs.Prelude.{◌≡◌, ◌⊎◌, true, Err, IfErr, IsSome, OnOk, OnErr, if◌then◌else◌};
 ghost use Rattle.scoop_keeper.specs.Keeper.{IsPutError, IsSame, Stays};
 ghost use Rattle.scoop_keeper.specs.Storing.{leaves};
 ghost use Rattle.scoop_journal.specs.declared.line.Line.TheVariants.{Hear};
@@ -8,9 +8,7 @@ ghost use Rattle.scoop_journal.specs.Journal.{ended};
 ghost use Rattle.scoop_observed.specs.Journaled.{Gathers, IsConfirmed, Untouched, WritesAll, owes, run_text};
 ghost use Rattle.scoop_observed.specs.Observed.{OfJournal, observed};
 
-use crate::node_journal::NodeJournal;
-use crate::observers::{Observers, judge, put_named};
-use scoop_files::Named;
+use crate::observers::{Observers, commit_under, finish_under, hear_under, judge, put_named};
 use scoop_handler::{HandlerState, Heard};
 use scoop_keeper::{Keeper, KeeperError, SharedKeeper};
 use scoop_message::{ClientId, HandlerId, Message};
@@ -57,85 +55,6 @@ impl<'a, K: Drop, O: Watcher, W: Write + Drop> ObservedKeeper<'a, K, O, W> {
         observers.end();
         keeper
     }
-}
-
-// Notes that a handler heard this message, in the journal too.
-fn hear_under<K: Keeper<Global>, W: Write + Drop>(
-    keeper: &mut K,
-    journal: &mut Option<NodeJournal<W>>,
-    message: &Message,
-    heard: &Heard,
-) -> Result<(), KeeperError>
-    ensures gathered { OnOk result (OfJournal (λ old new. Gathers old new (ended (Hear message.now heard.now.reply))) journal.old journal.new) }
-    ensures unsure { OnOk result (OfJournal (λ old new. new.is_unsure ≡ (if leaves heard.now.note then true else owes old)) journal.old journal.new) }
-    ensures kept { OnErr result (OfJournal (λ old new. Untouched old new
-        ⊎ ((result ≡ Err KeeperError.Refused) × (new.lines.has_failed ≡ true))) journal.old journal.new) }
-    ensures handlers { K.is_honest keeper.new → Stays (K.handlers keeper.old) (K.handlers keeper.new) }
-    ensures incarnations { K.is_honest keeper.new → IsSame (K.incarnations keeper.old) (K.incarnations keeper.new) }
-    ensures named { IfErr result IsPutError }
-    ensures honest { K.is_honest keeper.new → K.is_honest keeper.old }
-{
-    match journal {
-        Some(journal) => journal.hear(keeper, message, heard),
-        None => keeper.note_heard(message, heard),
-    }
-}
-
-// Notes that an entry of this handler has run, in the journal too.
-fn finish_under<K: Keeper<Global>, W: Write + Drop>(
-    keeper: &mut K,
-    journal: &mut Option<NodeJournal<W>>,
-    handler: HandlerId,
-) -> Result<(), KeeperError>
-    ensures gathered { OnOk result (OfJournal (λ old new. Gathers old new (run_text handler)) journal.old journal.new) }
-    ensures unsure { OnOk result (OfJournal (λ old new. new.is_unsure ≡ owes old) journal.old journal.new) }
-    ensures kept { OnErr result (OfJournal (λ old new. Untouched old new
-        ⊎ ((result ≡ Err KeeperError.Refused) × (new.lines.has_failed ≡ true))) journal.old journal.new) }
-    ensures handlers { K.is_honest keeper.new → Stays (K.handlers keeper.old) (K.handlers keeper.new) }
-    ensures incarnations { K.is_honest keeper.new → IsSame (K.incarnations keeper.old) (K.incarnations keeper.new) }
-    ensures named { IfErr result IsPutError }
-    ensures honest { K.is_honest keeper.new → K.is_honest keeper.old }
-{
-    match journal {
-        Some(journal) => journal.finish(keeper, handler),
-        None => keeper.note_finished(handler),
-    }
-}
-
-// Writes the lines that wait, and commits, unless the name is lost.
-fn commit_under<K: SharedKeeper<Global>, W: Write + Drop>(
-    keeper: &mut K,
-    name: &mut Option<Named<'_>>,
-    journal: &mut Option<NodeJournal<W>>,
-) -> Result<(), KeeperError>
-    ensures outlasts { K.is_honest keeper.new → OnOk result (Stays (K.handlers keeper.new) (K.outlasting keeper.new)) }
-    ensures refused { K.is_honest keeper.new → OnErr result (Stays (K.outlasting keeper.old) (K.outlasting keeper.new)) }
-    ensures handlers { K.is_honest keeper.new → Stays (K.handlers keeper.old) (K.handlers keeper.new) }
-    ensures incarnations { K.is_honest keeper.new → IsSame (K.incarnations keeper.old) (K.incarnations keeper.new) }
-    ensures named { IfErr result IsPutError }
-    ensures honest { K.is_honest keeper.new → K.is_honest keeper.old }
-    ensures written { OnOk result (OfJournal (WritesAll W.contents) journal.old journal.new) }
-    ensures kept { OnErr result (OfJournal (λ old new. (new ≡ old)
-        ⊎ ((new.lines.has_failed ≡ true) ⊎ WritesAll W.contents old new)) journal.old journal.new) }
-    ensures asked { OfJournal (λ old new. old.is_unsure ≡ true → (new.lines ≡ old.lines) ⊎ IsConfirmed K.confirm_gives keeper.old) journal.old journal.new }
-    ensures last { IsSome journal.old → IfErr result (λ e. e ≡ KeeperError.Refused) }
-    ensures name { name.new ≡ name.old }
-{
-    if let Some(name) = name {
-        if name.is_lost() {
-            return Err(KeeperError::Refused);
-        }
-    }
-    let done = match journal {
-        Some(journal) => journal.commit(keeper),
-        None => keeper.commit(),
-    };
-    if done.is_ok() {
-        if let Some(name) = name {
-            name.settle();
-        }
-    }
-    done
 }
 
 impl<'a, K: SharedKeeper<Global>, O: Watcher, W: Write + Drop> Keeper<Global>

@@ -41,7 +41,8 @@ fn play_stores(play: Play<'_>, sheet: &mut Sheet) -> Result<bool, Bad> {
 
 fn play_journals(play: Play<'_>, sheet: &mut Sheet) -> Result<bool, Bad> {
     let text = RefCell::new(Vec::new(sheet.alloc()));
-    play.over(&mut Journals::new(&text), sheet)
+    let told = RefCell::new(Vec::new(sheet.alloc()));
+    play_rows(case, heap, &mut Journals::new(&text, &told), sheet)
 }
 
 fn play_folder(rt: &HostRuntime, play: Play<'_>, sheet: &mut Sheet) -> Result<bool, Bad> {

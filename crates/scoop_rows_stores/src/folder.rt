@@ -12,22 +12,25 @@
 //! - `append SYNC FILE TEXT` opens the journal of node 1 in a file and appends a line. With `syncs` as SYNC it waits for the
 //!   disk. `hold FILE` opens the journal and keeps it open.
 
-use crate::disk::files;
-use crate::keeping::keeper_does;
+use crate::disk::{add_text, files, path};
+use crate::keeping::{keeps, says};
+use crate::paper::{Owning, Paper};
 use scoop_files::{
-    FileError, FiledStore, NameWatch, NamedKeeper, StoreName, adopt_for, close_named, create_after,
+    FileError, FiledStore, NameWatch, Named, StoreName, adopt_for, close_named, create_after,
     update_marks,
 };
 use scoop_journal::{Journal, JournalFile, Owner, read};
 use scoop_keeper::{FailingKeeper, Keeper, MemoryKeeper};
 use scoop_lines::{is, two_words};
 use scoop_message::{ClientId, HandlerId};
+use scoop_observed::{AnyKeeper, ObservedKeeper, Observers};
 use scoop_owner::Newest;
 use scoop_row_player::answers::{keeps, tells, told};
 use scoop_row_player::words::{
     after_space, block, first, first_two, last, long, number, read_text, text_of,
 };
 use scoop_row_player::{Bad, Subject};
+use scoop_watch::Unwatched;
 use std::alloc::Global;
 use std::time::{Duration, Instant};
 use std::{fs, thread};
@@ -51,13 +54,17 @@ const FILES: [&str; 5] = [
     "kept.journal",
 ];
 
+// A store in a file, or a keeper in memory that stands for one and passes on a number of calls.
+type AnyPlace = AnyKeeper<FiledStore, Owning<FailingKeeper<MemoryKeeper>>>;
+
+type Kept<'a> = ObservedKeeper<'a, AnyPlace, Unwatched, Paper<'a>>;
+
 /// The folder, with what is open there.
 #[derive(Drop)]
 pub struct Folder<'a> {
     rt: &'a HostRuntime,
     name: &'a StoreName,
-    store: Option<NamedKeeper<'a, FiledStore>>,
-    keeper: Option<NamedKeeper<'a, FailingKeeper<MemoryKeeper>>>,
+    keeper: Option<Kept<'a>>,
     watch: Option<NameWatch<'a>>,
     held: Option<JournalFile>,
     start: Option<Instant>,
@@ -72,7 +79,6 @@ impl<'a> Folder<'a> {
         Folder {
             rt,
             name,
-            store: None,
             keeper: None,
             watch: None,
             held: None,
@@ -83,23 +89,28 @@ impl<'a> Folder<'a> {
     fn begins(&mut self, line: &[u8], answer: &mut Vec<u8>) -> Result<(), Bad> {
         let calls = long(last(line)?)?;
         let keeper = FailingKeeper::new(MemoryKeeper::new(self.rt.alloc()), calls);
-        self.keeper = Some(NamedKeeper::new(self.rt, keeper, self.name));
-        tells("ok", answer)
+        let left = u64::MAX;
+        self.keeper = Some(kept(
+            self.rt,
+            self.name,
+            AnyKeeper::Shared(Owning { keeper, left }),
+        ));
+        says("ok", answer)
     }
 
     fn closes(&mut self, answer: &mut Vec<u8>) -> Result<(), Bad> {
-        if take_inner(&mut self.keeper).is_some() {
-            return tells("ok", answer);
+        let Some(kept) = self.keeper.take() else {
+            return Err(Bad::Command);
+        };
+        match kept.into_inner() {
+            AnyKeeper::File(store) => tells_closed(close_named(store, self.name), answer),
+            _ => says("ok", answer),
         }
-        close_store(take_inner(&mut self.store), self.name, answer)
     }
 
     fn gives(&mut self, command: &[u8], answer: &mut Vec<u8>) -> Result<(), Bad> {
         let (name, line) = first(command)?;
-        if self.keeper.is_some() {
-            return gives_kept(&mut self.keeper, name, line, answer);
-        }
-        gives_kept(&mut self.store, name, line, answer)
+        gives_kept(&mut self.keeper, name, line, answer)
     }
 
     fn repeats(&mut self, line: &[u8], answer: &mut Vec<u8>) -> Result<(), Bad> {
@@ -148,11 +159,11 @@ impl Subject for Folder<'_> {
         match name {
             b"create" => {
                 let made = create_after(self.rt, STORE, CLIENT, number(last(line)?)?);
-                keeps_opened(self.rt, self.name, made, &mut self.store, answer)
+                keeps_opened(self.rt, self.name, made, &mut self.keeper, answer)
             }
             b"adopt" => {
                 let taken = adopt_for(self.rt, STORE, CLIENT);
-                keeps_opened(self.rt, self.name, taken, &mut self.store, answer)
+                keeps_opened(self.rt, self.name, taken, &mut self.keeper, answer)
             }
             b"keep" => self.begins(line, answer),
             b"close" => self.closes(answer),
@@ -171,9 +182,9 @@ impl Subject for Folder<'_> {
     }
 }
 
-// Gives a command to a keeper that has a name. Over any keeper, since at the files' type a match is dear to prove.
+// Gives a command to a keeper. Over any keeper, since at the files' type a match is dear to prove.
 fn gives_kept<K: Keeper<Global>>(
-    kept: &mut Option<NamedKeeper<'_, K>>,
+    kept: &mut Option<K>,
     name: &[u8],
     line: &[u8],
     answer: &mut Vec<u8>,
@@ -184,23 +195,15 @@ fn gives_kept<K: Keeper<Global>>(
     }
 }
 
-// Takes a keeper that has a name.
-fn take_inner<K: Drop>(kept: &mut Option<NamedKeeper<'_, K>>) -> Option<K> {
-    match kept.take() {
-        Some(named) => Some(named.into_inner()),
-        None => None,
-    }
-}
-
-fn close_store(
-    store: Option<FiledStore>,
-    name: &StoreName,
-    answer: &mut Vec<u8>,
-) -> Result<(), Bad> {
-    match store {
-        Some(store) => tells_closed(close_named(store, name), answer),
-        None => Err(Bad::Command),
-    }
+// A keeper that looks after this name.
+fn kept<'a>(rt: &'a HostRuntime, name: &'a StoreName, keeper: AnyPlace) -> Kept<'a> {
+    let observers = Observers {
+        name: Some(Named::new(rt, name)),
+        counts: None,
+        journal: None,
+        watcher: Unwatched,
+    };
+    ObservedKeeper::new(keeper, observers)
 }
 
 fn tells_closed(closed: Result<(), FileError>, answer: &mut Vec<u8>) -> Result<(), Bad> {
@@ -212,17 +215,17 @@ fn tells_closed(closed: Result<(), FileError>, answer: &mut Vec<u8>) -> Result<(
 }
 
 // Keeps a store that was opened, and looks after its name.
-fn keeps_opened<'a, K: Drop>(
+fn keeps_opened<'a>(
     rt: &'a HostRuntime,
     name: &'a StoreName,
-    opened: Result<K, FileError>,
-    kept: &mut Option<NamedKeeper<'a, K>>,
+    opened: Result<FiledStore, FileError>,
+    keeper: &mut Option<Kept<'a>>,
     answer: &mut Vec<u8>,
 ) -> Result<(), Bad> {
     match opened {
         Ok(store) => {
-            *kept = Some(NamedKeeper::new(rt, store, name));
-            tells("ok", answer)
+            *keeper = Some(kept(rt, name, AnyKeeper::File(store)));
+            says("ok", answer)
         }
         Err(error) => tells(error, answer),
     }

@@ -1,25 +1,24 @@
-//! Rows about the lines of journals, and about keepers that write one.
+//! Rows about the lines of journals, and about a keeper that writes one.
 //!
 //! - `line TEXT` reads a line, which has to be written back as the same text. The answer is `ok` or its fault.
-//! - `keep STORAGE CALLS WRITES HANDLER IMAGE / ENTRIES` begins a life of node 1 with handler 1. Its keeper has the state of
-//!   these blobs in memory, passes on this number of calls, and stands for one in this storage (`file` or `memory`). The
-//!   journal takes this number of writes. A `shared` record is one that another program may take over: its keeper says this
-//!   number of times that it owns the record.
+//! - `keep PLACE CALLS WRITES HANDLER IMAGE / ENTRIES` begins a life of node 1 with handler 1. Its keeper has the state of these
+//!   blobs, and the journal takes this number of writes. A keeper in a `file` passes on this number of calls. A `shared` record is
+//!   one that another program may take over: its keeper says this number of times that it owns the record.
 //! - `hear NOTE FRAME FRAME` tells the keeper what a handler heard, its reply, and the note, `Greeted` or `Known`.
 //! - `ran HANDLER` tells it that an entry has run.
 //! - The commands of any keeper.
 //! - `end` takes the keeper from under the journal, and `drop` drops it.
-//! - `text` answers what was written, and empties it.
+//! - `text` answers what was written, and empties it. `told` does so for what the keeper's watcher was told.
 
 use crate::bytes::read_blobs;
-use crate::keeping::{done, keeper_does};
-use crate::paper::{Owning, Paper};
+use crate::keeping::{done, keeps, says};
+use crate::paper::{Owning, Paper, Teller};
 use scoop_handler::{Heard, Note};
 use scoop_journal::{Line, read, write};
-use scoop_journal_keeper::{JournaledKeeper, SharedJournaledKeeper, Storage};
 use scoop_keeper::{FailingKeeper, Keeper, MemoryKeeper};
 use scoop_lines::is;
 use scoop_message::HandlerId;
+use scoop_observed::{AnyKeeper, NodeJournal, ObservedKeeper, Observers};
 use scoop_record::read_image;
 use scoop_row_player::answers::tells;
 use scoop_row_player::words::{after_space, first, first_three, handler, long};
@@ -27,82 +26,79 @@ use scoop_row_player::{Bad, Subject};
 use std::alloc::Global;
 use std::cell::RefCell;
 
-type Alone<'a> = JournaledKeeper<FailingKeeper<MemoryKeeper>, Paper<'a>>;
+type AnyPlace = AnyKeeper<FailingKeeper<MemoryKeeper>, Owning<MemoryKeeper>>;
 
-type Shared<'a> = SharedJournaledKeeper<Owning<MemoryKeeper>, Paper<'a>>;
+type Journaled<'a> = ObservedKeeper<'a, AnyPlace, Teller<'a>, Paper<'a>>;
 
-/// A keeper with a journal, one over a shared record, or none; and what was written.
+/// A keeper with a journal, or none; and what was written.
 #[derive(Drop)]
 pub struct Journals<'a> {
     text: &'a RefCell<Vec<u8>>,
-    alone: Option<Alone<'a>>,
-    shared: Option<Shared<'a>>,
+    told: &'a RefCell<Vec<u8>>,
+    keeper: Option<Journaled<'a>>,
 }
 
 impl<'a> Journals<'a> {
-    pub fn new(text: &'a RefCell<Vec<u8>>) -> Journals<'a> {
+    pub fn new(text: &'a RefCell<Vec<u8>>, told: &'a RefCell<Vec<u8>>) -> Journals<'a> {
         Journals {
             text,
-            alone: None,
-            shared: None,
+            told,
+            keeper: None,
         }
     }
 
     fn begins(&mut self, line: &[u8], answer: &mut Vec<u8>) -> Result<(), Bad> {
         let alloc = *answer.allocator();
-        let (storage, calls, writes, line) = first_three(line)?;
-        let left = long(calls)?;
+        let (place, line) = first(line)?;
+        let (calls, line) = first(line)?;
+        let (writes, line) = first(line)?;
+        let left = decimal(calls).ok_or(Bad::Number)?;
         let paper = Paper {
             text: self.text,
             left: long(writes)?,
         };
         let handlers = Vec::from_slice(alloc, &[HandlerId(1)])?;
         let keeper = filled(alloc, line)?;
-        if is(storage, "shared") {
-            let keeper = Owning { keeper, left };
-            self.shared = Some(SharedJournaledKeeper::new(alloc, keeper, paper, 1, handlers));
+        let keeper = if is(place, "shared") {
+            AnyKeeper::Shared(Owning { keeper, left })
         } else {
-            let storage = if is(storage, "file") {
-                Storage::File
-            } else {
-                Storage::Memory
-            };
-            let keeper = FailingKeeper::new(keeper, left);
-            self.alone = Some(JournaledKeeper::new(alloc, keeper, storage, paper, 1, handlers));
-        }
-        tells("ok", answer)
+            AnyKeeper::File(FailingKeeper::new(keeper, left))
+        };
+        let observers = Observers {
+            name: None,
+            counts: None,
+            journal: Some(NodeJournal::new(alloc, paper, 1, handlers)),
+            watcher: Teller { told: self.told },
+        };
+        self.keeper = Some(ObservedKeeper::new(keeper, observers));
+        says("ok", answer)
     }
 
     fn ends(&mut self, answer: &mut Vec<u8>) -> Result<(), Bad> {
-        if let Some(alone) = self.alone.take() {
-            let _kept = alone.into_inner();
-        }
-        if let Some(shared) = self.shared.take() {
-            let _kept = shared.into_inner();
+        if let Some(keeper) = self.keeper.take() {
+            let _kept = keeper.into_inner();
         }
         tells("ok", answer)
     }
 
-    fn notes(&mut self, name: &[u8], line: &[u8], answer: &mut Vec<u8>) -> Result<(), Bad> {
-        if let Some(alone) = &mut self.alone {
-            return notes(alone, name, line, answer);
-        }
-        match &mut self.shared {
-            Some(shared) => notes(shared, name, line, answer),
+    fn tells(&mut self, name: &[u8], line: &[u8], answer: &mut Vec<u8>) -> Result<(), Bad> {
+        match &mut self.keeper {
+            Some(keeper) => tells(keeper, name, line, answer),
             None => Err(Bad::Command),
         }
     }
+}
 
-    fn shows_text(&self, answer: &mut Vec<u8>) -> Result<(), Bad> {
-        match self.text.try_borrow_mut() {
-            Ok(mut text) => {
-                text.pop();
-                answer.extend_from_slice(text.as_slice())?;
-                text.clear();
-                Ok(())
-            }
-            Err(_) => Err(Bad::Memory),
+// Adds what was written there without its last byte, and empties it.
+fn shows_text(written: &RefCell<Vec<u8>>, answer: &mut Vec<u8>) -> Result<(), Bad> {
+    match written.try_borrow_mut() {
+        Ok(mut text) => {
+            text.pop();
+            answer.extend_from_slice(text.as_slice())?;
+            text.clear();
+            Ok(())
         }
+        Err(_) => Err(Bad::Memory),
     }
 }
 
@@ -114,12 +110,12 @@ impl Subject for Journals<'_> {
             b"keep" => self.begins(line, answer),
             b"end" => self.ends(answer),
             b"drop" => {
-                self.alone = None;
-                self.shared = None;
-                tells("ok", answer)
+                self.keeper = None;
+                says("ok", answer)
             }
-            b"text" => self.shows_text(answer),
-            _ => self.notes(name, line, answer),
+            b"text" => shows_text(self.text, answer),
+            b"told" => shows_text(self.told, answer),
+            _ => self.tells(name, line, answer),
         }
     }
 }

@@ -1,10 +1,11 @@
-//! A writer of journals that refuses, and a keeper whose record is taken over.
+//! A writer of journals that refuses, a keeper whose record is taken over, and a watcher that writes down what it is told.
 
 ghost use Rattle.std.specs.Prelude.{◌≡◌, IfErr};
 
-use scoop_handler::HandlerState;
-use scoop_keeper::{Keeper, KeeperError};
-use scoop_message::{ClientId, HandlerId};
+use scoop_handler::{HandlerState, Heard};
+use scoop_keeper::{Keeper, KeeperError, SharedKeeper};
+use scoop_message::{ClientId, HandlerId, Message};
+use scoop_watch::Watcher;
 use std::alloc::Global;
 use std::cell::RefCell;
 use std::io;
@@ -95,5 +96,46 @@ impl<K: Keeper<Global>> SharedKeeper<Global> for Owning<K> {
 
     fn confirm(&mut self) -> Result<(), KeeperError> {
         self.answer()
+    }
+}
+
+/// A watcher that writes down a word for each call. Its lender reads them.
+#[derive(Drop)]
+pub struct Teller<'a> {
+    pub told: &'a RefCell<Vec<u8>>,
+}
+
+impl Teller<'_> {
+    // A word for which there is no room is missing in the row's answer.
+    fn tell(&self, word: &str) {
+        if let Ok(mut told) = self.told.try_borrow_mut() {
+            let _told = told.extend_from_slice(word.as_bytes());
+        }
+    }
+}
+
+impl Watcher for Teller<'_> {
+    fn put(&self, _state: &HandlerState, stored: Result<(), KeeperError>) {
+        self.tell(if stored.is_ok() {
+            "stored "
+        } else {
+            "refused "
+        });
+    }
+
+    fn load(&self, _state: &HandlerState) {
+        self.tell("loaded ");
+    }
+
+    fn refuse_commit(&self, _error: KeeperError) {
+        self.tell("uncommitted ");
+    }
+
+    fn hear(&self, _message: &Message, _heard: &Heard) {
+        self.tell("heard ");
+    }
+
+    fn run(&self) {
+        self.tell("ran ");
     }
 }

@@ -35,7 +35,7 @@ impl<'a, R: Wait + Clock> SystemAreas<'a, R> {
             log: LogLevel::Debug,
             shows_states: true,
         };
-        let watch = Watch::new(alloc, settings);
+        let watch = Watch::new(alloc, settings)?;
         match Watches::new(alloc, self.rt, &watch) {
             Ok(mut watches) => play.over(&mut watches, sheet),
             Err(bad) => Err(bad),

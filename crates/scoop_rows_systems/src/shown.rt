@@ -85,11 +85,11 @@ impl<'a, R: Wait + Clock> Watches<'a, R> {
         let mut log = Log::new(written, NODE, LogLevel::Debug);
         for _ in 0..*rounds {
             for _ in 0..*each {
-                self.notes(&message, &heard)?;
+                self.notes(&message, &heard);
             }
             log.write_all(self.rt, self.watch, *millis);
         }
-        self.notes(&message, &heard)?;
+        self.notes(&message, &heard);
         log.write_all(self.rt, self.watch, *end);
         Ok(())
     }

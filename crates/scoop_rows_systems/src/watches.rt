@@ -1,31 +1,33 @@
 //! Rows about a handler that is watched: handler 3 of the system [`SYSTEM`], an exchange that is named till.
 //!
 //! - `hear MESSAGE` gives the handler a message, in the words of `scoop frame`, and answers the note. `run` runs an entry.
-//! - `put` stores the handler's state, `refuse` tries so with a store that refuses, and `load H` loads a handler from a store
-//!   that has the state. `shown H` answers whether the watch shows the `same` state as the handler has, an `other` one or `none`.
+//! - `put` notes that the handler's state is stored, `refuse` that a store refused it, and `load` that it was loaded. `shown H`
+//!   answers whether the watch shows the `same` state as the handler has, an `other` one or `none`.
 //! - `greeted MESSAGE` notes a message as a greeting of another handler.
-//! - `stranger CLIENT HANDLER` brings a message of an unknown client. `link G F ROOM N` brings G genuine and F forged
+//! - `stranger CLIENT HANDLER` brings a Hello of an unknown client. `link G F ROOM N` brings G genuine and F forged
 //!   datagrams over a sealed link that has room for ROOM, and sends N times; it answers how many came and how many sends failed.
 //! - `says TEXT` writes a line of the node's output, and answers whether the node is open before the flush, whether after it,
 //!   and whether all of the text was passed on.
 //!
 //! [`crate::shown`] has the commands that show it.
 
-use scoop_node_link::Strangers;
+use crate::text::{numbers, read_text, tells, told};
 use scoop_demo::read_message;
+use scoop_frame::{Version, encode};
 use scoop_handler::{Handler, Heard, Note};
-use scoop_keeper::{FailingKeeper, Keeper, MemoryKeeper};
+use scoop_keeper::KeeperError;
 use scoop_lines::is;
 use scoop_link::{Link, Party, TapeLink};
 use scoop_message::limits::BUFFER_LEN;
 use scoop_message::{ClientId, HandlerId, Message};
+use scoop_node_link::NodeLink;
 use scoop_object::{Class, Table};
-use scoop_row_player::answers::{tells, told};
-use scoop_row_player::words::{after_space, first, handler, number, numbers, read_text};
+use scoop_pacing::SystemTimes;
+use scoop_row_player::words::{first, last, number};
 use scoop_row_player::{Bad, Subject};
 use scoop_seal::{Key, SealedLink};
 use scoop_system::System;
-use scoop_watch::{Watch, WatchedKeeper, WatchedLink, WatchedOutput, WatchedStrangers};
+use scoop_watch::{Watch, Watched, WatchedOutput, Watcher};
 use std::alloc::Global;
 use std::io::Write;
 use std::sync::Wait;
@@ -55,7 +57,7 @@ pub struct Watches<'a, R> {
     pub(crate) watch: &'a Watch,
     pub(crate) system: System,
     pub(crate) handler: Handler<Table>,
-    keeper: WatchedKeeper<'a, MemoryKeeper, R>,
+    watched: Watched<'a, R>,
 }
 
 fn handler_of(alloc: Global, system: &System) -> Result<Handler<Table>, Bad> {
@@ -77,12 +79,15 @@ impl<R: Wait + Clock> Subject for Watches<'_, R> {
         match name {
             b"hear" | b"greeted" => self.hears(name, line, answer),
             b"run" => self.runs(answer),
-            b"put" => told(self.keeper.put_handler(self.handler.state()), answer),
-            b"refuse" => self.refuses(answer),
-            b"load" => self.loads(handler(line)?, answer),
-            b"shown" => self.compares(handler(line)?, answer),
+            b"put" => self.puts(Ok(()), answer),
+            b"refuse" => self.puts(Err(KeeperError::Refused), answer),
+            b"load" => {
+                self.watched.load(self.handler.state());
+                tells("ok", answer)
+            }
+            b"shown" => self.compares(HandlerId(number(last(line)?)?), answer),
             b"stranger" => self.meets(line, answer),
-            b"link" => passes(self.watch, line, answer),
+            b"link" => self.passes(line, answer),
             b"says" => self.outputs(line, answer),
             _ => self.shows_node(name, line, answer),
         }
@@ -100,18 +105,15 @@ impl<'a, R: Wait + Clock> Watches<'a, R> {
                 watch,
                 system,
                 handler,
-                keeper: WatchedKeeper::new(MemoryKeeper::new(alloc), rt, watch),
+                watched: Watched::new(rt, watch),
             }),
             Err(bad) => Err(bad),
         }
     }
 
     /// Notes what a handler has heard.
-    pub(crate) fn notes(&mut self, message: &Message, heard: &Heard) -> Result<(), Bad> {
-        match self.keeper.note_heard(message, heard) {
-            Ok(()) => Ok(()),
-            Err(_) => Err(Bad::Memory),
-        }
+    pub(crate) fn notes(&self, message: &Message, heard: &Heard) {
+        self.watched.hear(message, heard);
     }
 
     // Gives the handler a message, and adds the note. Or notes it as a greeting of another handler.
@@ -121,14 +123,15 @@ impl<'a, R: Wait + Clock> Watches<'a, R> {
         };
         if is(name, "greeted") {
             let note = Note::Greeted;
-            self.notes(&message, &Heard { reply: None, note })?;
+            self.notes(&message, &Heard { reply: None, note });
             return tells("ok", answer);
         }
         let Ok(heard) = self.handler.hear(&message) else {
             return Err(Bad::Memory);
         };
         write!(answer, "{}", heard.note)?;
-        self.notes(&message, &heard)
+        self.notes(&message, &heard);
+        Ok(())
     }
 
     // Runs the handler's next entry, and adds its number.
@@ -137,30 +140,14 @@ impl<'a, R: Wait + Clock> Watches<'a, R> {
             return tells("none", answer);
         };
         write!(answer, "{} {}", ran.block, ran.number)?;
-        match self.keeper.note_finished(self.handler.number()) {
-            Ok(()) => Ok(()),
-            Err(_) => Err(Bad::Memory),
-        }
+        self.watched.run();
+        Ok(())
     }
 
-    // Stores the state in a store that refuses.
-    fn refuses(&self, answer: &mut Vec<u8>) -> Result<(), Bad> {
-        let failing = FailingKeeper::new(MemoryKeeper::new(*answer.allocator()), 0);
-        let mut watched = WatchedKeeper::new(failing, self.rt, self.watch);
-        told(watched.put_handler(self.handler.state()), answer)
-    }
-
-    // Loads a handler from a store that has the state.
-    fn loads(&self, handler: HandlerId, answer: &mut Vec<u8>) -> Result<(), Bad> {
-        let mut keeper = MemoryKeeper::new(*answer.allocator());
-        if let Err(error) = keeper.put_handler(self.handler.state()) {
-            return tells(error, answer);
-        }
-        let mut watched = WatchedKeeper::new(keeper, self.rt, self.watch);
-        match watched.load_handler(handler) {
-            Ok(_) => tells("ok", answer),
-            Err(error) => tells(error, answer),
-        }
+    // Notes the result of a put of the handler's state.
+    fn puts(&self, stored: Result<(), KeeperError>, answer: &mut Vec<u8>) -> Result<(), Bad> {
+        self.watched.put(self.handler.state(), stored);
+        told(stored, answer)
     }
 
     // Compares what the watch shows with the handler's state.
@@ -173,11 +160,50 @@ impl<'a, R: Wait + Clock> Watches<'a, R> {
         }
     }
 
+    // Brings a greeting of a client over a link that hears another one alone.
     fn meets(&self, line: &[u8], answer: &mut Vec<u8>) -> Result<(), Bad> {
         let (client, line) = first(line)?;
-        let handler = handler(line)?;
-        WatchedStrangers::new(self.rt, self.watch).meet(ClientId(number(client)?), handler);
-        tells("ok", answer)
+        let handler = HandlerId(number(last(line)?)?);
+        let hello = Message::Hello(handler, ClientId(number(client)?), 1);
+        let mut frame = [0; BUFFER_LEN];
+        let len = encode(Version::Two, &hello, &mut frame);
+        let mut tape = TapeLink::new(*answer.allocator(), 0)?;
+        tape.feed(&frame[..len])?;
+        let mut link = self.link_over(*answer.allocator(), SealedLink::new(tape, None))?;
+        let mut buffer = [0; BUFFER_LEN];
+        match link.receive(&mut buffer) {
+            Ok(None) => tells("ok", answer),
+            _ => tells("passed on", answer),
+        }
+    }
+
+    // The node's link over this one. It hears one client alone, and sends at once.
+    fn link_over(
+        &self,
+        alloc: Global,
+        inner: SealedLink<TapeLink>,
+    ) -> Result<NodeLink<'a, TapeLink, SystemTimes<'a, R>>, Bad> {
+        let (clients, counts) = ([ClientId(7)], self.watch.counts());
+        let clock = SystemTimes::new(self.rt);
+        Ok(NodeLink::new(alloc, inner, clock, &clients, counts, false)?)
+    }
+
+    // Brings datagrams over a link that has this room, and then sends over it.
+    fn passes(&self, line: &[u8], answer: &mut Vec<u8>) -> Result<(), Bad> {
+        let alloc = *answer.allocator();
+        let numbers = numbers(alloc, line)?;
+        let [genuine, forged, room, sends] = numbers.as_slice() else {
+            return Err(Bad::Words);
+        };
+        let mut tape = TapeLink::new(alloc, *room as usize)?;
+        for _ in 0..*genuine {
+            tape.feed(&GENUINE)?;
+        }
+        for _ in 0..*forged {
+            tape.feed(b"forged")?;
+        }
+        let mut link = self.link_over(alloc, SealedLink::new(tape, Some(Key::new(KEY))))?;
+        exchanges(&mut link, *sends, answer)
     }
 
     // Writes a line of the node's output. Adds whether the node is open before its flush, whether after it, and whether the
@@ -200,24 +226,6 @@ impl<'a, R: Wait + Clock> Watches<'a, R> {
         write!(answer, "{before} {after} ")?;
         Ok(())
     }
-}
-
-// Brings datagrams over a link that has this room, and then sends over it.
-fn passes(watch: &Watch, line: &[u8], answer: &mut Vec<u8>) -> Result<(), Bad> {
-    let alloc = *answer.allocator();
-    let numbers = numbers(alloc, line)?;
-    let [genuine, forged, room, sends] = numbers.as_slice() else {
-        return Err(Bad::Words);
-    };
-    let mut tape = TapeLink::new(alloc, *room as usize)?;
-    for _ in 0..*genuine {
-        tape.feed(&GENUINE)?;
-    }
-    for _ in 0..*forged {
-        tape.feed(b"forged")?;
-    }
-    let mut link = WatchedLink::new(SealedLink::new(tape, Some(Key::new(KEY))), watch);
-    exchanges(&mut link, *sends, answer)
 }
 
 // Takes what comes over a link, and sends. Adds how many datagrams came, and how many sends failed.

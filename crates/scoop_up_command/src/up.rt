@@ -157,7 +157,7 @@ fn no_memory(rt: &HostRuntime) -> Status {
 }
 
 // Puts it behind the others.
-fn put<T>(rt: &HostRuntime, list: &mut Vec<T>, it: T) -> Result<(), Status> {
+fn put<T: Drop>(rt: &HostRuntime, list: &mut Vec<T>, it: T) -> Result<(), Status> {
     match list.push(it) {
         Ok(()) => Ok(()),
         Err(_) => Err(no_memory(rt)),

@@ -7,14 +7,14 @@ returns-in-Over-clause-taken g c =
     let next = c.in_ok-len.ensures in
     let judge = c.in-Over.ensures in
     takes_over _ _ _ _ _ _ _
-    (came_to g.L.Link.told c.args.self.now c.next.new.self _ Over _ _ _ _ _ c.in-Some.is c.self.view_is next.others next.taken judge.verdict judge.counts)
+    (came_to g.L.Link.told c.args.self.now c.receive_inner.new.self _ Over _ _ _ _ _ c.in-Some.is c.self.view_is next.others next.taken judge.verdict judge.counts)
 
 pub returns-in-Stranger-clause-taken : goal.returns-in-Stranger-clause-taken
 returns-in-Stranger-clause-taken g c =
     let next = c.in_ok-len.ensures in
     let judge = c.in-Stranger.ensures in
     takes_strange _ _ _ _ c.in-Stranger.names _ _ _
-    (came_to g.L.Link.told c.args.self.now c.next.new.self _ (Stranger c.in-Stranger.names) _ _ _ _ _ c.in-Some.is c.self.view_is next.others next.taken
+    (came_to g.L.Link.told c.args.self.now c.receive_inner.new.self _ (Stranger c.in-Stranger.names) _ _ _ _ _ c.in-Some.is c.self.view_is next.others next.taken
     judge.verdict judge.counts)
 
 pub returns-in-Ok-true-clause-taken : goal.returns-in-Ok-true-clause-taken
@@ -22,7 +22,7 @@ returns-in-Ok-true-clause-taken g c =
     let next = c.in_ok-len.ensures in
     let judge = c.in-Admitted.ensures in
     takes_answered _ _ _ _ _ _ _ _ _
-    (came_to g.L.Link.told c.args.self.now c.next.new.self _ Admitted _ _ _ _ _ c.in-Some.is c.self.view_is next.others next.taken judge.verdict judge.counts)
+    (came_to g.L.Link.told c.args.self.now c.receive_inner.new.self _ Admitted _ _ _ _ _ c.in-Some.is c.self.view_is next.others next.taken judge.verdict judge.counts)
     (rw c.in-Ok-true.field-0-test at c.in-Ok-true.ensures.answers)
 
 pub returns-in-Err-clause-taken : goal.returns-in-Err-clause-taken
@@ -31,5 +31,5 @@ returns-in-Err-clause-taken g c =
     let judge = c.in-Admitted.ensures in
     rw c.answer.ensures.clock
     (ends_lost _ _ _ _ _ _ _ _ _ _ _
-    (came_to g.L.Link.told c.args.self.now c.next.new.self _ Admitted _ _ _ _ _ c.in-Some.is c.self.view_is next.others next.taken judge.verdict judge.counts)
+    (came_to g.L.Link.told c.args.self.now c.receive_inner.new.self _ Admitted _ _ _ _ _ c.in-Some.is c.self.view_is next.others next.taken judge.verdict judge.counts)
     c.in-Err.ensures.answers)
