@@ -1,11 +1,26 @@
 //! Links in layers over a tape, and the two ends of a pair.
 
-use scoop_link::{Datagram, PacedLink, ScriptLink, TapeLink};
+ghost use Rattle.std.specs.Prelude.{[], None};
+
+use scoop_link::{
+    Datagram, Link, LinkFault, PacedLink, Party, ScriptLink, SetsAddress, TapeLink,
+};
+use scoop_links::{ClientLink, ClientNotes};
 use scoop_message::OutOfMemory;
-use scoop_pacing::{MeasuredLink, Times};
+use scoop_message::limits::BUFFER_LEN;
+use scoop_pacing::Times;
+use scoop_system::System;
+use std::alloc::Global;
+use std::net::SocketAddr;
 use scoop_node_link::{AdmittingLink, BudgetLink, HoldingLink, NoReport, RecallingLink};
 use scoop_row_player::Heap;
 use scoop_seal::SealedLink;
+
+// A system with one handler.
+const HANDLER_1: &str = "\
+node = [{number = 1, address = \"127.0.0.1:7101\"}]
+handler = [{number = 1, node = 1, class = \"cell\", words = [0]}]
+";
 
 /// A clock that shows a step more each time.
 #[derive(Drop)]
@@ -31,6 +46,45 @@ impl Times for Steps {
 
 pub(crate) type Tape<'a> = TapeLink<Heap<'a>>;
 
+/// A tape that plays to a client's link. It has no addresses.
+#[derive(Drop)]
+pub(crate) struct Placed<'a> {
+    pub(crate) tape: Tape<'a>,
+}
+
+impl Link for Placed<'_> {
+    ghost told = { λ _. None };
+
+    ghost fault_count = { λ p. p.tape.faults };
+
+    fn send(&mut self, to: Party, bytes: &[u8]) -> Result<(), LinkFault> {
+        self.tape.send(to, bytes)
+    }
+
+    fn receive(&mut self, buffer: &mut [u8; BUFFER_LEN]) -> Result<Option<usize>, LinkFault> {
+        self.tape.receive(buffer)
+    }
+
+    fn faults(&self) -> u64 {
+        self.tape.faults()
+    }
+}
+
+impl SetsAddress for Placed<'_> {
+    ghost addresses = { λ _. [] };
+
+    ghost came_from = { λ _. None };
+
+    fn set_address(&mut self, _party: Party, _address: SocketAddr) {}
+
+    fn origin(&self) -> Option<SocketAddr> {
+        None
+    }
+}
+
+/// A client's link to handler 1.
+pub(crate) type Client<'a> = ClientLink<Placed<'a>, Steps, Vec<u8>, Heap<'a>>;
+
 /// The link of a case.
 #[derive(Drop)]
 pub(crate) enum Layers<'a> {
@@ -41,7 +95,7 @@ pub(crate) enum Layers<'a> {
     Sealed(SealedLink<Tape<'a>>),
     Admitting(AdmittingLink<Tape<'a>, NoReport>),
     Budget(BudgetLink<Tape<'a>, Steps, Heap<'a>>),
-    Measured(MeasuredLink<Tape<'a>, Steps, Heap<'a>>),
+    Client(Client<'a>),
     Recalling(RecallingLink<'a, Tape<'a>, Heap<'a>>),
     Pair(ScriptLink<Heap<'a>>, ScriptLink<Heap<'a>>),
 }
@@ -56,7 +110,7 @@ impl<'a> Layers<'a> {
             Layers::Sealed(link) => Some(link.inner()),
             Layers::Admitting(link) => Some(link.inner()),
             Layers::Budget(link) => Some(link.inner()),
-            Layers::Measured(link) => Some(link.inner()),
+            Layers::Client(link) => Some(&link.inner().tape),
             Layers::Recalling(link) => Some(link.inner()),
             Layers::Nothing | Layers::Pair(..) => None,
         }
@@ -71,6 +125,22 @@ impl<'a> Layers<'a> {
             _ => 0,
         }
     }
+}
+
+/// A client's link over a tape. Each look at its clock shows 50 milliseconds more.
+pub(crate) fn client_of<'a>(
+    alloc: Global,
+    heap: Heap<'a>,
+    tape: Tape<'a>,
+) -> Result<Client<'a>, OutOfMemory> {
+    let Ok(system) = System::read(alloc, HANDLER_1) else {
+        return Err(OutOfMemory);
+    };
+    let notes = ClientNotes {
+        waits: Vec::new(alloc),
+        faults: Vec::new(alloc),
+    };
+    ClientLink::new(heap, Placed { tape }, Steps::of(50_000), notes, &system, 0)
 }
 
 /// A tape with room for this number of sent datagrams, which will give those that it was fed.

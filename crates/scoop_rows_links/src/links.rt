@@ -10,7 +10,7 @@
 //!   no key
 //! - `admitting ROOM`: for clients 7 and 8
 //! - `budget ROOM`: for clients 7 and 8, each look at the clock 400 microseconds after the last one
-//! - `measured ROOM`: for one party, each look at the clock 50 milliseconds after the last one
+//! - `client ROOM`: a client's link to handler 1, each look at the clock 50 milliseconds after the last one
 //! - `pair ROOM DROP DOUBLE FAIL`: an end with this script, and one without
 //!
 //! - `send handler|client N BYTES`, `receive`, `flush` and `faults` are calls of the link.
@@ -19,7 +19,7 @@
 //! - `sent I` and `count` ask the tape, `refused` the count of a layer.
 //! - `put H` stores a state of handler H through the keeper that counts, and `stored H` asks whether it has one.
 
-use crate::layers::{Layers, Steps, Tape, tape_of};
+use crate::layers::{Layers, Steps, Tape, client_of, tape_of};
 use crate::seals::system_key;
 use scoop_node_link::{AdmittingLink, BudgetLink, NoReport};
 use scoop_handler::HandlerState;
@@ -28,7 +28,6 @@ use scoop_lines::is;
 use scoop_link::{Datagram, HoldingLink, Link, PacedLink, Party, Script, ScriptLink};
 use scoop_message::limits::BUFFER_LEN;
 use scoop_message::{ClientId, HandlerId, OutOfMemory, Words};
-use scoop_pacing::MeasuredLink;
 use scoop_queue::QueueOfQueues;
 use scoop_node_link::{Changes, CountingKeeper, RecallingLink};
 use scoop_row_player::answers::{put_bytes, tells, told};
@@ -77,9 +76,7 @@ impl<'a> Links<'a> {
                 Layers::Admitting(AdmittingLink::new(tape, clients, NoReport))
             }
             b"budget" => Layers::Budget(BudgetLink::new(heap, tape, Steps::of(400), &CLIENTS)?),
-            b"measured" => {
-                Layers::Measured(MeasuredLink::new(heap, tape, Steps::of(50_000), 1, 0)?)
-            }
+            b"client" => Layers::Client(client_of(alloc, heap, tape)?),
             b"recalling" => Layers::Recalling(RecallingLink::new(heap, tape, self.changes)?),
             b"unsealed" => Layers::Sealed(SealedLink::new(tape, None)),
             _ => Layers::Tape(tape),
@@ -160,7 +157,7 @@ impl<'a> Links<'a> {
             Layers::Sealed(link) => call(link, name, line, answer),
             Layers::Admitting(link) => call(link, name, line, answer),
             Layers::Budget(link) => call(link, name, line, answer),
-            Layers::Measured(link) => call(link, name, line, answer),
+            Layers::Client(link) => call(link, name, line, answer),
             Layers::Recalling(link) => call(link, name, line, answer),
             Layers::Pair(link, _) => call(link, name, line, answer),
         }
@@ -216,7 +213,7 @@ impl<'a> Links<'a> {
             | b"paced"
             | b"admitting"
             | b"budget"
-            | b"measured"
+            | b"client"
             | b"recalling"
             | b"unsealed" => self.makes(name, line, answer),
             _ => Err(Bad::Command),

@@ -21,22 +21,22 @@ use scoop_keeper::MemoryKeeper;
 use scoop_lines::is;
 use scoop_link::{Datagram, TapeLink};
 use scoop_message::limits::BUFFER_LEN;
-use scoop_message::{ClientId, HandlerId};
+use scoop_message::ClientId;
 use scoop_row_player::Bad;
 use scoop_row_player::answers::{has, tells, without_last};
 use scoop_row_player::words::{after_space, first_three, last, long, number, read_text};
 use scoop_runtime::{
-    Caller, ClientPlan, ClientProgram, Progress, RuntimeError, client_cut, client_run, program_run,
+    Caller, ClientPlan, ClientProgram, ClientRecord, Console, ProgramRun, Progress, RuntimeError,
+    client_cut, client_run, program_run,
 };
 use scoop_system::System;
 use std::alloc::Global;
 use std::io;
 use std::io::{Error, ErrorKind, Write};
+use std::mem;
 
-const ONE: HandlerId = HandlerId(1);
-
-// Datagrams that a client can send in one session.
-const ROOM: usize = 256;
+// Datagrams that a client can send in one session, which repeats each one at each turn.
+const ROOM: usize = 2_048;
 
 /// What a client hears and keeps, and what it said at its end.
 #[derive(Drop)]
@@ -144,21 +144,21 @@ impl Sessions {
     ) -> Result<(), Bad> {
         let alloc = *answer.allocator();
         let text = read_text(alloc, line)?;
-        let link = tape_of(alloc, self.heard.as_slice())?;
+        let mut link = tape_of(alloc, self.heard.as_slice())?;
         self.notes.clear();
-        let ended = client_run(
-            alloc,
-            plan,
-            &mut self.keeper,
-            link,
-            Some(Journal::new(alloc, &mut self.written)),
-            &mut TextLines::new(text.as_slice()),
-            Vec::new(alloc),
-            Vec::new(alloc),
-            &mut NoPause,
-            answer,
-            &mut self.notes,
-        );
+        let mut record = ClientRecord {
+            store: mem::replace(&mut self.keeper, MemoryKeeper::new(alloc)),
+            journal: Some(Journal::new(alloc, &mut self.written)),
+        };
+        let mut console = Console {
+            lines: TextLines::new(text.as_slice()),
+            output: &mut *answer,
+            notes: &mut self.notes,
+            pause: NoPause,
+        };
+        let ended = client_run(alloc, plan, &mut record, &mut link, &mut console);
+        let ClientRecord { store, .. } = record;
+        self.keeper = store;
         match ended {
             Ok(()) => ends(Ok(()), answer),
             Err(stop) => {
@@ -177,25 +177,25 @@ impl Sessions {
         answer: &mut Vec<u8>,
     ) -> Result<(), Bad> {
         let alloc = *answer.allocator();
-        let link = tape_of(alloc, self.heard.as_slice())?;
+        let mut link = tape_of(alloc, self.heard.as_slice())?;
         let word = last(line)?;
         if is(word, "let-go") {
             return self.lets_go(plan, link, answer);
         }
         let mut asker = Asker::of(word)?;
         self.notes.clear();
-        let end = program_run(
-            alloc,
-            plan,
-            &mut self.keeper,
-            link,
-            Some(Journal::new(alloc, &mut self.written)),
-            &mut asker,
-            Vec::new(alloc),
-            Vec::new(alloc),
-            NoPause,
-            &mut self.notes,
-        );
+        let mut record = ClientRecord {
+            store: mem::replace(&mut self.keeper, MemoryKeeper::new(alloc)),
+            journal: Some(Journal::new(alloc, &mut self.written)),
+        };
+        let run = ProgramRun {
+            program: &mut asker,
+            pause: NoPause,
+            notes: &mut self.notes,
+        };
+        let end = program_run(alloc, plan, &mut record, &mut link, run);
+        let ClientRecord { store, .. } = record;
+        self.keeper = store;
         asker.tells_balance(answer)?;
         answer.extend_from_slice(&self.notes)?;
         match end.ended {
@@ -214,23 +214,23 @@ impl Sessions {
     ) -> Result<(), Bad> {
         let alloc = *answer.allocator();
         let mut asker = Asker::of(b"returns")?;
-        let mut journal = Some(Journal::new(alloc, &mut self.written));
         self.notes.clear();
-        match Caller::begin(
-            alloc,
-            plan,
-            &[ONE],
-            &mut self.keeper,
-            link,
-            &mut journal,
-            NoPause,
-            &mut self.notes,
-        ) {
+        let mut record = ClientRecord {
+            store: mem::replace(&mut self.keeper, MemoryKeeper::new(alloc)),
+            journal: Some(Journal::new(alloc, &mut self.written)),
+        };
+        let begun = match Caller::begin(alloc, plan, &mut record, link, NoPause, &mut self.notes) {
             Ok(begun) => {
                 let mut caller = begun;
                 let _ended = asker.run(&mut caller);
+                Ok(())
             }
-            Err(error) => return tells(error, answer),
+            Err(error) => Err(error),
+        };
+        let ClientRecord { store, .. } = record;
+        self.keeper = store;
+        if let Err(error) = begun {
+            return tells(error, answer);
         }
         asker.tells_balance(answer)?;
         answer.extend_from_slice(&self.notes)?;
@@ -240,19 +240,22 @@ impl Sessions {
     // Cuts the blocks of a client.
     fn cuts(&mut self, plan: &ClientPlan<'_>, answer: &mut Vec<u8>) -> Result<(), Bad> {
         let alloc = *answer.allocator();
-        let link = tape_of(alloc, self.heard.as_slice())?;
+        let mut link = tape_of(alloc, self.heard.as_slice())?;
         self.notes.clear();
+        let mut record = ClientRecord {
+            store: mem::replace(&mut self.keeper, MemoryKeeper::new(alloc)),
+            journal: Some(Journal::new(alloc, &mut self.written)),
+        };
         let ended = client_cut(
             alloc,
             plan,
-            &mut self.keeper,
-            link,
-            Some(Journal::new(alloc, &mut self.written)),
-            Vec::new(alloc),
-            Vec::new(alloc),
+            &mut record,
+            &mut link,
             answer,
             &mut self.notes,
         );
+        let ClientRecord { store, .. } = record;
+        self.keeper = store;
         ends(ended, answer)
     }
 }

@@ -115,7 +115,7 @@ where
     pub fn begin<'r>(
         alloc: Global,
         plan: &'p ClientPlan<'s>,
-        record: &'r mut ClientRecord<K, J>,
+        records: &'r mut ClientRecord<K, J>,
         link: L,
         pause: P,
         notes: N,
@@ -126,13 +126,13 @@ where
             plan,
             known: &known,
         };
-        let client = begin_client(&setting, &mut record.store, &mut record.journal)?;
-        let session = Session::new(alloc, client, link, plan.turns(), &mut record.journal);
+        let client = begin_client(&setting, &mut records.store, &mut records.journal)?;
+        let session = Session::new(alloc, client, link, plan.turns(), &mut records.journal);
         let mut caller = Caller {
             alloc,
             plan,
             known,
-            keeper: &mut record.store,
+            keeper: &mut records.store,
             session,
             pause,
             notes,

@@ -206,7 +206,8 @@ where
             Ok(None) => break,
             Err(error) => return Err(RuntimeError::Input(error)),
         };
-        let next = match read_and_obey(plan, session, &line, number, console, progress) {
+        let obeyed = read_and_obey(plan, session, &line, number, console, progress);
+        let next = match obeyed {
             Ok(next) => next,
             Err(error) => return Err(error),
         };
@@ -409,7 +410,7 @@ fn unbegun_after(error: RuntimeError) -> Ran
 // drop it.
 fn run_lives<K, L, J, I, W, N, P>(
     setting: &Setting<'_, '_>,
-    record: &mut ClientRecord<K, J>,
+    records: &mut ClientRecord<K, J>,
     link: &mut L,
     console: &mut Console<I, W, N, P>,
     progress: &mut Progress,
@@ -423,10 +424,10 @@ where
     N: Write + Drop,
     P: Pause + Drop,
     ensures lives { RunsLives setting.now.plan.now.place.client setting.now.plan.now.place.batch setting.now.known.now
-        (K.incarnations record.old.store) (K.incarnations record.new.store) (K.is_honest record.new.store) result.ended result.unended }
-    ensures honest { K.is_honest record.new.store → K.is_honest record.old.store }
+        (K.incarnations records.old.store) (K.incarnations records.new.store) (K.is_honest records.new.store) result.ended result.unended }
+    ensures honest { K.is_honest records.new.store → K.is_honest records.old.store }
 {
-    let client = match begin_client(setting, &mut record.store, &mut record.journal) {
+    let client = match begin_client(setting, &mut records.store, &mut records.journal) {
         Ok(client) => client,
         Err(error) => return unbegun_after(error),
     };
@@ -434,14 +435,14 @@ where
         setting,
         client,
         link,
-        &mut record.journal,
+        &mut records.journal,
         console,
         progress,
     );
     let unended = cut_left(
         setting,
-        &mut record.store,
-        &mut record.journal,
+        &mut records.store,
+        &mut records.journal,
         link,
         remains,
         &mut console.notes,
@@ -455,7 +456,7 @@ where
 fn run_begun<K, L, J, I, W, N, P>(
     alloc: Global,
     plan: &ClientPlan<'_>,
-    record: &mut ClientRecord<K, J>,
+    records: &mut ClientRecord<K, J>,
     link: &mut L,
     console: &mut Console<I, W, N, P>,
     progress: &mut Progress,
@@ -469,8 +470,8 @@ where
     N: Write + Drop,
     P: Pause + Drop,
     ensures lives { RunsLives plan.now.place.client plan.now.place.batch (known_to plan.now.system.now plan.now.place)
-        (K.incarnations record.old.store) (K.incarnations record.new.store) (K.is_honest record.new.store) result.ended result.unended }
-    ensures honest { K.is_honest record.new.store → K.is_honest record.old.store }
+        (K.incarnations records.old.store) (K.incarnations records.new.store) (K.is_honest records.new.store) result.ended result.unended }
+    ensures honest { K.is_honest records.new.store → K.is_honest records.old.store }
 {
     let known = match plan.system().known_to(alloc, &plan.place()) {
         Ok(known) => known,
@@ -481,7 +482,7 @@ where
         plan,
         known: &known,
     };
-    run_lives(&setting, record, link, console, progress)
+    run_lives(&setting, records, link, console, progress)
 }
 
 /// Runs a client over a link. It takes its next incarnation from the store, greets every handler that it uses, and then does what
@@ -518,7 +519,7 @@ where
 pub fn client_run<K, L, J, I, W, N, P>(
     alloc: Global,
     plan: &ClientPlan<'_>,
-    record: &mut ClientRecord<K, J>,
+    records: &mut ClientRecord<K, J>,
     link: &mut L,
     console: &mut Console<I, W, N, P>,
 ) -> Result<(), ClientStop>
@@ -531,11 +532,11 @@ where
     N: Write + Drop,
     P: Pause + Drop,
     ensures ran { ClientRan plan.now.place.client plan.now.place.batch (known_to plan.now.system.now plan.now.place)
-        (K.incarnations record.old.store) (K.incarnations record.new.store) (K.is_honest record.new.store) result }
-    ensures honest { K.is_honest record.new.store → K.is_honest record.old.store }
+        (K.incarnations records.old.store) (K.incarnations records.new.store) (K.is_honest records.new.store) result }
+    ensures honest { K.is_honest records.new.store → K.is_honest records.old.store }
 {
     let mut progress = Progress::new();
-    let ran = run_begun(alloc, plan, record, link, console, &mut progress);
+    let ran = run_begun(alloc, plan, records, link, console, &mut progress);
     progress.unended = ran.unended;
     match ran.ended {
         Ok(()) => Ok(()),

@@ -20,7 +20,7 @@ pub struct ClientRecord<K: Keeper<Global>, J: Write + Drop> {
 #[derive(Drop)]
 pub struct Console<I, W, N, P>
 where
-    I: LineSource + Interrupt + Drop,
+    I: LineSource + Interrupt,
     W: Write + Drop,
     N: Write + Drop,
     P: Pause + Drop,

@@ -188,7 +188,7 @@ fn print_cut<W: Write>(client: ClientId, handlers: &[HandlerId], writer: &mut W)
 pub fn client_cut<K, L, J, W, N>(
     alloc: Global,
     plan: &ClientPlan<'_>,
-    record: &mut ClientRecord<K, J>,
+    records: &mut ClientRecord<K, J>,
     link: &mut L,
     output: &mut W,
     notes: &mut N,
@@ -200,10 +200,10 @@ where
     W: Write,
     N: Write,
     ensures cuts { OnOk result (Cuts plan.now.place.client plan.now.place.batch (known_to plan.now.system.now plan.now.place)
-        (known_to plan.now.system.now plan.now.place) (K.incarnations record.old.store) (K.incarnations record.new.store) (K.is_honest record.new.store)) }
+        (known_to plan.now.system.now plan.now.place) (K.incarnations records.old.store) (K.incarnations records.new.store) (K.is_honest records.new.store)) }
     ensures lives { LivesAtMostOnce plan.now.place.client plan.now.place.batch (known_to plan.now.system.now plan.now.place)
-        (K.incarnations record.old.store) (K.incarnations record.new.store) (K.is_honest record.new.store) }
-    ensures honest { K.is_honest record.new.store → K.is_honest record.old.store }
+        (K.incarnations records.old.store) (K.incarnations records.new.store) (K.is_honest records.new.store) }
+    ensures honest { K.is_honest records.new.store → K.is_honest records.old.store }
 {
     let known = plan.system().known_to(alloc, &plan.place())?;
     let setting = Setting {
@@ -217,8 +217,8 @@ where
     };
     greet_anew(
         &setting,
-        &mut record.store,
-        &mut record.journal,
+        &mut records.store,
+        &mut records.journal,
         link,
         &greeting,
         notes,

@@ -49,7 +49,7 @@ pub struct ProgramRun<'g, G: ClientProgram, P: Pause + Drop, N: Write + Drop> {
 pub fn program_run<K, L, J, G, P, N>(
     alloc: Global,
     plan: &ClientPlan<'_>,
-    record: &mut ClientRecord<K, J>,
+    records: &mut ClientRecord<K, J>,
     link: &mut L,
     run: ProgramRun<'_, G, P, N>,
 ) -> ProgramEnd
@@ -66,7 +66,7 @@ where
         pause,
         notes,
     } = run;
-    match Caller::begin(alloc, plan, record, LentLink::new(link), pause, notes) {
+    match Caller::begin(alloc, plan, records, LentLink::new(link), pause, notes) {
         Ok(caller) => run_calls(program, caller),
         Err(error) => ProgramEnd::unbegun(error),
     }

@@ -1,23 +1,39 @@
-//! Links to a node that stands at one of several addresses.
+//! A client's link to a node that stands at one of several addresses.
+
+ghost use Rattle.std.specs.Prelude.{◌≡◌};
 
 use super::{CLIENT, HANDLER, at, gets, sends, udp};
 use scoop_free_ports::free_ports;
 use scoop_link::{Link, UdpLink};
-use scoop_links::TurningLink;
+use scoop_links::{ClientLink, ClientNotes};
+use scoop_pacing::Times;
 use scoop_seal::{Key, SealedLink};
 use scoop_system::System;
 use std::alloc::Global;
 use std::process::Abort;
 use std::test::Fail;
 
+// A clock that shows an hour more each time, so that each repeat may go.
+#[derive(Drop)]
+struct Hours(u64);
+
+impl Times for Hours {
+    ghost time = { λ h. h.0 };
+
+    fn now(&mut self) -> u64 {
+        self.0 = self.0.saturating_add(3_600_000_000);
+        self.0
+    }
+}
+
 // The client's link to a node with two addresses.
-fn turning(
+fn client_of(
     rt: &impl Abort,
     alloc: Global,
     link: SealedLink<UdpLink>,
     first: u16,
     second: u16,
-) -> TurningLink<SealedLink<UdpLink>> {
+) -> ClientLink<SealedLink<UdpLink>, Hours, Vec<u8>> {
     let (first, second) = (at(1, first), at(1, second));
     let text = format!(in alloc;
         "\
@@ -27,7 +43,11 @@ handler = [{{number = 1, node = 1, class = \"cell\", words = [0]}}]
     )
     .expect(rt, "out of memory");
     let system = System::read(alloc, &text).expect(rt, "no system");
-    TurningLink::new(alloc, link, &system).expect(rt, "out of memory")
+    let notes = ClientNotes {
+        waits: Vec::new(alloc),
+        faults: Vec::new(alloc),
+    };
+    ClientLink::new(alloc, link, Hours(0), notes, &system, 0).expect(rt, "out of memory")
 }
 
 fn sealed(link: UdpLink) -> SealedLink<UdpLink> {
@@ -84,7 +104,7 @@ fn three_timeouts_turn_a_sealed_client_to_the_next_address(rt: HostRuntime) -> R
     let mut first = sealed(udp(&rt, rt.alloc(), at(1, here), CLIENT, at(1, own)));
     let mut second = sealed(udp(&rt, rt.alloc(), at(1, there), CLIENT, at(1, own)));
     let link = sealed(udp(&rt, rt.alloc(), at(1, own), HANDLER, at(1, here)));
-    let mut client = turning(&rt, rt.alloc(), link, here, there);
+    let mut client = client_of(&rt, rt.alloc(), link, here, there);
     turns(&rt, &mut client, &mut first, &mut second);
     goes(&rt, &mut client, &mut first, &mut second, 5);
     Ok(())
