@@ -1,14 +1,13 @@
 -- The datagrams that a receive has taken so far.
-use Rattle.std.proofs.Common.{◌≡◌, ℕ, Bool, true, false, ◌+◌, ◌≤◌, ◌<◌, List, [], ◌∷◌, ◌++◌, length, take, Option, Some, None, Result, Ok, Err, refl, ap, sym, subst, ◌∙◌, ◌⊎◌, inl, inr, length-append, arith}
+use Rattle.std.proofs.Common.{◌≡◌, ℕ, Bool, true, false, ◌+◌, List, [], ◌∷◌, ◌++◌, length, take, Option, Some, None, Result, Ok, Err, refl, ap, subst, ◌∙◌, inl, inr, length-append, arith}
 use Rattle.std.specs.Prelude.{IfOk, IfSome}
-use Rattle.std.proofs.lemmas.List.{append-nil}
 use Rattle.scoop_link.specs.declared.party.Party.{Party}
 use Rattle.scoop_link.specs.declared.link.LinkFault.{LinkFault}
 use Rattle.scoop_link.specs.Link.{Datagrams, Told, Exchanges}
 use Rattle.scoop_link.proofs.Exchanges.{exchanges_nothing, exchanges-append}
 use Rattle.scoop_node_link.specs.Admission.{IsAdmitted}
 use Rattle.scoop_node_link.specs.Held.{HeldValue, Keeps}
-use Rattle.scoop_node_link.specs.NodeLink.{NodeState, StopsOne, StopsAll, TakesOne, Passes, Loses, Ends, EndsNext, Receives, Stays, forgetting}
+use Rattle.scoop_node_link.specs.NodeLink.{NodeState, StopsOne, StopsAll, TakesOne, Passes, Loses, Ends, Receives, Stays, forgetting}
 
 -- this number of datagrams was stopped
 pub record SoFar (before after : Option Told) (old new : NodeState) (n : ℕ) : Type 0 where
@@ -29,35 +28,6 @@ so_far-next a b c old s new n first one = record {
   stops = StopsAll.next first.stopped first.gone s one.datagram one.gone new first.stops one.stops;
   exchanged = exchanges-append a b c first.stopped (one.datagram ∷ []) first.gone one.gone first.exchanged one.exchanged;
   number = omega (arith, length-append first.stopped (one.datagram ∷ []), first.number);
-}
-
--- then the receive ends
-pub receives-end : (result : Result (Option ℕ) LinkFault) (a b c : Option Told) (old s new : NodeState) (n now : ℕ) (buffer : List ℕ)
-    → SoFar a b old s n → EndsNext result b c s now new buffer → n + 1 ≤ 64 → Receives result a c old now new buffer
-receives-end result a b c old s new n now buffer first ends fits = record {
-  stopped = first.stopped;
-  gone = first.gone;
-  between = s;
-  last = ends.last;
-  stops = first.stops;
-  ends = ends.ends;
-  exchanged = subst (λ gone. Exchanges a c (first.stopped ++ ends.last) gone) (append-nil first.gone)
-      (exchanges-append a b c first.stopped ends.last first.gone [] first.exchanged ends.exchanged);
-  at_most = omega (arith, first.number, ends.at_most, fits);
-}
-
--- or as many were taken as may be
-pub receives-most : (a b : Option Told) (old new : NodeState) (n now : ℕ) (buffer : List ℕ) → SoFar a b old new n → n ≤ 64
-    → Receives (Ok None) a b old now new buffer
-receives-most a b old new n now buffer first fits = record {
-  stopped = first.stopped;
-  gone = first.gone;
-  between = new;
-  last = [];
-  stops = first.stops;
-  ends = (refl, refl);
-  exchanged = subst (λ taken. Exchanges a b taken first.gone) (sym (append-nil first.stopped)) first.exchanged;
-  at_most = omega (arith, first.number, fits);
 }
 
 stays-same : (s : NodeState) → Stays s s

@@ -1,14 +1,14 @@
 -- The outcomes of one receive of the inner link.
-use Rattle.std.proofs.Common.{◌≡◌, ℕ, ◌≤◌, true, false, List, [], ◌∷◌, ◌++◌, length, take, Option, Some, Result, Ok, Err, refl, ap, sym, subst, ◌∙◌, inr, lit≤}
+use Rattle.std.proofs.Common.{◌≡◌, ℕ, List, [], ◌∷◌, take, Option, Some, Ok, Err, refl, ap, sym, subst, ◌∙◌, inr, lit≤}
 use Rattle.scoop_link.specs.declared.link.LinkFault.{LinkFault}
-use Rattle.scoop_link.specs.Link.{Datagrams, Told, Exchanges, taken_by}
+use Rattle.scoop_link.specs.Link.{Told, Exchanges, taken_by}
 use Rattle.scoop_link.proofs.Exchanges.{exchanges-append}
 use Rattle.scoop_frame.specs.declared.naming.Names.{Names}
 use Rattle.scoop_node_link.specs.declared.admission.Verdict.{Verdict}
 use Rattle.scoop_node_link.specs.declared.admission.Verdict.TheVariants.{Admitted, Over, Stranger}
 use Rattle.scoop_node_link.specs.Admission.{AdmissionValue, Judges, after_verdict}
 use Rattle.scoop_node_link.specs.Replies.{MemoryValue, IsRemembered}
-use Rattle.scoop_node_link.specs.Held.{HeldValue, Keeps, after_receive, one_taken, sent_at_once}
+use Rattle.scoop_node_link.specs.Held.{Keeps, after_receive, one_taken, sent_at_once}
 use Rattle.scoop_node_link.specs.NodeLink.{NodeState, NodeLinkValue, StopsOne, TakesOne, EndsNext, Answered, Fails, judged, sent_again, told_of}
 
 -- the state with this admission

@@ -1,5 +1,5 @@
 -- The budgets of clients, and which datagrams they let pass.
-use Rattle.std.specs.Prelude.{◌≡◌, ℕ, ◌+◌, ◌-◌, ◌^◌, min, nat_lt, nat_le, ◌==◌, ◌||◌, Bool, true, List, map, find}
+use Rattle.std.specs.Prelude.{ℕ, ◌+◌, ◌-◌, ◌^◌, min, nat_lt, nat_le, ◌==◌, ◌||◌, Bool, true, List, map, find}
 use Rattle.std.specs.Prelude.{Option, Some, None, if◌then◌else◌}
 use Rattle.std.specs.Option.{option_map}
 use Rattle.scoop_message.specs.declared.name.ClientId.{ClientId}
