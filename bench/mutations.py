@@ -39,13 +39,16 @@ SECONDS = 120
 def refused(crate):
     """Whether the prover refuses each mutation of the crate."""
     to = TOP / 'crates' / crate / 'must-fail'
+    own = to.with_name('must-fail-of-the-gate')
     if to.exists():
-        sys.exit(f'{to} is there already: move it away first')
+        to.rename(own)
     shutil.copytree(KEPT / crate, to)
     try:
         return subprocess.run(['rt', 'must-fail', crate], cwd=TOP).returncode == 0
     finally:
         shutil.rmtree(to)
+        if own.exists():
+            own.rename(to)
 
 
 def edits():
