@@ -139,7 +139,7 @@ where
         thread::scope_env(),
         stage.rt,
         move |scope| -> (Result<Outcome, PartyError>, Clients<Wire, D>)
-            ensures { IfOk result.0 (λ outcome. is_some outcome.waited ≡ stage.now.waits) }
+            ensures { IfOk result.0 (λ outcome. is_some outcome.waited ≡ stage.entry.now.waits) }
         {
             for host in lent.iter_mut() {
                 let spawned = scope.spawn(move || host.serve(stage, alloc));
