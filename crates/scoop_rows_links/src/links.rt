@@ -9,7 +9,7 @@
 //! - `sealed ROOM NAME LIFE`: with the key of the system of this name (`-`: none) and life; `unsealed ROOM`: a sealed link that has
 //!   no key
 //! - `admitting ROOM`: for clients 7 and 8
-//! - `budget ROOM`: for clients 7 and 8, each look at the clock 400 microseconds after the last one
+//! - `budget ROOM`: for clients 7 and 8, each look at the clock 400 microseconds after the last one; `halves ROOM`: 500 after it
 //! - `measured ROOM`: for one party, each look at the clock 50 milliseconds after the last one
 //! - `pair ROOM DROP DOUBLE FAIL`: an end with this script, and one without
 //!
@@ -77,6 +77,7 @@ impl<'a> Links<'a> {
                 Layers::Admitting(AdmittingLink::new(tape, clients, NoReport))
             }
             b"budget" => Layers::Budget(BudgetLink::new(heap, tape, Steps::of(400), &CLIENTS)?),
+            b"halves" => Layers::Budget(BudgetLink::new(heap, tape, Steps::of(500), &CLIENTS)?),
             b"measured" => {
                 Layers::Measured(MeasuredLink::new(heap, tape, Steps::of(50_000), 1, 0)?)
             }
@@ -216,6 +217,7 @@ impl<'a> Links<'a> {
             | b"paced"
             | b"admitting"
             | b"budget"
+            | b"halves"
             | b"measured"
             | b"recalling"
             | b"unsealed" => self.makes(name, line, answer),

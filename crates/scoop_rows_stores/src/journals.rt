@@ -1,6 +1,7 @@
 //! Rows about the lines of journals, and about keepers that write one.
 //!
 //! - `line TEXT` reads a line, which has to be written back as the same text. The answer is `ok` or its fault.
+//! - `twice TEXT` appends a line twice, and answers both results. The writer refuses its first write alone.
 //! - `keep STORAGE CALLS WRITES HANDLER IMAGE / ENTRIES` begins a life of node 1 with handler 1. Its keeper has the state of
 //!   these blobs in memory, passes on this number of calls, and stands for one in this storage (`file` or `memory`). The
 //!   journal takes this number of writes. A `shared` record is one that another program may take over: its keeper says this
@@ -15,13 +16,13 @@ use crate::bytes::read_blobs;
 use crate::keeping::{done, keeper_does};
 use crate::paper::{Owning, Paper};
 use scoop_handler::{Heard, Note};
-use scoop_journal::{Line, read, write};
+use scoop_journal::{Journal, Line, read, write};
 use scoop_journal_keeper::{JournaledKeeper, SharedJournaledKeeper, Storage};
 use scoop_keeper::{FailingKeeper, Keeper, MemoryKeeper};
 use scoop_lines::is;
 use scoop_message::HandlerId;
 use scoop_record::read_image;
-use scoop_row_player::answers::tells;
+use scoop_row_player::answers::{tells, told};
 use scoop_row_player::words::{after_space, first, first_three, handler, long};
 use scoop_row_player::{Bad, Subject};
 use std::alloc::Global;
@@ -55,6 +56,7 @@ impl<'a> Journals<'a> {
         let paper = Paper {
             text: self.text,
             left: long(writes)?,
+            recovers: false,
         };
         let handlers = Vec::from_slice(alloc, &[HandlerId(1)])?;
         let keeper = filled(alloc, line)?;
@@ -93,6 +95,21 @@ impl<'a> Journals<'a> {
         }
     }
 
+    fn appends_twice(&self, line: &[u8], answer: &mut Vec<u8>) -> Result<(), Bad> {
+        let Ok(line) = read(after_space(line)) else {
+            return Err(Bad::Words);
+        };
+        let paper = Paper {
+            text: self.text,
+            left: 0,
+            recovers: true,
+        };
+        let mut journal = Journal::new(*answer.allocator(), paper);
+        told(journal.append(&line), answer)?;
+        answer.extend_from_slice(b", ")?;
+        told(journal.append(&line), answer)
+    }
+
     fn shows_text(&self, answer: &mut Vec<u8>) -> Result<(), Bad> {
         match self.text.try_borrow_mut() {
             Ok(mut text) => {
@@ -111,6 +128,7 @@ impl Subject for Journals<'_> {
         let (name, line) = first(command)?;
         match name {
             b"line" => reads_line(line, answer),
+            b"twice" => self.appends_twice(line, answer),
             b"keep" => self.begins(line, answer),
             b"end" => self.ends(answer),
             b"drop" => {
