@@ -1,6 +1,6 @@
 -- The pending entries of a handler get fewer as they run.
 use Rattle.std.proofs.Common.{◌≡◌, ◌≢◌, ◌<◌, ◌||◌, ℕ, Bool, true, false, if◌then◌else◌, is_some, List, Option, Some, None, IsTrue, IfSome, refl, ap, sym, ◌∙◌}
-use Rattle.std.proofs.Common.{subst, arith}
+use Rattle.std.proofs.Common.{subst}
 use Rattle.std.proofs.lemmas.Option.{same_Some}
 use Rattle.std.specs.Option.{option_map, option_map_or}
 use Rattle.scoop_message.specs.declared.name.Block.{Block}
@@ -10,7 +10,7 @@ use Rattle.scoop_message.specs.Message.{same_handler}
 use Rattle.scoop_message.proofs.Same.{handler_decides}
 use Rattle.scoop_queue.specs.Queue.{PrivateQueue, advance, front}
 use Rattle.scoop_handler.specs.Core.{Core}
-use Rattle.scoop_handler.specs.Running.{Task, begun, finished, first_task, job_out, ran_of, ready, run, task_of}
+use Rattle.scoop_handler.specs.Running.{Task, finished, first_task, job_out, ran_of, ready, task_of}
 use Rattle.scoop_handler.proofs.Basics.{key_found}
 use Rattle.scoop_handler.proofs.RunsOut.{all_pending, fewer_pending}
 use Rattle.scoop_book.specs.declared.event.Event.{Event}

@@ -1,5 +1,5 @@
 -- Lemmas of the reported end.
-use Rattle.std.proofs.Common.{◌≡◌, ℕ, Bool, true, false, Option, Some, None, refl, subst, inl, inr}
+use Rattle.std.proofs.Common.{◌≡◌, ℕ, false, Option, Some, None, refl, subst, inl, inr}
 use Rattle.std.specs.Prelude.{IfSome}
 use Rattle.scoop_link.specs.Link.{Told}
 use Rattle.scoop_book.specs.Passes.{PassValue}

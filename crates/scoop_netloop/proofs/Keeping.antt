@@ -1,5 +1,5 @@
 -- The keeper after a handler's run, and the reasons to break off.
-use Rattle.std.proofs.Common.{◌≡◌, ◌≢◌, ◌≤◌, ◌<◌, ◌||◌, ℕ, ◌++◌, ◌∷◌, [], Bool, true, false, List, Option, Some, None, IfSome, length, refl, ap, sym, ◌∙◌}
+use Rattle.std.proofs.Common.{◌≡◌, ◌≢◌, ◌≤◌, ◌<◌, ◌||◌, ℕ, ◌++◌, ◌∷◌, [], Bool, true, false, List, Option, Some, None, length, refl, ap, sym, ◌∙◌}
 use Rattle.std.proofs.Common.{subst, arith}
 use Rattle.std.proofs.lemmas.List.{length-append}
 use Rattle.scoop_message.specs.declared.name.HandlerId.{HandlerId}
@@ -11,12 +11,12 @@ use Rattle.scoop_keeper.specs.Keeper.{Stored, Keeps, IsSame}
 use Rattle.scoop_keeper.proofs.KeeperLemmas.{is_same_same, is_same_more}
 use Rattle.scoop_book.specs.declared.event.Event.TheVariants.{Begin, Finish}
 use Rattle.scoop_book.specs.declared.event.Reply.{Reply}
-use Rattle.scoop_book.specs.declared.event.Reply.TheVariants.{Began, Finished}
+use Rattle.scoop_book.specs.declared.event.Reply.TheVariants.{Finished}
 use Rattle.scoop_book.specs.declared.error.BookError.{BookError}
 use Rattle.scoop_book.specs.declared.error.BookError.TheVariants.{NodeFailed, HistoryFull, UnknownHandler, StoreRefused, OutOfMemory}
 use Rattle.scoop_book.specs.declared.error.FinishRefusal.{FinishRefusal}
 use Rattle.scoop_book.specs.declared.error.FinishRefusal.TheVariants as unfinished
-use Rattle.scoop_book.specs.Moves.{Entry, LocalHandler, handler_in, leaves, number_in}
+use Rattle.scoop_book.specs.Moves.{LocalHandler, handler_in, number_in}
 use Rattle.scoop_book.specs.Books.{BookValue, Gains, IsRefused, IsUnfinished, KeepsNew, MayHappen, Stays as BookStays, fails_to_finish}
 use Rattle.scoop_book.proofs.BookLemmas.{moved_number}
 use Rattle.scoop_handler.proofs.Basics.{key_found}

@@ -1,7 +1,6 @@
 -- The effect of a send at a book.
-use Rattle.std.proofs.Common.{◌≡◌, ◌⊎◌, ◌↔◌, ℕ, ◌++◌, ◌∷◌, [], List, length, take, drop, Option, Some, None, Result, Ok, refl, ap, sym, ◌∙◌, subst}
+use Rattle.std.proofs.Common.{◌≡◌, ◌⊎◌, ◌↔◌, ℕ, ◌++◌, ◌∷◌, [], List, length, take, drop, Option, Some, None, Result, Ok, ap, sym, ◌∙◌, subst}
 use Rattle.std.proofs.lemmas.List.{take_at}
-use Rattle.scoop_message.specs.declared.name.HandlerId.{HandlerId}
 use Rattle.scoop_message.specs.declared.message.Message.{Message}
 use Rattle.scoop_message.specs.Message.{handler_of}
 use Rattle.scoop_frame.specs.declared.error.FrameError.{FrameError}
@@ -14,7 +13,7 @@ use Rattle.scoop_book.specs.Books.{BookValue}
 use Rattle.scoop_netloop.specs.declared.answer.Answered.{Answered}
 use Rattle.scoop_netloop.specs.declared.answer.Answered.TheVariants.{Reply, Silent, RefusedFrame}
 use Rattle.scoop_netloop.specs.Answering.{AnswersDatagram, AnswersFrame, refuses, answers, answered_of, frame_of, runs_after}
-use Rattle.scoop_netloop.specs.Looping.{Loops, LoopsBack, QueuesReply, RunsThen, loops_back, no_frame}
+use Rattle.scoop_netloop.specs.Looping.{Loops, QueuesReply, RunsThen, loops_back, no_frame}
 
 ok_same : {A E : Type 0} (r : Result A E) (x y : A) → r ≡ Ok x → r ≡ Ok y → x ≡ y
 ok_same r x y e f = cc

@@ -1,5 +1,5 @@
 -- The composition of a loop's turns.
-use Rattle.std.proofs.Common.{◌≡◌, ℕ, Bool, true, false, List, [], ◌∷◌, ◌++◌, Option, refl, ap, sym, ◌∙◌, subst, append_assoc, ◌+◌, ◌≤◌, length, arith}
+use Rattle.std.proofs.Common.{ℕ, Bool, true, List, ◌++◌, Option, refl, ap, sym, ◌∙◌, subst, append_assoc, ◌+◌, ◌≤◌, arith}
 use Rattle.std.proofs.lemmas.List.{append-nil, length-append}
 use Rattle.scoop_link.specs.Link.{Datagrams, Told}
 use Rattle.scoop_link.proofs.Exchanges.{exchanges-append}

@@ -1,7 +1,6 @@
 -- The answers to datagrams.
 use Rattle.std.specs.Prelude.{◌≡◌, ◌≤◌, ⊤, ℕ, Bool, true, false, List, [], length, Option, Some, None}
 use Rattle.scoop_message.specs.declared.limits.TheConstants.{BUFFER_LEN}
-use Rattle.scoop_message.specs.declared.name.HandlerId.{HandlerId}
 use Rattle.scoop_message.specs.declared.message.Message.{Message}
 use Rattle.scoop_message.specs.Message.{handler_of}
 use Rattle.scoop_frame.specs.declared.error.FrameError.{FrameError}

@@ -3,7 +3,7 @@ use Rattle.std.specs.Prelude.{◌≡◌, ◌≤◌, ℕ, Bool, true, List, [], �
 use Rattle.scoop_message.specs.declared.message.Message.{Message}
 use Rattle.scoop_message.specs.Message.{client_of}
 use Rattle.scoop_frame.specs.declared.version.Version.{Version}
-use Rattle.scoop_frame.specs.Frame.{frame, IsFrame}
+use Rattle.scoop_frame.specs.Frame.{IsFrame}
 use Rattle.scoop_handler.specs.declared.note.Heard.{Heard as HeardMessage}
 use Rattle.scoop_link.specs.declared.party.Party.TheVariants.{Client}
 use Rattle.scoop_link.specs.Datagram.{kept}

@@ -19,6 +19,16 @@ use std::thread;
 use std::thread::Threads;
 use std::time::Clock;
 
+/// What the threads of a loop share, and the most turns of the one that receives.
+#[derive(Drop)]
+pub(crate) struct Loop<'a, B: Behaviour, K: Keeper<A>, A: Allocator + Copy, G: Gate, R: Wait> {
+    pub(crate) rt: &'a R,
+    pub(crate) node: &'a Node<B, K, A>,
+    pub(crate) gate: &'a G,
+    pub(crate) stop: &'a Stop,
+    pub(crate) turns: u64,
+}
+
 // A task with borrowed values, done beside the executors.
 trait Task {
     type Output;
@@ -31,13 +41,10 @@ trait Task {
 
 // Starts a thread for each executor, does the task in this one, and waits for all.
 fn run_beside<T, B, K, A, G, R>(
-    rt: &R,
-    node: &Node<B, K, A>,
+    around: &Loop<'_, B, K, A, G, R>,
     executors: &mut [Pass<A>],
     ends: &mut [ExecutorEnd],
     jobs: &Receiver<HandlerId, A>,
-    gate: &G,
-    stop: &Stop,
     task: T,
 ) -> T::Output
 where
@@ -49,6 +56,13 @@ where
     R: Threads + Wait + Clock + Sync,
     ensures { T.run_gives task result }
 {
+    let Loop {
+        rt,
+        node,
+        gate,
+        stop,
+        ..
+    } = *around;
     thread::scope(
         thread::scope_env(),
         rt,
@@ -68,35 +82,39 @@ where
 
 // The receiver's task.
 #[derive(Drop)]
-struct Receiving<'a, 'l, 'p, B: Behaviour, K: Keeper<A>, A: Allocator + Copy, L: Link, R: Wait> {
-    rt: &'a R,
-    node: &'a Node<B, K, A>,
+struct Receiving<
+    'a,
+    'l,
+    'p,
+    B: Behaviour,
+    K: Keeper<A>,
+    A: Allocator + Copy,
+    L: Link,
+    G: Gate,
+    R: Wait,
+> {
+    around: &'a Loop<'a, B, K, A, G, R>,
     link: &'l mut L,
     pass: &'p mut Pass<A>,
     work: Sender<HandlerId, A>,
-    stop: &'a Stop,
-    turns: u64,
 }
 
-impl<'a, 'l, 'p, B: Behaviour, K: Keeper<A>, A: Allocator + Copy, L: Link, R: Wait> Task
-    for Receiving<'a, 'l, 'p, B, K, A, L, R> {
+impl<'a, 'l, 'p, B: Behaviour, K: Keeper<A>, A: Allocator + Copy, L: Link, G: Gate, R: Wait> Task
+    for Receiving<'a, 'l, 'p, B, K, A, L, G, R> {
     type Output = (&'l mut L, &'p mut Pass<A>, ServeEnd);
 
     ghost run_gives = { λ t r. (r.0.ghost_name ≡ t.link.ghost_name) × (r.1.ghost_name ≡ t.pass.ghost_name)
-        × ServesPass (is_over r.2) t.turns t.pass.now r.1.now (L.told t.link.now) (L.told r.0.now)
+        × ServesPass (is_over r.2) t.around.now.turns t.pass.now r.1.now (L.told t.link.now) (L.told r.0.now)
         × CountsEnd r.2 (L.fault_count t.link.now) (L.fault_count r.0.now) };
 
     fn run(self) -> (&'l mut L, &'p mut Pass<A>, ServeEnd) {
         let Receiving {
-            rt,
-            node,
+            around,
             link,
             pass,
             work,
-            stop,
-            turns,
         } = self;
-        let end = receive_all(rt, node, link, pass, &work, stop, turns);
+        let end = receive_all(around, link, pass, &work);
         // closes the channel, so that the executors end once they have run the handlers in it
         drop(work);
         (link, pass, end)
@@ -140,17 +158,12 @@ where
 
 // Receives in this thread, and runs handlers in a thread for each executor.
 fn serve_beside<B, K, A, L, G, R>(
-    rt: &R,
-    node: &Node<B, K, A>,
+    around: &Loop<'_, B, K, A, G, R>,
     link: &mut L,
     first: &mut Pass<A>,
     executors: &mut [Pass<A>],
     ends: &mut [ExecutorEnd],
-    work: Sender<HandlerId, A>,
-    jobs: Receiver<HandlerId, A>,
-    gate: &G,
-    stop: &Stop,
-    turns: u64,
+    channel: (Sender<HandlerId, A>, Receiver<HandlerId, A>),
 ) -> ServeEnd
 where
     B: Behaviour + Send,
@@ -159,19 +172,17 @@ where
     L: Link,
     G: Gate + Sync,
     R: Threads + Wait + Clock + Sync,
-    ensures serves { ServesPass (is_over result) turns first.old first.new (L.told link.old) (L.told link.new) }
+    ensures serves { ServesPass (is_over result) around.now.turns first.old first.new (L.told link.old) (L.told link.new) }
     ensures faults { CountsEnd result (L.fault_count link.old) (L.fault_count link.new) }
 {
+    let (work, jobs) = channel;
     let receiving = Receiving {
-        rt,
-        node,
+        around,
         link,
         pass: first,
         work,
-        stop,
-        turns,
     };
-    let (link, first, end) = run_beside(rt, node, executors, ends, &jobs, gate, stop, receiving);
+    let (link, first, end) = run_beside(around, executors, ends, &jobs, receiving);
     take_back(link);
     take_back(first);
     end
@@ -216,25 +227,27 @@ where
     ensures first { ServesFirst (is_over result.0) turns passes.items result.1.items (L.told link.old) (L.told link.new) }
     ensures faults { CountsEnd result.0 (L.fault_count link.old) (L.fault_count link.new) }
 {
-    let Ok((work, jobs)) = crossbeam_channel::unbounded(alloc) else {
+    let Ok(channel) = crossbeam_channel::unbounded(alloc) else {
         return (ServeEnd::OutOfMemory, passes);
     };
     let Ok(mut ends) = vec![in alloc; ExecutorEnd::NoThread; passes.len() - 1] else {
         return (ServeEnd::OutOfMemory, passes);
     };
-    let (front, executors) = passes.as_mut_slice().split_at_mut(1);
-    let end = serve_beside(
+    let around = Loop {
         rt,
         node,
+        gate,
+        stop,
+        turns,
+    };
+    let (front, executors) = passes.as_mut_slice().split_at_mut(1);
+    let end = serve_beside(
+        &around,
         link,
         &mut front[0],
         executors,
         ends.as_mut_slice(),
-        work,
-        jobs,
-        gate,
-        stop,
-        turns,
+        channel,
     );
     let end = lowest(end, ends.as_slice());
     let end = end_settled(rt, node, end);

@@ -11,7 +11,9 @@ ghost use Rattle.scoop_netloop.specs.Ends.{CountsEnd, CountsTurn, IsExecutorEnd,
 ghost use Rattle.scoop_netloop.specs.Serving.{ServesPass};
 
 use crate::answer::runs_after;
-use crate::stop::{ServeEnd, Stop, end_after, end_after_commit};
+use crate::executor::Gate;
+use crate::node_loop::Loop;
+use crate::stop::{ServeEnd, end_after, end_after_commit};
 use crossbeam_channel::{SendError, Sender};
 use scoop_book::{BookError, Node, Pass};
 use scoop_frame::{Version, decode, encode};
@@ -119,25 +121,29 @@ fn turn<B: Behaviour, K: Keeper<A>, A: Allocator + Copy, L: Link, R: Wait>(
 }
 
 // Hears messages, turn by turn, and settles the last ones too.
-pub(crate) fn receive_all<B: Behaviour, K: Keeper<A>, A: Allocator + Copy, L: Link, R: Wait>(
-    rt: &R,
-    node: &Node<B, K, A>,
+pub(crate) fn receive_all<B, K, A, L, G, R>(
+    around: &Loop<'_, B, K, A, G, R>,
     link: &mut L,
     pass: &mut Pass<A>,
     work: &Sender<HandlerId, A>,
-    stop: &Stop,
-    turns: u64,
 ) -> ServeEnd
-    ensures serves { ServesPass (is_over result) turns pass.old pass.new (L.told link.old) (L.told link.new) }
+where
+    B: Behaviour,
+    K: Keeper<A>,
+    A: Allocator + Copy,
+    L: Link,
+    G: Gate,
+    R: Wait,
+    ensures serves { ServesPass (is_over result) around.now.turns pass.old pass.new (L.told link.old) (L.told link.new) }
     ensures faults { CountsEnd result (L.fault_count link.old) (L.fault_count link.new) }
 {
-    for taken in 0..turns {
-        if stop.is_asked() {
+    for taken in 0..around.turns {
+        if around.stop.is_asked() {
             return ServeEnd::Stopped;
         }
-        if let Some(end) = turn(rt, node, link, pass, work) {
+        if let Some(end) = turn(around.rt, around.node, link, pass, work) {
             return end;
         }
     }
-    settle(rt, node, link).unwrap_or(ServeEnd::TurnsOver)
+    settle(around.rt, around.node, link).unwrap_or(ServeEnd::TurnsOver)
 }

@@ -1,7 +1,6 @@
 use Rattle.std.proofs.Common.{refl, subst}
 use Rattle.scoop_message.specs.declared.name.HandlerId.{HandlerId}
-use Rattle.scoop_netloop.specs.declared.answer.Answered.TheVariants.{Reply, Silent}
-use Rattle.scoop_netloop.specs.Answering.{AnswersDatagram, runs_after}
+use Rattle.scoop_netloop.specs.Answering.{runs_after}
 use Rattle.scoop_netloop.specs.Looping.{RunsThen, no_frame, unheard}
 use Rattle.scoop_netloop.proofs.Looping.{loops_replied, loops_silent, one_message}
 use Rattle.scoop_netloop.proofs.loop_link.answer.Goals as goal

@@ -1,4 +1,4 @@
-use Rattle.std.proofs.Common.{arith, true, refl, ap, subst, ◌∙◌}
+use Rattle.std.proofs.Common.{arith, refl, ap, subst, ◌∙◌}
 use Rattle.scoop_netloop.specs.Ends.{is_complete, CountsEnd, CountsTurn}
 use Rattle.scoop_netloop.specs.Serving.{ServesPass}
 use Rattle.scoop_netloop.proofs.Turns.{serves_nothing}

@@ -1,4 +1,4 @@
-use Rattle.std.proofs.Common.{rules, sym}
+use Rattle.std.proofs.Common.{rules}
 use Rattle.scoop_netloop.proofs.Replying.{reply_fits, reply_carried}
 use Rattle.scoop_netloop.proofs.Turns.{serves_idle, serves_settled, serves_passed, serves_silent, serves_unanswered, serves_answered, serves_unsent}
 use Rattle.scoop_netloop.proofs.Ended.{counts_same, counts_turn, not_over}
