@@ -1,6 +1,7 @@
 //! Rows about a system and its clients. In texts, `\n` stands for a newline and `\r` for a carriage return.
 //!
-//! - `+ TEXT` adds a line to the file. `read TEXT` adds the text, reads the file and forgets its text; it answers the fault.
+//! - `+ TEXT` adds a line to the file. `read TEXT` adds the text, reads the file and forgets its text. It answers the faults,
+//!   without their lines. `faults TEXT` answers them with their lines.
 //! - `print` answers the system as `scoop check` prints it.
 //! - `line TEXT` answers what the line asks a client, or its fault. `script CLIENT TEXT` answers `right`, or the faults of the
 //!   script.
@@ -44,6 +45,7 @@ impl Systems {
         Ok(())
     }
 
+    // Reads the file, and answers its faults.
     fn reads(&mut self, answer: &mut Vec<u8>) -> Result<(), Bad> {
         let text = str::from_utf8(self.text.as_slice()).map_err(|_| Bad::Words)?;
         match System::read(*answer.allocator(), text) {
@@ -57,6 +59,21 @@ impl Systems {
             }
         }
     }
+
+    // The same without the lines that say where a fault is.
+    fn reads_plainly(&mut self, answer: &mut Vec<u8>) -> Result<(), Bad> {
+        let mut all = Vec::new(*answer.allocator());
+        self.reads(&mut all)?;
+        for line in all.as_slice().split(|byte| *byte == b'\n') {
+            if !line.starts_with(b"  ") {
+                if !answer.is_empty() {
+                    answer.push(b'\n')?;
+                }
+                answer.extend_from_slice(line)?;
+            }
+        }
+        Ok(())
+    }
 }
 
 // Nothing here takes memory over the player's heap, so that no command is refused.
@@ -69,6 +86,12 @@ impl Subject for Systems {
                 tells("ok", answer)
             }
             b"read" => {
+                self.adds(line)?;
+                self.reads_plainly(answer)?;
+                self.text.clear();
+                Ok(())
+            }
+            b"faults" => {
                 self.adds(line)?;
                 self.reads(answer)?;
                 self.text.clear();

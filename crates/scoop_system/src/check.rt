@@ -44,8 +44,8 @@ pub(crate) fn class_fault(before: &[OwnClass], class: &OwnClass) -> Option<Phras
 }
 
 // The fault of an operation after these.
-pub(crate) fn operation_fault(before: &[OwnOperation], operation: OwnOperation) -> Option<Phrase>
-    ensures { IfNone result (IsNewOperation before.now operation) }
+pub(crate) fn operation_fault(before: &[OwnOperation], operation: &OwnOperation) -> Option<Phrase>
+    ensures { IfNone result (IsNewOperation before.now operation.now) }
 {
     if has_operation(before, operation.number) {
         return Some(Phrase::plain(Form::Twice));

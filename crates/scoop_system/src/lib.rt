@@ -52,7 +52,7 @@ pub use identity::Identity;
 pub use key::Key;
 pub use line::{ClientLine, LineFault, LineFaultIn, MAX_NAMED, read_line};
 pub use name::{MAX_NAME_LEN, Name, is_name};
-pub use named_handlers::{NamedHandlers};
+pub use named_handlers::NamedHandlers;
 pub use node_addresses::{MAX_ADDRESSES, NodeAddresses};
 pub use phrase::{Form, Phrase, Shown};
 pub use place::{ClientPlace, HandlerClass, HandlerPlace, NodePlace};

@@ -109,7 +109,7 @@ fn read_operations(
                 number: row.op,
                 name,
             };
-            match operation_fault(operations.as_slice(), operation) {
+            match operation_fault(operations.as_slice(), &operation) {
                 None => {
                     rows.push(row)?;
                     operations.push(operation)?;

@@ -64,8 +64,9 @@ impl<'a> Found<'a> {
 
     // Adds a fault of what a table names. It is left out if the cause is a fault of the table that is named.
     pub(super) fn add_checked(&mut self, item: &Item<'_>, wrong: Phrase) {
-        if self.faults.is_empty() || !is_declared(self.file, wrong) {
-            self.add_near(item, wrong, nearest_name(self.alloc, self.file, wrong));
+        if self.faults.is_empty() || !is_declared(self.file, &wrong) {
+            let nearest = nearest_name(self.alloc, self.file, &wrong);
+            self.add_near(item, wrong, nearest);
         }
     }
 

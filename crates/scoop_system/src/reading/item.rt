@@ -92,22 +92,24 @@ impl<'a> Item<'a> {
 
 // How faults name a table: by its number or its name, or by its count if it has none.
 fn place_of(value: &Value, kind: Kind, count: usize) -> Phrase {
-    let key = Shown::Key(kind.key());
-    let counted = Phrase::two(Form::Counted, key, Shown::Number(count as u64));
     match kind {
         Kind::File => Phrase::plain(Form::Whole),
-        Kind::System => Phrase::one(Form::At, key),
+        Kind::System => Phrase::one(Form::At, Shown::Key(Key::System)),
         Kind::Class => match text_name(value.get("name")) {
             Some(name) => Phrase::one(Form::Class, Shown::Text(name)),
-            None => counted,
+            None => keyed(Form::Counted, kind, count as u64),
         },
         Kind::Operation | Kind::Node | Kind::Handler | Kind::Client => {
             match number_below(value, u64::from(u32::MAX)) {
-                Some(number) => Phrase::two(Form::Numbered, key, Shown::Number(number)),
-                None => counted,
+                Some(number) => keyed(Form::Numbered, kind, number),
+                None => keyed(Form::Counted, kind, count as u64),
             }
         }
     }
+}
+
+fn keyed(form: Form, kind: Kind, number: u64) -> Phrase {
+    Phrase::two(form, Shown::Key(kind.key()), Shown::Number(number))
 }
 
 // The number of a table, if it isn't above `high`.

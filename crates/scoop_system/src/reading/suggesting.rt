@@ -67,7 +67,7 @@ pub(super) fn nearest_key(
 pub(super) fn nearest_name(
     alloc: Global,
     file: &Value,
-    wrong: Phrase,
+    wrong: &Phrase,
 ) -> Result<Option<Name>, OutOfMemory> {
     let Shown::Text(word) = wrong.first else {
         return Ok(None);
@@ -87,7 +87,7 @@ pub(super) fn nearest_name(
 }
 
 // Whether the file has the table that a fault misses, so that this table has a fault of its own.
-pub(super) fn is_declared(file: &Value, wrong: Phrase) -> bool {
+pub(super) fn is_declared(file: &Value, wrong: &Phrase) -> bool {
     let word = wrong.first;
     match wrong.form {
         Form::NoSuchNode => has_table(file, Key::Node, Key::Number, word),
