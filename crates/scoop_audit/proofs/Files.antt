@@ -38,7 +38,7 @@ record IsSoundClient (handlers : List HandlerPlace) (c : ClientPlace) : Type 0 w
 
 client_sound : (nodes : List NodePlace) (handlers : List HandlerPlace) (before : List ClientPlace) (c : ClientPlace) → IsNewClient nodes handlers before c
     → IsSoundClient handlers c
-client_sound nodes handlers before c new = record { some = new.some; limit = new.few; uses = uses_some handlers c.handlers new.handlers }
+client_sound nodes handlers before c new = record { some = new.some; limit = new.few; uses = uses_some handlers c.handlers new.used }
 
 clients_join : (s : Plan) (handlers : List HandlerPlace) (cs : List ClientPlace) → AllByRecursion (IsSoundClient handlers) cs
     → AllByRecursion IsJoining (map (joins_in s) cs)
@@ -57,8 +57,8 @@ record IsSound (classes : List NamedClass) (nodes : List NodePlace) (h : Handler
 handler_sound : (classes : List NamedClass) (nodes : List NodePlace) (before : List HandlerPlace) (h : HandlerPlace) → IsNewHandler classes nodes before h
     → IsSound classes nodes h
 handler_sound classes nodes before h new =
-    let class = class_known classes h.class (length h.words) new.words in
-    record { class = class.table; found = class.found; words = record { some = new.some; few = new.few }; same = class.words; stands = new.node }
+    let class = class_known classes h.class (length h.words) new.words.all in
+    record { class = class.table; found = class.found; words = record { some = new.words.some; few = new.words.few }; same = class.words; stands = new.node }
 
 -- ---- as they are placed
 

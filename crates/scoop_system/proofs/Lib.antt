@@ -3,3 +3,4 @@ mod LineLemmas
 mod ConditionLemmas
 mod ArgumentLemmas
 mod WellFormedLemmas
+pub mod WellFormedFacts

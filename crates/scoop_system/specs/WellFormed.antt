@@ -1,5 +1,5 @@
 -- What holds of every system that was read: numbers, names and addresses are unique, and what a table names is in the file.
-use Rattle.std.specs.Prelude.{◌≡◌, ◌≤◌, ◌<◌, ◌×◌, ℕ, ◌==◌, Bool, true, false, not, List, [], ◌∷◌, find, length, map, slice_get, take, IfSome, Option, Some, None, codes}
+use Rattle.std.specs.Prelude.{◌≡◌, ◌≤◌, ◌<◌, ℕ, ◌==◌, Bool, true, false, not, List, [], ◌∷◌, find, length, map, slice_get, take, IfSome, Option, Some, None, codes}
 use Rattle.std.specs.List.{list_any}
 use Rattle.std.specs.Option.{option_map}
 use Rattle.std.specs.declared.net.socket_addr.SocketAddr.{SocketAddr}
@@ -41,21 +41,27 @@ pub record AreOperations (rows : List OpRow) (operations : List OwnOperation) : 
   pub numbers : map (λ o. o.number) operations ≡ map (λ row. row.op) rows
   pub each : EachAfter IsNewOperation operations
 
-abbrev pub HasOperations : NamedClass → Type 0
-HasOperations c = AreOperations c.table.rows c.operations
+-- a class that objects may have, and its operations
+pub record IsMade (c : NamedClass) : Type 0 where
+  pub class : IsClass c.table.words c.table.rows
+  pub operations : AreOperations c.table.rows c.operations
 
 -- a class has a name of its own, which none of the classes of all systems has
 pub record IsNewClass (before : List NamedClass) (c : NamedClass) : Type 0 where
   pub room : length before < MAX_CLASSES
   pub other : class_of_name c.name ≡ None
   pub new : class_named before c.name ≡ None
-  pub class : IsClass c.table.words c.table.rows
-  pub operations : HasOperations c
+  pub made : IsMade c
 
 -- ---- addresses
 
+abbrev pub differs : Bool → Bool → Bool
+differs true b = not b
+differs false b = b
+
+-- the one is of IPv4, the other of IPv6
 abbrev pub other_family : SocketAddr → SocketAddr → Bool
-other_family a b = not (is_ipv4 (socket_ip a) == is_ipv4 (socket_ip b))
+other_family a b = differs (is_ipv4 (socket_ip a)) (is_ipv4 (socket_ip b))
 
 -- the node, or the client, that has the address
 abbrev pub node_at : List NodePlace → SocketAddr → Option NodePlace
@@ -76,8 +82,8 @@ first_address (n ∷ ns) clients = Some n.address
 -- an address with a port, which no party has, of the same family as the first one
 pub record IsFree (nodes : List NodePlace) (clients : List ClientPlace) (a : SocketAddr) : Type 0 where
   pub port : (socket_port a == 0) ≡ false
-  pub nodes : node_at nodes a ≡ None
-  pub clients : client_at clients a ≡ None
+  pub node : node_at nodes a ≡ None
+  pub client : client_at clients a ≡ None
   pub family : IfSome (first_address nodes clients) (λ first. other_family first a ≡ false)
 
 -- an address of a node is free, it stands once, and all have one family
@@ -90,10 +96,14 @@ abbrev pub is_status : Option SocketAddr → SocketAddr → Bool
 is_status None a = false
 is_status (Some status) a = same_address status a
 
+-- the node that has the status address
+abbrev pub status_node : List NodePlace → SocketAddr → Option NodePlace
+status_node nodes a = find (λ n. is_status n.status a) nodes
+
 -- a status address with a port, which no node has
 pub record IsNewStatus (nodes : List NodePlace) (a : SocketAddr) : Type 0 where
   pub port : (socket_port a == 0) ≡ false
-  pub new : find (λ n. is_status n.status a) nodes ≡ None
+  pub new : status_node nodes a ≡ None
 
 -- ---- parties
 
@@ -102,7 +112,7 @@ pub record IsNewNode (before : List NodePlace) (n : NodePlace) : Type 0 where
   pub room : length before < MAX_NODES
   pub number : list_any (λ m. m.number == n.number) before ≡ false
   pub some : 1 ≤ length n.addresses
-  pub stands : n.address ≡ first_of n.addresses
+  pub stands : same_address n.address (first_of n.addresses) ≡ true
   pub addresses : EachAfter (IsNewAddress before) n.addresses
   pub status : IfSome n.status (IsNewStatus before)
 
@@ -115,15 +125,19 @@ pub record IsNewName (before : List HandlerPlace) (name : List ℕ) : Type 0 whe
   pub new : handler_of_name before name ≡ None
   pub other : same_text name (codes "when") ≡ false
 
--- a handler has a number and a name of its own, its node is there, and it has as many words as its class
+-- a handler's class is known, and it has as many words
+pub record HasWords (classes : List NamedClass) (h : HandlerPlace) : Type 0 where
+  pub some : 1 ≤ length h.words
+  pub few : length h.words ≤ MAX_WORDS
+  pub all : class_words classes h.class ≡ Some (length h.words)
+
+-- a handler has a number and a name of its own, its node is there, and it has the words of its class
 pub record IsNewHandler (classes : List NamedClass) (nodes : List NodePlace) (before : List HandlerPlace) (h : HandlerPlace) : Type 0 where
   pub room : length before < MAX_HANDLERS
   pub number : list_any (λ g. g.handler.0 == h.handler.0) before ≡ false
   pub name : IfSome h.name (IsNewName before)
   pub node : list_any (λ n. n.number == h.node) nodes ≡ true
-  pub some : 1 ≤ length h.words
-  pub few : length h.words ≤ MAX_WORDS
-  pub words : class_words classes h.class ≡ Some (length h.words)
+  pub words : HasWords classes h
 
 -- a handler that a client names is there, and is named once
 pub record IsNewNamed (handlers : List HandlerPlace) (before : List HandlerId) (h : HandlerId) : Type 0 where
@@ -141,16 +155,16 @@ pub record IsNewClient (nodes : List NodePlace) (handlers : List HandlerPlace) (
   pub some : 1 ≤ c.batch
   pub few : c.batch ≤ MAX_ENTRIES
   pub address : IsFree nodes before c.address
-  pub handlers : IfSome c.handlers (AreNamed handlers)
+  pub used : IfSome c.handlers (AreNamed handlers)
 
 -- ---- all
 
 -- the classes, nodes, handlers and clients of a file
-pub record AreParts (classes : List NamedClass) (nodes : List NodePlace) (handlers : List HandlerPlace) (clients : List ClientPlace) : Type 0 where
-  pub classes : EachAfter IsNewClass classes
-  pub nodes : EachAfter IsNewNode nodes
-  pub handlers : EachAfter (IsNewHandler classes nodes) handlers
-  pub clients : EachAfter (IsNewClient nodes handlers) clients
+pub record AreParts (cs : List NamedClass) (ns : List NodePlace) (hs : List HandlerPlace) (ks : List ClientPlace) : Type 0 where
+  pub classes : EachAfter IsNewClass cs
+  pub nodes : EachAfter IsNewNode ns
+  pub handlers : EachAfter (IsNewHandler cs ns) hs
+  pub clients : EachAfter (IsNewClient ns hs) ks
 
 -- a system that can run
 pub record IsWellFormed (s : Plan) : Type 0 where

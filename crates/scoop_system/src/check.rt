@@ -4,8 +4,9 @@ ghost use Rattle.std.specs.Prelude.{◌≡◌, ◌==◌, IfNone, IfSome, Some, l
 ghost use Rattle.std.specs.List.{list_any};
 ghost use Rattle.std.specs.Option.{option_copied};
 ghost use Rattle.scoop_classes.specs.Classes.{table_of};
-ghost use Rattle.scoop_system.specs.WellFormed.{AreNamed, EachAfter, HasOperations, IsFree, IsNewAddress, IsNewClass, IsNewClient, IsNewHandler};
-ghost use Rattle.scoop_system.specs.WellFormed.{IsNewName, IsNewNode, IsNewOperation, IsNewStatus, class_words, client_at, first_address, node_at, other_family};
+ghost use Rattle.scoop_system.specs.Address.{first_of, same_address};
+ghost use Rattle.scoop_system.specs.WellFormed.{AreNamed, EachAfter, HasWords, IsFree, IsMade, IsNewAddress, IsNewClass, IsNewClient, IsNewHandler};
+ghost use Rattle.scoop_system.specs.WellFormed.{IsNewName, IsNewNode, IsNewOperation, IsNewStatus, class_words, client_at, first_address, is_status, node_at, other_family, status_node};
 
 use crate::class::{OwnClass, OwnOperation, class_named, operation_named};
 use crate::key::Key;
@@ -28,7 +29,7 @@ pub const MAX_CLASSES: usize = 64;
 
 // The fault of a class after these.
 pub(crate) fn class_fault(before: &[OwnClass], class: &OwnClass) -> Option<Phrase>
-    requires { HasOperations class.now }
+    requires { IsMade class.now }
     ensures { IfNone result (IsNewClass before.now class.now) }
 {
     if before.len() >= MAX_CLASSES {
@@ -76,22 +77,25 @@ pub(crate) fn node_fault(before: &[NodePlace], node: &NodePlace) -> Option<Phras
     if has_node(before, node.number) {
         return Some(Phrase::plain(Form::Twice));
     }
-    if node.addresses.as_slice().is_empty() || node.address != node.addresses.first() {
+    if node.addresses.as_slice().is_empty() || !stands_at_first(node) {
         return Some(Phrase::plain(Form::NotAddresses));
     }
     if let Some(wrong) = addresses_fault(before, node.addresses.as_slice()) {
         return Some(wrong);
     }
-    match node.status {
-        Some(status) => status_fault(before, status),
-        None => None,
-    }
+    status_fault(before, node.status)
 }
 
 fn has_node(nodes: &[NodePlace], number: u32) -> bool
     ensures { result ≡ list_any (λ n. n.number == number) nodes.now }
 {
     nodes.iter().any(|node| node.number == number)
+}
+
+fn stands_at_first(node: &NodePlace) -> bool
+    ensures { result ≡ same_address node.now.address (first_of node.now.addresses) }
+{
+    node.address == node.addresses.first()
 }
 
 // The fault of the addresses of a node after these nodes.
@@ -181,15 +185,32 @@ fn first_address(nodes: &[NodePlace], clients: &[ClientPlace]) -> Option<SocketA
 }
 
 // The fault of the status address of a node after these.
-fn status_fault(nodes: &[NodePlace], status: SocketAddr) -> Option<Phrase>
-    ensures { IfNone result (IsNewStatus nodes.now status) }
+fn status_fault(nodes: &[NodePlace], status: Option<SocketAddr>) -> Option<Phrase>
+    ensures { IfNone result (IfSome status (IsNewStatus nodes.now)) }
 {
+    let status = status?;
     if status.port() == 0 {
-        return Some(Phrase::one(Form::NotAnAddress, Shown::Key(Key::Status)));
+        let key = Shown::Key(Key::Status);
+        return Some(Phrase::one(Form::NotAnAddress, key));
     }
-    match nodes.iter().find(|node| node.status == Some(status)) {
+    match status_node(nodes, status) {
         Some(node) => Some(numbered(Form::StatusOf, node.number)),
         None => None,
+    }
+}
+
+fn status_node(nodes: &[NodePlace], address: SocketAddr) -> Option<&NodePlace>
+    ensures { option_copied result ≡ status_node nodes.now address }
+{
+    nodes.iter().find(|node| is_status(node.status, address))
+}
+
+fn is_status(status: Option<SocketAddr>, address: SocketAddr) -> bool
+    ensures { result ≡ is_status status address }
+{
+    match status {
+        Some(status) => status == address,
+        None => false,
     }
 }
 
@@ -241,7 +262,7 @@ fn name_fault(before: &[HandlerPlace], name: Option<Name>) -> Option<Phrase>
 
 // The fault of a handler's words, or of its class.
 fn words_fault(classes: &[OwnClass], place: &HandlerPlace) -> Option<Phrase>
-    ensures { IfNone result (class_words classes.now place.now.class ≡ Some (length place.now.words)) }
+    ensures { IfNone result (HasWords classes.now place.now) }
 {
     let given = place.words.len();
     match class_words(classes, place.class) {

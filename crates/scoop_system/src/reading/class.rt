@@ -2,7 +2,7 @@
 
 ghost use Rattle.std.specs.Prelude.{◌≤◌, IfOk, IfSome, OnOk};
 ghost use Rattle.scoop_message.specs.declared.limits.TheConstants.{MAX_WORDS};
-ghost use Rattle.scoop_system.specs.WellFormed.{AreOperations, EachAfter, HasOperations, IsNewClass};
+ghost use Rattle.scoop_system.specs.WellFormed.{AreOperations, EachAfter, IsMade, IsNewClass};
 
 use super::formula::{read_term, read_test, read_write};
 use super::found::Found;
@@ -49,7 +49,7 @@ pub(super) fn read_classes(
 
 // A class. One whose operations have faults is still known by its name.
 fn read_class(item: &Item<'_>, found: &mut Found<'_>) -> Result<Option<OwnClass>, OutOfMemory>
-    ensures { IfOk result (λ read. IfSome read HasOperations) }
+    ensures { IfOk result (λ read. IfSome read IsMade) }
 {
     if !found.has_keys(item, &[Key::Name, Key::Words, Key::Operation]) {
         return Ok(None);
@@ -71,7 +71,7 @@ fn class_of(
 ) -> Result<Option<OwnClass>, OutOfMemory>
     requires some { 1 ≤ words }
     requires few { words ≤ MAX_WORDS }
-    ensures { IfOk result (λ read. IfSome read HasOperations) }
+    ensures { IfOk result (λ read. IfSome read IsMade) }
 {
     let mut rows = Vec::new(found.alloc);
     let mut operations = Vec::new(found.alloc);
