@@ -46,6 +46,8 @@ class Pipes:
         self.process, self.came = process, b""
         self.notes: List[str] = []
         self.input, self.output, self.errors = process.stdin, process.stdout, process.stderr
+        self.poll = select.poll()
+        self.poll.register(self.output, select.POLLIN)
         self.reader = threading.Thread(target=read_notes, args=(self.errors.fileno(), self.notes), name="kazhneg", daemon=True)
         self.reader.start()
 
@@ -59,10 +61,8 @@ class Pipes:
 
     async def line(self, patience: Optional[float]) -> Optional[str]:
         end = None if patience is None else time.monotonic() + patience
-        poll = select.poll()
-        poll.register(self.output, select.POLLIN)
         while b"\n" not in self.came:
-            if end is not None and not poll.poll(max(0.0, end - time.monotonic()) * 1000):
+            if end is not None and not self.poll.poll(max(0.0, end - time.monotonic()) * 1000):
                 raise TimedOut("no reply in time")
             part = os.read(self.output.fileno(), 65536)
             if not part:

@@ -5,7 +5,7 @@ import os
 import random
 import threading
 import time
-from typing import Callable, Generic, List, Optional, Protocol, Sequence, TypeVar
+from typing import Any, Callable, Generic, List, Optional, Protocol, Sequence, TypeVar
 
 from . import _form
 from .errors import AnswerRefused, ClientEnded, ConditionFailed, Ended, Ending, Error, Refused, StartError, UseError
@@ -249,7 +249,7 @@ class BaseBlock:
     what it had received, and nothing is undone.
     """
 
-    def __init__(self, client: BaseClient[B], handlers: Sequence[_form.Name], when: Sequence[_form.Test], tries: Optional[int]) -> None:
+    def __init__(self, client: BaseClient[Any], handlers: Sequence[_form.Name], when: Sequence[_form.Test], tries: Optional[int]) -> None:
         self._client, self._asked, self.name = client, (handlers, when, tries), ""
 
     def call(self, handler: _form.Name, operation: _form.Name, *args: int) -> None:
