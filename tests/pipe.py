@@ -12,7 +12,7 @@ from clients import node
 from leaving import BOTH, accounts
 from replay import Block, Entry
 from storm import Client, Storm
-from systems import LOCK, LOG, PATIENCE, TOP, Ended, Skipped, System, equal_to, holds, run, same, test, until
+from systems import LOCK, LOG, PATIENCE, TOP, Ended, Skipped, System, holds, run, same, test, until
 
 HERE = os.path.join(TOP, "tests")
 # Seconds in which a client ends that isn't waited for: two times 500 polls, on a loaded machine.
@@ -63,11 +63,12 @@ def each_refusal_has_its_form():
     needs_pipe()
     outside = [("", "UnknownLine"), ("# no remark", "UnknownLine #"), ("help", "UnknownLine help"), ("réserve 1", "UnknownLine r??serve"),
                ("reserve", "Empty"), ("reserve 9", "Unknown 9"), ("reserve ann", "NoSuchHandler ann"), ("reserve 1 1", "Repeated 1"),
-               ("reserve 99999999999", "NotANumber 99999999999"), ("reserve" + " 1" * 9, "TooMany"), ("reserve" + " 1" * 10, "TooManyHandlers"),
+               ("reserve 99999999999", "NotANumber 99999999999"), ("reserve" + " 1" * 9, "TooMany"),
+               ("reserve" + " 1" * 10, "TooManyHandlers"),
                ("reserve 1 when 1 balance least 1", "WrongNumberOfWords"), ("reserve 1 when 2 balance least 1 tries 1", "NotReserved 2"),
                ("end", "NoBlock"), ("end now", "WrongNumberOfWords"), ("giveup", "NoBlock"), ("query 1 balance", "NoBlock")]
-    inside = [("call 1 deposit", "TooFewArguments 1"), ("call 1 balance 1", "TooManyArguments 0"), ("call 1 deposit 1 2 3 4 5", "TooManyArguments 4"),
-              ("call 1 pay 1", "NoSuchOperation pay"), ("call 1 deposit x", "NotANumber x"), ("call 2 deposit 1", "NotReserved 2"),
+    inside = [("call 1 deposit", "TooFewArguments 1"), ("call 1 balance 1", "TooManyArguments 0"),
+              ("call 1 deposit 1 2 3 4 5", "TooManyArguments 4"), ("call 1 pay 1", "NoSuchOperation pay"), ("call 1 deposit x", "NotANumber x"), ("call 2 deposit 1", "NotReserved 2"),
               ("reserve 1", "NotIdle"), ("call", "WrongNumberOfWords"), ("help", "UnknownLine help")]
     with accounts() as system:
         client = piped(system)
@@ -115,7 +116,8 @@ def answers_of_a_waiting_block_come_before_its_reply():
         client = piped(system)
         client.tell("reserve 1 2 when 1 balance least 100 tries 2\nquery 1 balance\nquery 2 withdraw 101\nend\n")
         client.tell("reserve 1 when 1 balance least 101 tries 2\nend\nreserve 1 when 1 balance least 1 tries 1\ngiveup\n")
-        client.expect("noted", "noted", "noted", "+ answer 100", "+ answer refused", "ended 1", "noted", "condition failed 2", "noted", "given up")
+        client.expect("noted", "noted", "noted", "+ answer 100", "+ answer refused", "ended 1")
+        client.expect("noted", "condition failed 2", "noted", "given up")
         same("its end", client.end().result, (0, ""))
 
 

@@ -79,7 +79,8 @@ def pay(client):
 
 def steps(client):
     with client.reserve(1, 2) as block:
-        for step in (lambda: None, lambda: block.query(1, "balance"), lambda: block.call(2, "deposit", 0), lambda: block.query(2, "balance")):
+        todo = [lambda: None, lambda: block.query(1, "balance"), lambda: block.call(2, "deposit", 0), lambda: block.query(2, "balance")]
+        for step in todo:
             step()
             tell("step")
             sys.stdin.readline()

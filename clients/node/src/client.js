@@ -78,6 +78,7 @@ export class Client {
   async reserve(handlers, options = {}, body = undefined) {
     if (typeof options === "function") return this.reserve(handlers, {}, options);
     const { when = [], tries = Infinity, signal } = options;
+    if (!(tries >= 1)) throw new RangeError(`wanted at least one try, not ${tries}`);
     const line = reserveLine(handlers);
     const tests = testsOf(when);
     const release = await this.#acquire(signal);

@@ -195,8 +195,13 @@ describe("refusals", () => {
 
   test("wrong values are refused before anything is sent", () =>
     withClient(async (client) => {
-      for (const handlers of [["ann shop"], [""], ["when"], ["ann\nend"], "ann"]) await assert.rejects(client.reserve(handlers), /wanted|no handler/);
-      for (const when of [["ann"], [["ann", ">=", 1]], [["ann", "balance", "=>", 1]]]) await assert.rejects(client.reserve(["ann"], { when }), RangeError);
+      for (const handlers of [["ann shop"], [""], ["when"], ["ann\nend"], "ann"]) {
+        await assert.rejects(client.reserve(handlers), /wanted|no handler/);
+      }
+      for (const when of [["ann"], [["ann", ">=", 1]], [["ann", "balance", "=>", 1]]]) {
+        await assert.rejects(client.reserve(["ann"], { when }), RangeError);
+      }
+      await assert.rejects(client.reserve(["ann"], { tries: 0 }), RangeError);
       await client.reserve(["ann"], (block) => {
         for (const value of [-1, 2n ** 64n]) assert.throws(() => block.call("ann", "deposit", value), RangeError);
         for (const value of [1.5, 2 ** 60, "1", true]) assert.throws(() => block.call("ann", "deposit", value), TypeError);

@@ -174,9 +174,10 @@ class Refusals(Case):
                     pass
             for when in (["ann"], [("ann", ">=", 1)], [("ann", "balance", "=>", 1)]):
                 self.assertRaises(ValueError, client.reserve, "ann", when=when)
+            self.assertRaises(ValueError, client.reserve, "ann", tries=0)
             with client.reserve("ann") as block:
-                for wrong, args in ((ValueError, [-1]), (ValueError, [1 << 64]), (TypeError, [1.5]), (TypeError, [True]), (TypeError, ["1"])):
-                    self.assertRaises(wrong, block.call, "ann", "deposit", *args)
+                for wrong, value in ((ValueError, -1), (ValueError, 1 << 64), (TypeError, 1.5), (TypeError, True), (TypeError, "1")):
+                    self.assertRaises(wrong, block.call, "ann", "deposit", value)
         self.assertEqual(self.log(), ["reserve ann", "end"])
 
 
@@ -505,10 +506,16 @@ class Form(Case):
         return ran.returncode, ran.stdout.decode().splitlines()[1:]
 
     def test_faults_of_the_input(self):
-        for text, wanted in ((b"\n", (0, ["refused UnknownLine"])), (b"help\n# no\n", (0, ["refused UnknownLine help", "refused UnknownLine #"])),
-                             (b"reserve ann", (1, ["refused NoNewline"])), (b"end\n", (0, ["refused NoBlock"])),
-                             (b"r\xc3\xa9serve ann\n", (0, ["refused UnknownLine r??serve"])), (b"x" * 5000 + b"\nend\n", (1, ["refused LineTooLong"])),
-                             (b"reserve ann\ncall ann deposit\nend\n", (1, ["reserved 7.1.1", "refused TooFewArguments 1", "cut 7.1.1"]))):
+        cases = [
+            (b"\n", (0, ["refused UnknownLine"])),
+            (b"help\n# no\n", (0, ["refused UnknownLine help", "refused UnknownLine #"])),
+            (b"r\xc3\xa9serve ann\n", (0, ["refused UnknownLine r??serve"])),
+            (b"end\n", (0, ["refused NoBlock"])),
+            (b"reserve ann", (1, ["refused NoNewline"])),
+            (b"x" * 5000 + b"\nend\n", (1, ["refused LineTooLong"])),
+            (b"reserve ann\ncall ann deposit\nend\n", (1, ["reserved 7.1.1", "refused TooFewArguments 1", "cut 7.1.1"])),
+        ]
+        for text, wanted in cases:
             with self.subTest(text[:20]):
                 self.assertEqual(self.says(text), wanted)
                 os.remove(self.store)

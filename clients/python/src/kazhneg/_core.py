@@ -234,6 +234,8 @@ class BaseClient(Generic[B]):
         It begins once all conditions hold in it, as `("ann", "balance", ">=", 30)`; arguments of the query stand before the test. It
         raises `ConditionFailed` after `tries` tries; without them it tries for ever.
         """
+        if tries is not None and tries < 1:
+            raise ValueError(f"wanted at least one try, not {tries}")
         return type(self)._block(self, handlers, _form.tests(when), tries)
 
     def _check(self) -> Core:
