@@ -68,8 +68,8 @@ def each_refusal_has_its_form():
                ("reserve 1 when 1 balance least 1", "WrongNumberOfWords"), ("reserve 1 when 2 balance least 1 tries 1", "NotReserved 2"),
                ("end", "NoBlock"), ("end now", "WrongNumberOfWords"), ("giveup", "NoBlock"), ("query 1 balance", "NoBlock")]
     inside = [("call 1 deposit", "TooFewArguments 1"), ("call 1 balance 1", "TooManyArguments 0"),
-              ("call 1 deposit 1 2 3 4 5", "TooManyArguments 4"), ("call 1 pay 1", "NoSuchOperation pay"), ("call 1 deposit x", "NotANumber x"), ("call 2 deposit 1", "NotReserved 2"),
-              ("reserve 1", "NotIdle"), ("call", "WrongNumberOfWords"), ("help", "UnknownLine help")]
+              ("call 1 deposit 1 2 3 4 5", "TooManyArguments 4"), ("call 1 pay 1", "NoSuchOperation pay"),
+              ("call 1 deposit x", "NotANumber x"), ("call 2 deposit 1", "NotReserved 2"), ("reserve 1", "NotIdle"), ("call", "WrongNumberOfWords"), ("help", "UnknownLine help")]
     with accounts() as system:
         client = piped(system)
         for line, wanted in outside:
@@ -316,6 +316,8 @@ def pays_through_kills(name, seconds=15):
     with System({h: (h, "purse", [1000 * (h == 1), 0]) for h in (1, 2)}, {7: {"batch": 4}}, PURSE) as system:
         nodes = {n: system.node(n, "--journal", system.path(f"node-{n}.journal")) for n in (1, 2)}
         party, end = begin(system, name, "pay", 7), time.monotonic() + seconds
+        # From now on the client's store is there.
+        party.expect("paid")
         while time.monotonic() < end:
             time.sleep(chance.uniform(0, 0.5))
             whom = chance.choice(["program", "client", 1, 2])

@@ -1,5 +1,5 @@
 // The same program as pipe_program.py, over the package for Node.
-import { AnswerRefused, Client, ClientEnded } from "../clients/node/src/index.js";
+import { AnswerRefused, Client, ClientEnded, StartError } from "../clients/node/src/index.js";
 
 const [mode, system, number, store, journal, key] = process.argv.slice(2);
 
@@ -108,15 +108,17 @@ async function steps(client) {
   await step();
 }
 
-const client = await Client.open(system, Number(number), { store, journal, key: key === "-" ? undefined : key });
-if (mode === "steps") await steps(client);
-while (mode !== "steps" && !isOver) {
+let client = null;
+const modes = { blocks: randomBlock, pay, steps };
+do {
   try {
-    await (mode === "blocks" ? randomBlock(client) : pay(client));
+    client ??= await Client.open(system, Number(number), { store, journal, key: key === "-" ? undefined : key });
+    await modes[mode](client);
   } catch (error) {
     // Tests kill clients. Other ends are faults.
-    if (!(error instanceof ClientEnded && error.signal === "SIGKILL")) throw error;
+    const isEnd = error instanceof ClientEnded || error instanceof StartError;
+    if (!(isEnd && error.signal === "SIGKILL")) throw error;
   }
-}
-await client.close();
+} while (mode !== "steps" && !isOver);
+await client?.close();
 process.exit(0);

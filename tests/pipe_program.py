@@ -90,16 +90,17 @@ def steps(client):
 
 def main(mode, system, number, store, journal, key, seed):
     chance = random.Random(f"{seed} {os.getpid()}")
-    with kazhneg.Client(system, int(number), store=store, journal=journal, key=None if key == "-" else key) as client:
-        if mode == "steps":
-            return steps(client)
-        while not is_over():
-            try:
-                random_block(client, chance) if mode == "blocks" else pay(client)
-            except kazhneg.ClientEnded as error:
-                # Tests kill clients. Other ends are faults.
-                if error.status != -9:
-                    raise
+    client = kazhneg.Client(system, int(number), store=store, journal=journal, key=None if key == "-" else key)
+    if mode == "steps":
+        steps(client)
+    while mode != "steps" and not is_over():
+        try:
+            random_block(client, chance) if mode == "blocks" else pay(client)
+        except (kazhneg.ClientEnded, kazhneg.StartError) as error:
+            # Tests kill clients. Other ends are faults.
+            if error.status != -9:
+                raise
+    client.close()
 
 
 main(*sys.argv[1:])
