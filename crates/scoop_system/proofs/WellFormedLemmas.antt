@@ -28,3 +28,7 @@ each_whole P xs i end each = subst (EachAfter P) (take_all i xs end) each
 pub none_then : {X A B : Type 0} (o : Option X) → IfNone o A → (A → B) → IfNone o B
 none_then None a makes = makes a
 none_then (Some x) a makes = tt
+
+pub none_is : {X P : Type 0} (o : Option X) → o ≡ None → IfNone o P → P
+none_is None is holds = holds
+none_is (Some x) is holds = absurd (cc)

@@ -1,5 +1,6 @@
-use Rattle.std.proofs.Common.{rules, arith}
-use Rattle.scoop_system.proofs.WellFormedLemmas.{none_then}
+use Rattle.std.proofs.Common.{rules, arith, subst}
+use Rattle.scoop_system.specs.WellFormed.{EachAfter, IsNewAddress}
+use Rattle.scoop_system.proofs.WellFormedLemmas.{none_is, none_then}
 use Rattle.scoop_system.proofs.check.node_fault.Goals as goal
 
 pub returns : goal.returns
@@ -10,6 +11,7 @@ returns c =
       number = search rules;
       some = search (rules, arith);
       stands = search rules;
-      addresses = search rules;
+      addresses =
+          subst (EachAfter (IsNewAddress c.args.before.now)) c.as_slice-2.ensures (none_is c.addresses_fault.result c.in_default.is c.addresses_fault.ensures);
       status = status;
     })
