@@ -1,5 +1,5 @@
 #!/usr/bin/env python3
-"""Tries mutations: python3 bench/mutations.py [--rows] [--program NAME] [CRATE ..]
+"""Tries mutations: python3 bench/mutations.py [--rows] [--program NAME] [CRATE[/MUTATION] ..]
 
 Without --rows, the prover has to refuse those that the gate leaves out, in bench/mutations/CRATE. A gate checks a crate with
 mutations twice, so it tries those of a few cheap crates alone. The script puts the others into crates/CRATE/must-fail, calls
@@ -9,9 +9,9 @@ With --rows, it shows which of them rows notice, and which of the gate's own, in
 without proof, with all mutations in them (bench/mutants.py), and plays all rows with each. It prints a line for each mutation:
 the first row that it makes wrong, or that no row notices it, or that it can't be chosen. It ends with 1 if rows are wrong
 without a mutation. With --program scoop_rows_live it plays the rows of that program. With --program scoop it runs tests of
-processes, half a minute each, so name crates then.
+processes, half a minute each, so name crates then, or mutations.
 
-Without names it takes all crates that have mutations.
+Without names it takes all crates that have mutations. A name CRATE/MUTATION takes one of them, with --rows.
 """
 import argparse
 import importlib.machinery
@@ -130,8 +130,9 @@ def played(out, number):
     return f'status {status}'
 
 
-def noticed(crates, program):
-    """Prints what the program's rows notice. Returns whether all are right without a mutation."""
+def noticed(crates, only, program):
+    """Prints what the program's rows notice of the crates' mutations, of some crates only those of these names. Returns whether all
+    rows are right without a mutation."""
     jobs = 1 if program == 'scoop' else os.cpu_count()
     with tempfile.TemporaryDirectory() as folder, ThreadPoolExecutor(jobs) as pool:
         out, unfit = compiled(crates, pathlib.Path(folder), program)
@@ -139,7 +140,8 @@ def noticed(crates, program):
         if wrong:
             print(f'without a mutation: {wrong}')
             return False
-        tried = [(number, crate, it) for number, (crate, it) in enumerate(edits(), 1) if crate in crates]
+        tried = [(number, crate, it) for number, (crate, it) in enumerate(edits(), 1)
+                 if crate in crates and it.stem in only.get(crate, [it.stem])]
         found = pool.map(lambda it: played(out, it[0]), tried)
         counts = {}
         for (number, crate, edit), wrong in zip(tried, found):
@@ -155,15 +157,19 @@ def main():
     flags = argparse.ArgumentParser(description=__doc__, formatter_class=argparse.RawDescriptionHelpFormatter)
     flags.add_argument('--rows', action='store_true', help='which of them rows notice')
     flags.add_argument('--program', choices=PROGRAMS, default=PROGRAMS[0], help='whose rows')
-    flags.add_argument('crates', nargs='*', metavar='CRATE')
+    flags.add_argument('names', nargs='*', metavar='CRATE[/MUTATION]')
     given = flags.parse_args()
     every = {crate for crate, _ in edits()} if given.rows else {it.name for it in KEPT.iterdir()}
-    unknown = sorted(set(given.crates) - every)
+    known = every | {f'{crate}/{it.stem}' for crate, it in edits()} if given.rows else every
+    unknown = sorted(set(given.names) - known)
     if unknown:
         flags.error(f'no mutations are kept for {", ".join(unknown)}; there are some for {", ".join(sorted(every))}')
-    crates = set(given.crates) or every
+    only = {}
+    for crate, name in (it.split('/') for it in given.names if '/' in it and it.split('/')[0] not in given.names):
+        only.setdefault(crate, []).append(name)
+    crates = {it.split('/')[0] for it in given.names} or every
     if given.rows:
-        sys.exit(0 if noticed(crates, given.program) else 1)
+        sys.exit(0 if noticed(crates, only, given.program) else 1)
     sys.exit(0 if all([refused(it) for it in sorted(crates)]) else 1)
 
 

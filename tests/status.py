@@ -1,5 +1,6 @@
 """What an operator sees of running nodes: page, JSON, metrics and log."""
 import json
+import os
 import re
 import resource
 import select
@@ -116,6 +117,41 @@ def healthz_is_ok_while_the_node_serves():
     with Watched() as system:
         system.serve()
         same("its answer", gets(system.statuses[1], "/healthz"), (200, b"ok\n"))
+
+
+def full_pipe():
+    """The ends of a pipe that takes no more bytes until what is in it was read."""
+    reads, writes = os.pipe()
+    os.set_blocking(writes, False)
+    try:
+        while True:
+            os.write(writes, b"\n" * 4096)
+    except BlockingIOError:
+        os.set_blocking(writes, True)
+    return reads, writes
+
+
+def health(port):
+    """What `/healthz` answers, or None while nothing listens there."""
+    try:
+        return gets(port, "/healthz")
+    except ConnectionRefusedError:
+        return None
+
+
+@test
+def healthz_is_refused_until_the_node_is_open():
+    # A node is open once its line is written, and here that waits until the output is read.
+    reads, writes = full_pipe()
+    with Watched() as system, open(reads, "rb") as output:
+        system.begin(system.words("node", 1, ()), subprocess.DEVNULL, stdout=writes)
+        os.close(writes)
+        status, why = until("its first answer", lambda: health(system.statuses[1]))
+        same("its status", status, 503)
+        holds("it says why", why not in (b"", b"ok\n"), why)
+        line = next(it for it in output if it != b"\n")
+        holds("the node's line", line.startswith(b"node 1 at "), line)
+        until("its health then", lambda: health(system.statuses[1]), equal_to((200, b"ok\n")))
 
 
 @test

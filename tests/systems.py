@@ -130,10 +130,10 @@ def run(*words, text="", patience=PATIENCE, program=None):
 class Party:
     """A process whose lines are read as they come. Its standard error goes into a file."""
 
-    def __init__(self, words, notes, stdin=subprocess.PIPE, **more):
+    def __init__(self, words, notes, stdin=subprocess.PIPE, stdout=subprocess.PIPE, **more):
         self.words, self.path = words, notes
         with open(notes, "wb") as to:
-            self.process = subprocess.Popen(words, stdin=stdin, stdout=subprocess.PIPE, stderr=to, **more)
+            self.process = subprocess.Popen(words, stdin=stdin, stdout=stdout, stderr=to, **more)
         self.came = b""
 
     def __str__(self):

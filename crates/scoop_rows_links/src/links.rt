@@ -9,7 +9,7 @@
 //! - `sealed ROOM NAME LIFE`: with the key of the system of this name (`-`: none) and life; `unsealed ROOM`: a sealed link that has
 //!   no key
 //! - `admitting ROOM`: for clients 7 and 8
-//! - `budget ROOM`: for clients 7 and 8, each look at the clock 400 microseconds after the last one
+//! - `budget ROOM`: for clients 7 and 8, each look at the clock 400 microseconds after the last one; `halves ROOM`: 500 after it
 //! - `client ROOM`: a client's link to handler 1, each look at the clock 50 milliseconds after the last one
 //! - `pair ROOM DROP DOUBLE FAIL`: an end with this script, and one without
 //!
@@ -77,6 +77,7 @@ impl<'a> Links<'a> {
             }
             b"budget" => Layers::Budget(BudgetLink::new(heap, tape, Steps::of(400), &CLIENTS)?),
             b"client" => Layers::Client(client_of(alloc, heap, tape)?),
+            b"halves" => Layers::Budget(BudgetLink::new(heap, tape, Steps::of(500), &CLIENTS)?),
             b"recalling" => Layers::Recalling(RecallingLink::new(heap, tape, self.changes)?),
             b"unsealed" => Layers::Sealed(SealedLink::new(tape, None)),
             _ => Layers::Tape(tape),
@@ -214,6 +215,7 @@ impl<'a> Links<'a> {
             | b"admitting"
             | b"budget"
             | b"client"
+            | b"halves"
             | b"recalling"
             | b"unsealed" => self.makes(name, line, answer),
             _ => Err(Bad::Command),

@@ -5,6 +5,7 @@
 //! - `cut BLOCK` answers whether it was open.
 //! - `take` and `front` answer the block, number and entry, or `none`.
 //! - `count` answers how many private queues there are, `pending BLOCK` how many entries.
+//! - `asks ENTRY` answers whether a client waits for the entry's answer.
 //! - `copy` copies into the second queues, and answers whether both are the same; `same` only compares.
 
 ghost use Rattle.std.specs.Prelude.{ℕ, ◌<◌, length, IsTrue, IfSome};
@@ -56,6 +57,7 @@ impl Subject for Queues<'_> {
             b"front" => tells_entry(self.queues.front(), answer),
             b"count" => tells(self.queues.list_len(), answer),
             b"pending" => tells(self.queues.pending_len(block(last(line)?)?), answer),
+            b"asks" => tells(entry(last(line)?)?.is_query(), answer),
             b"copy" => self.copies(answer),
             b"same" => tells(self.kept.same(&self.queues), answer),
             _ => Err(Bad::Command),

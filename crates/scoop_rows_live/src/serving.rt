@@ -2,10 +2,12 @@
 //!
 //! - `feed MESSAGE` adds a message to those that come to the next loop.
 //! - `serve TURNS [room N]` serves the node over a tape with room for N sends, with a thread for each pass but the first.
-//!   It answers the loop's end, and a line for each datagram that was sent. A case without a node gets one with two passes.
+//!   It answers what a program prints of the loop's end, and a line for each datagram that was sent. A case without a node gets
+//!   one with two passes.
 //! - `serve TURNS holding` holds replies back until the link is flushed. `serve TURNS shut` lets no handler pass the gate.
 
 use crate::nodes::{Nodes, opens};
+use scoop_errors::PartyError;
 use scoop_frame::encode;
 use scoop_link::TapeLink;
 use scoop_node_link::HoldingLink;
@@ -80,7 +82,7 @@ pub fn serves_tape<R: Threads + Wait + Clock + Sync>(
     } else {
         serve(rt, heap, &node, &mut tape, passes, &OpenGate, &stop, turns)
     };
-    tells(end, answer)?;
+    tells(PartyError::from(end), answer)?;
     if end == ServeEnd::OutOfMemory {
         return Ok(());
     }

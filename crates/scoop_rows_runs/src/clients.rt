@@ -3,6 +3,8 @@
 //! - `begin INC HANDLER..` begins it, `begin_at LAST HANDLER..` with LAST as its last block's number, and
 //!   `begin_batched BATCH HANDLER..` with BATCH entries in a Log.
 //! - `reserve`, `call`, `query`, `end` and `giveup` are commands as in the scripts of `scoop world`.
+//! - `reservation HANDLER..` begins one of block 7.1.1, without the client. `opened MESSAGE` gives it the message, and answers
+//!   whether it is open at all its handlers.
 //! - `due HANDLER` answers the message that is due, `hear MESSAGE` the client's note, and `phase` its phase.
 
 ghost use Rattle.std.specs.Prelude.{◌≤◌};
@@ -12,8 +14,9 @@ use crate::reading::{event_of, message_of};
 use crate::telling::{tells_message, tells_note};
 use scoop_client::{BeginError, Client};
 use scoop_message::limits::MAX_ENTRIES;
-use scoop_message::{ClientId, HandlerId};
-use scoop_row_player::answers::{keeps, told};
+use scoop_message::{Block, ClientId, HandlerId};
+use scoop_reserve::Reservation;
+use scoop_row_player::answers::{keeps, tells, told};
 use scoop_row_player::words::{first, handler, number, words_in};
 use scoop_row_player::{Bad, Heap, Subject};
 use scoop_world::{Event, WorldNote};
@@ -25,12 +28,13 @@ const SEVEN: ClientId = ClientId(7);
 /// The highest number of a handler whose due message is shown.
 const HANDLERS: u32 = 10;
 
-/// A client.
+/// A client, and a reservation.
 #[derive(Drop)]
 pub struct Clients<'a> {
     alloc: Global,
     heap: Heap<'a>,
     client: Option<Client<Heap<'a>>>,
+    reservation: Option<Reservation>,
 }
 
 impl<'a> Clients<'a> {
@@ -39,26 +43,40 @@ impl<'a> Clients<'a> {
             alloc,
             heap,
             client: None,
+            reservation: None,
         }
     }
 
     // Begins the client with a number that the command is about, and handlers.
     fn begins(&mut self, name: &[u8], line: &[u8], answer: &mut Vec<u8>) -> Result<(), Bad> {
         let (count, line) = first(line)?;
-        let mut handlers = Vec::new(self.alloc);
-        for word in words_in(self.alloc, line)?.as_slice() {
-            handlers.push(HandlerId(number(*word)?))?;
-        }
+        let handlers = handlers_in(self.alloc, line)?;
         let client = begun(self.heap, name, number(count)?, &handlers)?;
         keeps(&mut self.client, client, answer)
+    }
+
+    fn reserves(&mut self, line: &[u8], answer: &mut Vec<u8>) -> Result<(), Bad> {
+        let (client, inc, num) = (SEVEN, 1, 1);
+        let handlers = handlers_in(self.alloc, line)?;
+        let made = Reservation::start(Block { client, inc, num }, &handlers, &handlers);
+        keeps(&mut self.reservation, made, answer)
+    }
+
+    fn hears_reply(&mut self, line: &[u8], answer: &mut Vec<u8>) -> Result<(), Bad> {
+        let reservation = self.reservation.as_mut().ok_or(Bad::Command)?;
+        let _step = reservation.hear(&message_of(self.alloc, line)?);
+        tells(reservation.is_open(), answer)
     }
 }
 
 impl Subject for Clients<'_> {
     fn does(&mut self, command: &[u8], answer: &mut Vec<u8>) -> Result<(), Bad> {
         let (name, line) = first(command)?;
-        if name.starts_with(b"begin") {
-            return self.begins(name, line, answer);
+        match name {
+            b"begin" | b"begin_at" | b"begin_batched" => return self.begins(name, line, answer),
+            b"reservation" => return self.reserves(line, answer),
+            b"opened" => return self.hears_reply(line, answer),
+            _ => {}
         }
         let client = self.client.as_mut().ok_or(Bad::Command)?;
         match name {
@@ -91,6 +109,14 @@ impl Subject for Clients<'_> {
         }
         Ok(())
     }
+}
+
+fn handlers_in(alloc: Global, line: &[u8]) -> Result<Vec<HandlerId>, Bad> {
+    let mut handlers = Vec::new(alloc);
+    for word in words_in(alloc, line)?.as_slice() {
+        handlers.push(HandlerId(number(*word)?))?;
+    }
+    Ok(handlers)
 }
 
 fn begun<'a>(

@@ -19,7 +19,7 @@ use scoop_refusing::Refusing;
 use scoop_row_player::{Areas, Bad, Play, Sheet, Subject};
 use worlds::Worlds;
 
-/// The areas `answers`, `charts`, `clients`, `commands`, `framing`, `handlers`, `limits`, `long`, `scripts` and `worlds`.
+/// The areas `answers`, `charts`, `clients`, `commands`, `framing`, `handlers`, `limits`, `long`, `pairs`, `scripts` and `worlds`.
 #[derive(Clone, Copy)]
 pub struct Runs;
 
@@ -36,7 +36,7 @@ impl Areas for Runs {
             "clients" => played(play, Clients::new(alloc, heap), sheet),
             "handlers" => played(play, Handlers::new(alloc, heap), sheet),
             "limits" => played(play, Handlers::new(alloc, &own), sheet),
-            "long" => played(play, Worlds::new(alloc, &own), sheet),
+            "long" | "pairs" => played(play, Worlds::new(alloc, &own), sheet),
             "worlds" => played(play, Worlds::new(alloc, heap), sheet),
             _ => Ok(false),
         }

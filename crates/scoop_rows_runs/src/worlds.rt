@@ -4,6 +4,8 @@
 //! - `last CLIENT N` stores an incarnation of a client. `open` opens the world.
 //! - `events N` takes that many events by a fixed rule, and answers `ok`, or the number of an event and what is wrong with it.
 //! - `met WORDS` answers whether an event of the rule had an outcome of these words, as it is printed for a programmer.
+//! - `same EVENT / EVENT` answers whether the lines of a script are the same event. `alike EVENT / EVENT` takes both events, and
+//!   answers whether their notes are the same. `both EVENT / EVENT` takes them as a list, and answers how many, with the refusal.
 //! - Each other row is the line of one event of a script. It answers what the event did, or why it was refused.
 
 ghost use Rattle.std.specs.Prelude.{◌≤◌};
@@ -15,13 +17,15 @@ use crate::reading::{event_of, placement};
 use crate::telling::{behind, tells_note};
 use scoop_demo::{LineKind, line_kind, read_client};
 use scoop_keeper::MemoryKeeper;
-use scoop_lines::two_words;
-use scoop_message::{ClientId, HandlerId};
+use scoop_lines::{is, two_words};
+use scoop_message::{ClientId, HandlerId, Request};
 use scoop_object::Table;
 use scoop_row_player::answers::{add_line, keeps, tells};
 use scoop_row_player::words::{first, last, number, text_of};
 use scoop_row_player::{Bad, Heap, Subject};
-use scoop_world::{Placement, World, WorldError, WorldNote, WorldOpenError};
+use scoop_world::{
+    Command, Placement, World, WorldError, WorldNote, WorldOpenError, same_event, same_note,
+};
 use std::alloc::Global;
 use std::io::Write;
 
@@ -85,6 +89,34 @@ impl<'a> Worlds<'a> {
             Err(error) => tells(error, answer),
         }
     }
+
+    // Compares two events, takes both and compares their notes, or takes them as a list.
+    fn pairs(&mut self, name: &[u8], line: &[u8], answer: &mut Vec<u8>) -> Result<(), Bad> {
+        // Names types that are held here, for the prover.
+        let _held: Option<(Command, Request)> = None;
+        let (one, other) = text_of(line)?.split_once(" / ").ok_or(Bad::Words)?;
+        let (one, other) = match (event_of(one.as_bytes()), event_of(other.as_bytes())) {
+            (Ok(one), Ok(other)) => (one, other),
+            _ => return Err(Bad::Words),
+        };
+        if is(name, "same") {
+            return tells(same_event(&one, &other), answer);
+        }
+        let world = self.world.as_mut().ok_or(Bad::Command)?;
+        if is(name, "both") {
+            return match world.run(&[one, other]) {
+                Ok(taken) => tells(taken, answer),
+                Err((taken, error)) => {
+                    write!(answer, "{taken} {error}")?;
+                    Ok(())
+                }
+            };
+        }
+        match (world.step(one), world.step(other)) {
+            (Ok(note), Ok(next)) => tells(same_note(&note, &next), answer),
+            _ => tells("refused", answer),
+        }
+    }
 }
 
 impl Subject for Worlds<'_> {
@@ -102,6 +134,7 @@ impl Subject for Worlds<'_> {
                 let count = number(last(line)?)?;
                 return play_long(world, self.heap, count, &mut self.outcomes, answer);
             }
+            b"same" | b"alike" | b"both" => return self.pairs(name, line, answer),
             b"met" => return tells(behind(&self.outcomes, line).is_some(), answer),
             _ => return self.steps(command, answer),
         }

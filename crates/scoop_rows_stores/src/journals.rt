@@ -1,6 +1,7 @@
 //! Rows about the lines of journals, and about a keeper that writes one.
 //!
 //! - `line TEXT` reads a line, which has to be written back as the same text. The answer is `ok` or its fault.
+//! - `twice TEXT` appends a line twice, and answers both results. The writer refuses its first write alone.
 //! - `keep PLACE CALLS WRITES HANDLER IMAGE / ENTRIES` begins a life of node 1 with handler 1. Its keeper has the state of these
 //!   blobs, and the journal takes this number of writes. A keeper in a `file` passes on this number of calls. A `shared` record is
 //!   one that another program may take over: its keeper says this number of times that it owns the record.
@@ -14,13 +15,13 @@ use crate::bytes::read_blobs;
 use crate::keeping::{done, keeps, says};
 use crate::paper::{Owning, Paper, Teller};
 use scoop_handler::{Heard, Note};
-use scoop_journal::{Line, read, write};
+use scoop_journal::{Journal, Line, read, write};
 use scoop_keeper::{FailingKeeper, Keeper, MemoryKeeper};
 use scoop_lines::is;
 use scoop_message::HandlerId;
 use scoop_observed::{AnyKeeper, NodeJournal, ObservedKeeper, Observers};
 use scoop_record::read_image;
-use scoop_row_player::answers::tells;
+use scoop_row_player::answers::{tells, told};
 use scoop_row_player::words::{after_space, first, first_three, handler, long};
 use scoop_row_player::{Bad, Subject};
 use std::alloc::Global;
@@ -56,6 +57,7 @@ impl<'a> Journals<'a> {
         let paper = Paper {
             text: self.text,
             left: long(writes)?,
+            recovers: false,
         };
         let handlers = Vec::from_slice(alloc, &[HandlerId(1)])?;
         let keeper = filled(alloc, line)?;
@@ -107,6 +109,7 @@ impl Subject for Journals<'_> {
         let (name, line) = first(command)?;
         match name {
             b"line" => reads_line(line, answer),
+            b"twice" => self.appends_twice(line, answer),
             b"keep" => self.begins(line, answer),
             b"end" => self.ends(answer),
             b"drop" => {

@@ -12,16 +12,20 @@ use std::io;
 use std::io::{Error, ErrorKind, Write};
 use std::marker::Model;
 
-/// A writer that takes a number of writes, and refuses every later one. Its lender reads what was written.
+/// A writer that takes a number of writes, and refuses every later one, or the next one alone. Its lender reads what was written.
 #[derive(Drop)]
 pub struct Paper<'a> {
     pub text: &'a RefCell<Vec<u8>>,
     pub left: u64,
+    pub recovers: bool,
 }
 
 impl Write for Paper<'_> {
     fn write(&mut self, buf: &[u8]) -> io::Result<usize> {
         if self.left == 0 {
+            if self.recovers {
+                self.left = u64::MAX;
+            }
             return Err(Error::new(ErrorKind::Other, "full"));
         }
         self.left -= 1;
