@@ -42,7 +42,7 @@ fn play_stores(play: Play<'_>, sheet: &mut Sheet) -> Result<bool, Bad> {
 fn play_journals(play: Play<'_>, sheet: &mut Sheet) -> Result<bool, Bad> {
     let text = RefCell::new(Vec::new(sheet.alloc()));
     let told = RefCell::new(Vec::new(sheet.alloc()));
-    play_rows(case, heap, &mut Journals::new(&text, &told), sheet)
+    play.over(&mut Journals::new(&text, &told), sheet)
 }
 
 fn play_folder(rt: &HostRuntime, play: Play<'_>, sheet: &mut Sheet) -> Result<bool, Bad> {

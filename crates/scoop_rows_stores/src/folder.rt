@@ -12,9 +12,9 @@
 //! - `append SYNC FILE TEXT` opens the journal of node 1 in a file and appends a line. With `syncs` as SYNC it waits for the
 //!   disk. `hold FILE` opens the journal and keeps it open.
 
-use crate::disk::{add_text, files, path};
-use crate::keeping::{keeps, says};
-use crate::paper::{Owning, Paper};
+use crate::disk::files;
+use crate::keeping::keeper_does;
+use crate::paper::Owning;
 use scoop_files::{
     FileError, FiledStore, NameWatch, Named, StoreName, adopt_for, close_named, create_after,
     update_marks,
@@ -57,7 +57,8 @@ const FILES: [&str; 5] = [
 // A store in a file, or a keeper in memory that stands for one and passes on a number of calls.
 type AnyPlace = AnyKeeper<FiledStore, Owning<FailingKeeper<MemoryKeeper>>>;
 
-type Kept<'a> = ObservedKeeper<'a, AnyPlace, Unwatched, Paper<'a>>;
+// It writes no journal.
+type Kept<'a> = ObservedKeeper<'a, AnyPlace, Unwatched, Vec<u8>>;
 
 /// The folder, with what is open there.
 #[derive(Drop)]
@@ -90,12 +91,9 @@ impl<'a> Folder<'a> {
         let calls = long(last(line)?)?;
         let keeper = FailingKeeper::new(MemoryKeeper::new(self.rt.alloc()), calls);
         let left = u64::MAX;
-        self.keeper = Some(kept(
-            self.rt,
-            self.name,
-            AnyKeeper::Shared(Owning { keeper, left }),
-        ));
-        says("ok", answer)
+        let keeper = AnyKeeper::Shared(Owning { keeper, left });
+        self.keeper = Some(kept(self.rt, self.name, keeper));
+        tells("ok", answer)
     }
 
     fn closes(&mut self, answer: &mut Vec<u8>) -> Result<(), Bad> {
@@ -104,7 +102,7 @@ impl<'a> Folder<'a> {
         };
         match kept.into_inner() {
             AnyKeeper::File(store) => tells_closed(close_named(store, self.name), answer),
-            _ => says("ok", answer),
+            AnyKeeper::Memory(_) | AnyKeeper::Shared(_) => tells("ok", answer),
         }
     }
 
@@ -225,7 +223,7 @@ fn keeps_opened<'a>(
     match opened {
         Ok(store) => {
             *keeper = Some(kept(rt, name, AnyKeeper::File(store)));
-            says("ok", answer)
+            tells("ok", answer)
         }
         Err(error) => tells(error, answer),
     }
