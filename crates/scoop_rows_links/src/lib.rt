@@ -4,6 +4,7 @@
 #![tactic(auto)]
 
 mod class_words;
+mod counted;
 mod layers;
 mod links;
 mod objects;
@@ -15,9 +16,10 @@ use links::Links;
 use objects::Objects;
 use owners::Owners;
 use queues::Queues;
-use scoop_node_link::Changes;
+use scoop_node_link::NodeCounts;
 use scoop_row_player::{Areas, Bad, Play, Sheet};
 use seals::Seals;
+use std::cell::RefCell;
 
 /// The areas `queues`, `objects`, `links`, `seals` and `owners`.
 pub struct LinkAreas;
@@ -36,8 +38,10 @@ impl Areas for LinkAreas {
 }
 
 fn play_links(play: Play<'_>, sheet: &mut Sheet) -> Result<bool, Bad> {
-    let changes = Changes::new(sheet.alloc())?;
-    let mut links = Links::new(sheet.alloc(), play.heap, &changes);
+    let alloc = sheet.alloc();
+    let counts = NodeCounts::new(alloc)?;
+    let notes = RefCell::new(Vec::new(alloc));
+    let mut links = Links::new(alloc, play.heap, &counts, &notes);
     play.over(&mut links, sheet)
 }
 

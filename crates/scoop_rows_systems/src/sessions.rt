@@ -20,8 +20,8 @@ use scoop_journal::Journal;
 use scoop_keeper::MemoryKeeper;
 use scoop_lines::is;
 use scoop_link::{Datagram, TapeLink};
-use scoop_message::limits::BUFFER_LEN;
 use scoop_message::ClientId;
+use scoop_message::limits::BUFFER_LEN;
 use scoop_row_player::Bad;
 use scoop_row_player::answers::{has, tells, without_last};
 use scoop_row_player::words::{after_space, first_three, last, long, number, read_text};
@@ -31,9 +31,8 @@ use scoop_runtime::{
 };
 use scoop_system::System;
 use std::alloc::Global;
-use std::io;
 use std::io::{Error, ErrorKind, Write};
-use std::mem;
+use std::{io, mem};
 
 // Datagrams that a client can send in one session, which repeats each one at each turn.
 const ROOM: usize = 2_048;
@@ -246,14 +245,7 @@ impl Sessions {
             store: mem::replace(&mut self.keeper, MemoryKeeper::new(alloc)),
             journal: Some(Journal::new(alloc, &mut self.written)),
         };
-        let ended = client_cut(
-            alloc,
-            plan,
-            &mut record,
-            &mut link,
-            answer,
-            &mut self.notes,
-        );
+        let ended = client_cut(alloc, plan, &mut record, &mut link, answer, &mut self.notes);
         let ClientRecord { store, .. } = record;
         self.keeper = store;
         ends(ended, answer)

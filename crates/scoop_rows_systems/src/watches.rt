@@ -11,7 +11,6 @@
 //!
 //! [`crate::shown`] has the commands that show it.
 
-use crate::text::{numbers, read_text, tells, told};
 use scoop_demo::read_message;
 use scoop_frame::{Version, encode};
 use scoop_handler::{Handler, Heard, Note};
@@ -23,7 +22,8 @@ use scoop_message::{ClientId, HandlerId, Message};
 use scoop_node_link::NodeLink;
 use scoop_object::{Class, Table};
 use scoop_pacing::SystemTimes;
-use scoop_row_player::words::{first, last, number};
+use scoop_row_player::answers::{tells, told};
+use scoop_row_player::words::{after_space, first, handler, number, numbers, read_text};
 use scoop_row_player::{Bad, Subject};
 use scoop_seal::{Key, SealedLink};
 use scoop_system::System;
@@ -85,7 +85,7 @@ impl<R: Wait + Clock> Subject for Watches<'_, R> {
                 self.watched.load(self.handler.state());
                 tells("ok", answer)
             }
-            b"shown" => self.compares(HandlerId(number(last(line)?)?), answer),
+            b"shown" => self.compares(handler(line)?, answer),
             b"stranger" => self.meets(line, answer),
             b"link" => self.passes(line, answer),
             b"says" => self.outputs(line, answer),
@@ -163,8 +163,7 @@ impl<'a, R: Wait + Clock> Watches<'a, R> {
     // Brings a greeting of a client over a link that hears another one alone.
     fn meets(&self, line: &[u8], answer: &mut Vec<u8>) -> Result<(), Bad> {
         let (client, line) = first(line)?;
-        let handler = HandlerId(number(last(line)?)?);
-        let hello = Message::Hello(handler, ClientId(number(client)?), 1);
+        let hello = Message::Hello(handler(line)?, ClientId(number(client)?), 1);
         let mut frame = [0; BUFFER_LEN];
         let len = encode(Version::Two, &hello, &mut frame);
         let mut tape = TapeLink::new(*answer.allocator(), 0)?;
