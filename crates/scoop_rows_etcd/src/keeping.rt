@@ -18,14 +18,9 @@ const ONE: HandlerId = HandlerId(1);
 fn state(alloc: Global, line: &[u8]) -> Result<HandlerState, Bad> {
     let (handler, line) = first(line)?;
     let handler = HandlerId(number(handler)?);
-    let Ok(words) = Words::of(&[long(last(line)?)?]) else {
-        return Err(Bad::Words);
-    };
+    let words = Words::of(&[long(last(line)?)?]).map_err(|_| Bad::Words)?;
     let queues = QueueOfQueues::new(alloc);
-    match HandlerState::of(alloc, handler, words, None, &[], queues) {
-        Ok(state) => Ok(state),
-        Err(_) => Err(Bad::Memory),
-    }
+    HandlerState::of(alloc, handler, words, None, &[], queues).map_err(|_| Bad::Memory)
 }
 
 /// Adds the word of a state.

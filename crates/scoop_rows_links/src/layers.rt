@@ -10,12 +10,11 @@ use scoop_node_link::NodeLink;
 use scoop_pacing::Times;
 use scoop_row_player::answers::tells;
 use scoop_row_player::{Bad, Heap};
+use scoop_rows_parts::stand_ins::Paper;
 use scoop_seal::SealedLink;
 use scoop_system::System;
 use std::alloc::Global;
 use std::cell::RefCell;
-use std::io;
-use std::io::{Error, ErrorKind, Write};
 use std::net::SocketAddr;
 
 // A system with one handler.
@@ -87,27 +86,8 @@ impl SetsAddress for Placed<'_> {
     }
 }
 
-/// The notes of a link. Their lender reads them.
-#[derive(Drop)]
-pub(crate) struct Notes<'a> {
-    text: &'a RefCell<Vec<u8>>,
-}
-
-impl Write for Notes<'_> {
-    fn write(&mut self, bytes: &[u8]) -> io::Result<usize> {
-        match self.text.try_borrow_mut() {
-            Ok(mut text) => text.write(bytes),
-            Err(_) => Err(Error::new(ErrorKind::Other, "in use")),
-        }
-    }
-
-    fn flush(&mut self) -> io::Result<()> {
-        Ok(())
-    }
-}
-
 /// A client's link to handler 1.
-pub(crate) type Client<'a> = ClientLink<Placed<'a>, Steps, Notes<'a>, Heap<'a>>;
+pub(crate) type Client<'a> = ClientLink<Placed<'a>, Steps, Paper<'a>, Heap<'a>>;
 
 /// A node's link, which takes its memory from A.
 pub(crate) type Node<'a, A> = NodeLink<'a, Tape<'a>, Steps, A>;
@@ -115,7 +95,6 @@ pub(crate) type Node<'a, A> = NodeLink<'a, Tape<'a>, Steps, A>;
 /// The link of a case.
 #[derive(Drop)]
 pub(crate) enum Layers<'a> {
-    Nothing,
     Tape(Tape<'a>),
     Paced(PacedLink<Tape<'a>, Heap<'a>>),
     Sealed(SealedLink<Tape<'a>>),
@@ -136,7 +115,7 @@ impl<'a> Layers<'a> {
             Layers::Node(link) => Some(link.inner().inner()),
             Layers::Holding(link) => Some(link.inner().inner()),
             Layers::Client(link) => Some(&link.inner().tape),
-            Layers::Nothing | Layers::Pair(..) => None,
+            Layers::Pair(..) => None,
         }
     }
 
@@ -146,8 +125,7 @@ impl<'a> Layers<'a> {
             Layers::Sealed(link) => tells(link.refused(), answer),
             Layers::Node(link) => {
                 let (over, strangers) = (link.over_budget(), link.strangers());
-                write!(answer, "over {over}, strangers {strangers}")?;
-                Ok(())
+                tells(format_args!("over {over}, strangers {strangers}"), answer)
             }
             _ => tells(0u64, answer),
         }
@@ -161,12 +139,10 @@ pub(crate) fn client_of<'a>(
     tape: Tape<'a>,
     notes: &'a RefCell<Vec<u8>>,
 ) -> Result<Client<'a>, OutOfMemory> {
-    let Ok(system) = System::read(alloc, HANDLER_1) else {
-        return Err(OutOfMemory);
-    };
+    let system = System::read(alloc, HANDLER_1).map_err(|_| OutOfMemory)?;
     let notes = ClientNotes {
-        waits: Notes { text: notes },
-        faults: Notes { text: notes },
+        waits: Paper::of(notes, u64::MAX),
+        faults: Paper::of(notes, u64::MAX),
     };
     ClientLink::new(heap, Placed { tape }, Steps::of(50_000), notes, &system, 0)
 }

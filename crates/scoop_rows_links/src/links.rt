@@ -32,7 +32,7 @@ use scoop_message::limits::BUFFER_LEN;
 use scoop_message::{ClientId, HandlerId, OutOfMemory, Words};
 use scoop_node_link::{NodeCounts, NodeLink};
 use scoop_queue::QueueOfQueues;
-use scoop_row_player::answers::{put_bytes, tells, told, without_last};
+use scoop_row_player::answers::{keeps, put_bytes, tells, told, without_last};
 use scoop_row_player::words::{first, handler, hex_bytes, last, long, number, numbers};
 use scoop_row_player::{Bad, Heap, Subject};
 use scoop_seal::SealedLink;
@@ -53,7 +53,7 @@ pub(crate) struct Links<'a> {
     notes: &'a RefCell<Vec<u8>>,
     keeper: Counted<'a>,
     fed: Vec<Datagram>,
-    link: Layers<'a>,
+    link: Option<Layers<'a>>,
 }
 
 impl<'a> Links<'a> {
@@ -69,7 +69,7 @@ impl<'a> Links<'a> {
             notes,
             keeper: counted(alloc, counts),
             fed: Vec::new(alloc),
-            link: Layers::Nothing,
+            link: None,
         }
     }
 
@@ -101,13 +101,13 @@ impl<'a> Links<'a> {
         let (room, line) = first(line)?;
         let clock = Steps::of(long(last(line)?)?);
         let made = self.node(name, number(room)? as usize, clock);
-        self.takes(made, answer)
+        keeps(&mut self.link, made, answer)
     }
 
     fn makes(&mut self, name: &[u8], line: &[u8], answer: &mut Vec<u8>) -> Result<(), Bad> {
         let room = long(last(line)?)?;
         let made = self.layers(name, room as usize);
-        self.takes(made, answer)
+        keeps(&mut self.link, made, answer)
     }
 
     fn seals(&mut self, line: &[u8], answer: &mut Vec<u8>) -> Result<(), Bad> {
@@ -117,7 +117,7 @@ impl<'a> Links<'a> {
             Ok(tape) => Ok(Layers::Sealed(SealedLink::new(tape, Some(key)))),
             Err(error) => Err(error),
         };
-        self.takes(made, answer)
+        keeps(&mut self.link, made, answer)
     }
 
     // Makes two ends, the first one with the script of the line.
@@ -135,21 +135,7 @@ impl<'a> Links<'a> {
             Ok((link, other)) => Ok(Layers::Pair(link, other)),
             Err(error) => Err(error),
         };
-        self.takes(made, answer)
-    }
-
-    fn takes(
-        &mut self,
-        made: Result<Layers<'a>, OutOfMemory>,
-        answer: &mut Vec<u8>,
-    ) -> Result<(), Bad> {
-        match made {
-            Ok(link) => {
-                self.link = link;
-                tells("ok", answer)
-            }
-            Err(error) => tells(error, answer),
-        }
+        keeps(&mut self.link, made, answer)
     }
 
     // The answers of a command that is given several times: one if they are the same.
@@ -170,8 +156,7 @@ impl<'a> Links<'a> {
     }
 
     fn calls(&mut self, name: &[u8], line: &[u8], answer: &mut Vec<u8>) -> Result<(), Bad> {
-        match &mut self.link {
-            Layers::Nothing => Err(Bad::Command),
+        match self.link.as_mut().ok_or(Bad::Command)? {
             Layers::Tape(link) => call(link, name, line, answer),
             Layers::Paced(link) => call(link, name, line, answer),
             Layers::Sealed(link) => call(link, name, line, answer),
@@ -185,14 +170,15 @@ impl<'a> Links<'a> {
     fn calls_other(&mut self, command: &[u8], answer: &mut Vec<u8>) -> Result<(), Bad> {
         let (name, line) = first(command)?;
         match &mut self.link {
-            Layers::Pair(_, other) => call(other, name, line, answer),
+            Some(Layers::Pair(_, other)) => call(other, name, line, answer),
             _ => Err(Bad::Command),
         }
     }
 
     // Asks the tape.
     fn asks(&self, name: &[u8], line: &[u8], answer: &mut Vec<u8>) -> Result<(), Bad> {
-        let tape = self.link.tape().ok_or(Bad::Command)?;
+        let link = self.link.as_ref().ok_or(Bad::Command)?;
+        let tape = link.tape().ok_or(Bad::Command)?;
         if is(name, "count") {
             return tells(count_sent(tape), answer);
         }
@@ -233,7 +219,7 @@ impl<'a> Links<'a> {
             b"send" | b"receive" | b"flush" | b"faults" => self.calls(name, line, answer),
             b"other" => self.calls_other(line, answer),
             b"sent" | b"count" => self.asks(name, line, answer),
-            b"refused" => self.link.put_refused(answer),
+            b"refused" => self.link.as_ref().ok_or(Bad::Command)?.put_refused(answer),
             b"notes" => self.tells_notes(answer),
             b"put" | b"stored" => self.stores(name, handler(line)?, answer),
             b"pair" => self.pairs(line, answer),
@@ -256,8 +242,11 @@ impl Subject for Links<'_> {
 
     fn shows(&self, text: &mut Vec<u8>) -> Result<(), Bad> {
         write!(text, "{} ", self.fed.len())?;
-        self.link.put_refused(text)?;
-        if let Some(tape) = self.link.tape() {
+        let Some(link) = &self.link else {
+            return Ok(());
+        };
+        link.put_refused(text)?;
+        if let Some(tape) = link.tape() {
             write!(text, " {} {}", tape.to_come(), tape.faults())?;
             for i in 0..count_sent(tape) {
                 put_sent(tape, i, text)?;

@@ -70,10 +70,7 @@ fn link_over<'c, 'r, R: Clock>(
     let sealed = SealedLink::new(tape, None);
     let clock = SystemTimes::new(rt);
     let holds = line.ends_with(b"holding");
-    match NodeLink::new(nodes.alloc, sealed, clock, &CLIENTS, counts, holds) {
-        Ok(link) => Ok(link),
-        Err(_) => Err(Bad::Memory),
-    }
+    Ok(NodeLink::new(nodes.alloc, sealed, clock, &CLIENTS, counts, holds)?)
 }
 
 // Adds a line for each datagram that was sent.

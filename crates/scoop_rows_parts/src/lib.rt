@@ -1,6 +1,7 @@
 //! Rows about the parts of nodes and clients: books, drivers, orders of moves, names in frames.
 //!
-//! [`Parts`] has the areas `books`, `drivers`, `names` and `weaves`. Each area's module says its commands.
+//! [`Parts`] has the areas `books`, `drivers`, `names` and `weaves`. Each area's module says its commands. The modules [`handlers`],
+//! [`printing`] and [`stand_ins`] serve the other libraries of rows too.
 #![tactic(auto)]
 
 mod books;
@@ -9,6 +10,7 @@ mod drivers;
 pub mod handlers;
 mod naming;
 pub mod printing;
+pub mod stand_ins;
 mod waiting;
 mod weaves;
 mod wire;

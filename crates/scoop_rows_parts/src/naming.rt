@@ -6,7 +6,6 @@ use scoop_frame::peek;
 use scoop_row_player::answers::tells;
 use scoop_row_player::words::{first, hex_bytes};
 use scoop_row_player::{Bad, Subject};
-use std::io::Write;
 
 /// Each row stands alone.
 #[derive(Drop)]
@@ -25,10 +24,7 @@ impl Subject for Naming {
 fn tells_names(line: &[u8], answer: &mut Vec<u8>) -> Result<(), Bad> {
     let bytes = hex_bytes(*answer.allocator(), line)?;
     match peek(&bytes) {
-        Some(names) => {
-            write!(answer, "{} {}", names.handler, names.client)?;
-            Ok(())
-        }
+        Some(names) => tells(format_args!("{} {}", names.handler, names.client), answer),
         None => tells("none", answer),
     }
 }

@@ -14,7 +14,6 @@
 
 use crate::disk::files;
 use crate::keeping::keeper_does;
-use crate::paper::Owning;
 use scoop_files::{
     FileError, FiledStore, NameWatch, Named, StoreName, adopt_for, close_named, create_after,
     update_marks,
@@ -30,6 +29,7 @@ use scoop_row_player::words::{
     after_space, block, first, first_two, last, long, number, read_text, text_of,
 };
 use scoop_row_player::{Bad, Subject};
+use scoop_rows_parts::stand_ins::Owning;
 use scoop_watch::Unwatched;
 use std::alloc::Global;
 use std::time::{Duration, Instant};
@@ -97,9 +97,7 @@ impl<'a> Folder<'a> {
     }
 
     fn closes(&mut self, answer: &mut Vec<u8>) -> Result<(), Bad> {
-        let Some(kept) = self.keeper.take() else {
-            return Err(Bad::Command);
-        };
+        let kept = self.keeper.take().ok_or(Bad::Command)?;
         match kept.into_inner() {
             AnyKeeper::File(store) => tells_closed(close_named(store, self.name), answer),
             AnyKeeper::Memory(_) | AnyKeeper::Shared(_) => tells("ok", answer),
@@ -133,10 +131,8 @@ impl<'a> Folder<'a> {
             self.watch = Some(NameWatch::new(self.rt, self.name));
             return tells("ok", answer);
         }
-        match &mut self.watch {
-            Some(watch) => tells(watch.has_name(), answer),
-            None => Err(Bad::Command),
-        }
+        let watch = self.watch.as_mut().ok_or(Bad::Command)?;
+        tells(watch.has_name(), answer)
     }
 
     fn stays(&self, line: &[u8], answer: &mut Vec<u8>) -> Result<(), Bad> {
@@ -187,10 +183,8 @@ fn gives_kept<K: Keeper<Global>>(
     line: &[u8],
     answer: &mut Vec<u8>,
 ) -> Result<(), Bad> {
-    match kept {
-        Some(keeper) => keeper_does(*answer.allocator(), keeper, name, line, answer),
-        None => Err(Bad::Command),
-    }
+    let keeper = kept.as_mut().ok_or(Bad::Command)?;
+    keeper_does(*answer.allocator(), keeper, name, line, answer)
 }
 
 // A keeper that looks after this name.

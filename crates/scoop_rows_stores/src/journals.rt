@@ -14,7 +14,7 @@
 
 use crate::bytes::read_blobs;
 use crate::keeping::{done, keeper_does};
-use crate::paper::{Owning, Paper, Teller};
+use crate::paper::Teller;
 use scoop_handler::{Heard, Note};
 use scoop_journal::{Journal, Line, read, write};
 use scoop_keeper::{FailingKeeper, Keeper, MemoryKeeper};
@@ -25,6 +25,7 @@ use scoop_record::read_image;
 use scoop_row_player::answers::{tells, told};
 use scoop_row_player::words::{after_space, first, first_three, handler, long};
 use scoop_row_player::{Bad, Subject};
+use scoop_rows_parts::stand_ins::{Owning, Paper};
 use std::alloc::Global;
 use std::cell::RefCell;
 
@@ -52,12 +53,7 @@ impl<'a> Journals<'a> {
     fn begins(&mut self, line: &[u8], answer: &mut Vec<u8>) -> Result<(), Bad> {
         let alloc = *answer.allocator();
         let (place, calls, writes, line) = first_three(line)?;
-        let (calls, left) = (long(calls)?, long(writes)?);
-        let paper = Paper {
-            text: self.text,
-            left,
-            recovers: false,
-        };
+        let (calls, paper) = (long(calls)?, Paper::of(self.text, long(writes)?));
         let handlers = Vec::from_slice(alloc, &[HandlerId(1)])?;
         let keeper = placed(filled(alloc, line)?, place, calls)?;
         let observers = Observers {
@@ -78,10 +74,8 @@ impl<'a> Journals<'a> {
     }
 
     fn notes(&mut self, name: &[u8], line: &[u8], answer: &mut Vec<u8>) -> Result<(), Bad> {
-        match &mut self.keeper {
-            Some(keeper) => notes(keeper, name, line, answer),
-            None => Err(Bad::Command),
-        }
+        let keeper = self.keeper.as_mut().ok_or(Bad::Command)?;
+        notes(keeper, name, line, answer)
     }
 
     fn appends_twice(&self, line: &[u8], answer: &mut Vec<u8>) -> Result<(), Bad> {
@@ -121,28 +115,24 @@ impl Subject for Journals<'_> {
 
 // Adds what was written there without its last byte, and empties it.
 fn empties(written: &RefCell<Vec<u8>>, answer: &mut Vec<u8>) -> Result<(), Bad> {
-    match written.try_borrow_mut() {
-        Ok(mut text) => {
-            text.pop();
-            answer.extend_from_slice(text.as_slice())?;
-            text.clear();
-            Ok(())
-        }
-        Err(_) => Err(Bad::Memory),
-    }
+    let Ok(mut text) = written.try_borrow_mut() else {
+        return Err(Bad::Memory);
+    };
+    text.pop();
+    answer.extend_from_slice(text.as_slice())?;
+    text.clear();
+    Ok(())
 }
 
 // A keeper that has the state of these blobs.
 fn filled(alloc: Global, line: &[u8]) -> Result<MemoryKeeper, Bad> {
     let blobs = read_blobs(alloc, line)?;
     let mut keeper = MemoryKeeper::new(alloc);
-    match read_image(alloc, blobs.handler, &blobs.image, &blobs.pending) {
-        Ok(state) => match keeper.put_handler(&state) {
-            Ok(()) => Ok(keeper),
-            Err(_) => Err(Bad::Memory),
-        },
-        Err(_) => Err(Bad::Words),
-    }
+    let Ok(state) = read_image(alloc, blobs.handler, &blobs.image, &blobs.pending) else {
+        return Err(Bad::Words);
+    };
+    keeper.put_handler(&state).map_err(|_| Bad::Memory)?;
+    Ok(keeper)
 }
 
 // The same keeper in this place, for a number of calls.

@@ -13,7 +13,6 @@
 
 use crate::programs::Asker;
 use crate::text_lines::TextLines;
-use scoop_demo::read_message;
 use scoop_driver::NoPause;
 use scoop_frame::encode;
 use scoop_journal::Journal;
@@ -24,7 +23,8 @@ use scoop_message::ClientId;
 use scoop_message::limits::BUFFER_LEN;
 use scoop_row_player::Bad;
 use scoop_row_player::answers::{has, tells, without_last};
-use scoop_row_player::words::{after_space, first_three, last, long, number, read_text};
+use scoop_row_player::words::{first_three, last, long, number, read_text};
+use scoop_rows_parts::printing::message;
 use scoop_runtime::{
     Caller, ClientPlan, ClientProgram, ClientRecord, Console, ProgramRun, Progress, RuntimeError,
     client_cut, client_run, program_run,
@@ -124,13 +124,11 @@ impl Sessions {
         answer: &mut Vec<u8>,
     ) -> Result<(), Bad> {
         let (_, _, _, words) = first_three(line)?;
-        match plan_of(system, line) {
-            Ok(plan) => match name {
-                b"client" => self.runs(&plan, words, answer),
-                b"program" => self.runs_program(&plan, words, answer),
-                _ => self.cuts(&plan, answer),
-            },
-            Err(bad) => Err(bad),
+        let plan = plan_of(system, line)?;
+        match name {
+            b"client" => self.runs(&plan, words, answer),
+            b"program" => self.runs_program(&plan, words, answer),
+            _ => self.cuts(&plan, answer),
         }
     }
 
@@ -219,8 +217,7 @@ impl Sessions {
             journal: Some(Journal::new(alloc, &mut self.written)),
         };
         let begun = match Caller::begin(alloc, plan, &mut record, link, NoPause, &mut self.notes) {
-            Ok(begun) => {
-                let mut caller = begun;
+            Ok(mut caller) => {
                 let _ended = asker.run(&mut caller);
                 Ok(())
             }
@@ -273,9 +270,7 @@ fn tape_of(alloc: Global, heard: &[Datagram]) -> Result<TapeLink, Bad> {
 
 // The frame of a message.
 fn datagram_of(alloc: Global, line: &[u8]) -> Result<Datagram, Bad> {
-    let Ok((version, message)) = read_message(alloc, after_space(line)) else {
-        return Err(Bad::Words);
-    };
+    let (version, message) = message(alloc, line)?;
     let mut buffer = [0; BUFFER_LEN];
     let len = encode(version, &message, &mut buffer);
     Ok(Datagram::of(&buffer[..len]))
@@ -291,8 +286,5 @@ fn plan_of<'s>(system: &'s System, line: &[u8]) -> Result<ClientPlan<'s>, Bad> {
         b"typed" => ClientPlan::new(system, place, turns, true),
         _ => ClientPlan::new(system, place, turns, false),
     };
-    match plan {
-        Ok(plan) => Ok(plan),
-        Err(_) => Err(Bad::Number),
-    }
+    plan.map_err(|_| Bad::Number)
 }

@@ -11,7 +11,6 @@
 //!
 //! [`crate::shown`] has the commands that show it.
 
-use scoop_demo::read_message;
 use scoop_frame::{Version, encode};
 use scoop_handler::{Handler, Heard, Note};
 use scoop_keeper::KeeperError;
@@ -23,8 +22,9 @@ use scoop_node_link::NodeLink;
 use scoop_object::{Class, Table};
 use scoop_pacing::SystemTimes;
 use scoop_row_player::answers::{tells, told};
-use scoop_row_player::words::{after_space, first, handler, number, numbers, read_text};
+use scoop_row_player::words::{first, handler, number, numbers, read_text};
 use scoop_row_player::{Bad, Subject};
+use scoop_rows_parts::printing::message;
 use scoop_seal::{Key, SealedLink};
 use scoop_system::System;
 use scoop_watch::{Watch, Watched, WatchedOutput, Watcher};
@@ -63,13 +63,8 @@ pub struct Watches<'a, R> {
 fn handler_of(alloc: Global, system: &System) -> Result<Handler<Table>, Bad> {
     let place = system.handlers().first().ok_or(Bad::Words)?;
     let class: Class = system.class_of(alloc, place.class)?.ok_or(Bad::Words)?;
-    let Ok(object) = Table::new(class.copy()?, place.words) else {
-        return Err(Bad::Words);
-    };
-    match Handler::new(alloc, place.handler, class, object) {
-        Ok(handler) => Ok(handler),
-        Err(_) => Err(Bad::Words),
-    }
+    let object = Table::new(class.copy()?, place.words).map_err(|_| Bad::Words)?;
+    Handler::new(alloc, place.handler, class, object).map_err(|_| Bad::Words)
 }
 
 // Nothing here takes memory over the player's heap, so that no command is refused.
@@ -96,19 +91,15 @@ impl<R: Wait + Clock> Subject for Watches<'_, R> {
 
 impl<'a, R: Wait + Clock> Watches<'a, R> {
     pub fn new(alloc: Global, rt: &'a R, watch: &'a Watch) -> Result<Watches<'a, R>, Bad> {
-        let Ok(system) = System::read(alloc, SYSTEM) else {
-            return Err(Bad::Words);
-        };
-        match handler_of(alloc, &system) {
-            Ok(handler) => Ok(Watches {
-                rt,
-                watch,
-                system,
-                handler,
-                watched: Watched::new(rt, watch),
-            }),
-            Err(bad) => Err(bad),
-        }
+        let system = System::read(alloc, SYSTEM).map_err(|_| Bad::Words)?;
+        let handler = handler_of(alloc, &system)?;
+        Ok(Watches {
+            rt,
+            watch,
+            system,
+            handler,
+            watched: Watched::new(rt, watch),
+        })
     }
 
     /// Notes what a handler has heard.
@@ -118,9 +109,7 @@ impl<'a, R: Wait + Clock> Watches<'a, R> {
 
     // Gives the handler a message, and adds the note. Or notes it as a greeting of another handler.
     fn hears(&mut self, name: &[u8], line: &[u8], answer: &mut Vec<u8>) -> Result<(), Bad> {
-        let Ok((_, message)) = read_message(*answer.allocator(), after_space(line)) else {
-            return Err(Bad::Words);
-        };
+        let (_, message) = message(*answer.allocator(), line)?;
         if is(name, "greeted") {
             let note = Note::Greeted;
             self.notes(&message, &Heard { reply: None, note });
@@ -222,8 +211,7 @@ impl<'a, R: Wait + Clock> Watches<'a, R> {
         output.flush()?;
         output.flush()?;
         let after = self.watch.tally(self.rt).is_open;
-        write!(answer, "{before} {after} ")?;
-        Ok(())
+        tells(format_args!("{before} {after} "), answer)
     }
 }
 
@@ -240,6 +228,8 @@ fn exchanges<L: Link>(link: &mut L, sends: u64, answer: &mut Vec<u8>) -> Result<
     for _ in 0..sends {
         let _counted = link.send(CLIENT, b"reply");
     }
-    write!(answer, "{came} came, {} failed", link.faults())?;
-    Ok(())
+    tells(
+        format_args!("{came} came, {} failed", link.faults()),
+        answer,
+    )
 }

@@ -12,7 +12,7 @@ use Rattle.scoop_queue.specs.Queue.{PrivateQueue, head_at, head_of, is_queue_of,
 use Rattle.scoop_queue.specs.Refusal.{HasNumbersFor}
 use Rattle.scoop_queue.specs.Sound.{IsQueues, number_limit}
 use Rattle.scoop_queue.proofs.Found.{IsQueue-found}
-use Rattle.scoop_rows_links.proofs.queues.put.Goals as goal
+use Rattle.scoop_rows_runs.proofs.queues.put.Goals as goal
 
 abbrev AreSmall : List PrivateQueue → Type 0
 AreSmall qs = (k : ℕ) → k < length qs → IfSome (head_at k qs) (λ h. h.first < 1000000)

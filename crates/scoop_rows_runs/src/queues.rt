@@ -24,13 +24,13 @@ use std::io::Write;
 
 /// Queues, and a copy of them.
 #[derive(Drop)]
-pub(crate) struct Queues<'a> {
+pub struct Queues<'a> {
     queues: QueueOfQueues<Heap<'a>>,
     kept: QueueOfQueues<Heap<'a>>,
 }
 
 impl<'a> Queues<'a> {
-    pub(crate) fn new(heap: Heap<'a>) -> Queues<'a> {
+    pub fn new(heap: Heap<'a>) -> Queues<'a> {
         Queues {
             queues: QueueOfQueues::new(heap),
             kept: QueueOfQueues::new(heap),
@@ -51,7 +51,7 @@ impl Subject for Queues<'_> {
         match name {
             b"open" => told(self.queues.open(block(last(line)?)?), answer),
             b"put" => puts(&mut self.queues, line, answer),
-            b"append" => appends(&mut self.queues, line, answer),
+            b"append" => append(&mut self.queues, line, answer),
             b"cut" => tells(self.queues.cut(block(last(line)?)?), answer),
             b"take" => tells_entry(self.queues.advance(), answer),
             b"front" => tells_entry(self.queues.front(), answer),
@@ -65,8 +65,8 @@ impl Subject for Queues<'_> {
     }
 
     fn shows(&self, text: &mut Vec<u8>) -> Result<(), Bad> {
-        show(&self.queues, text)?;
-        show(&self.kept, text)
+        shows_queues(&self.queues, text)?;
+        shows_queues(&self.kept, text)
     }
 }
 
@@ -139,7 +139,8 @@ fn state(word: &[u8]) -> Result<QueueState, Bad> {
     }
 }
 
-fn appends<A: Allocator + Copy>(
+/// Appends a private queue: its block, the number of its first entry, its state and its entries.
+pub fn append<A: Allocator + Copy>(
     queues: &mut QueueOfQueues<A>,
     line: &[u8],
     answer: &mut Vec<u8>,
@@ -157,8 +158,11 @@ fn appends<A: Allocator + Copy>(
     told(queues.append(head, many.as_slice()), answer)
 }
 
-// Adds the private queues with their entries.
-fn show<A: Allocator>(queues: &QueueOfQueues<A>, text: &mut Vec<u8>) -> Result<(), Bad> {
+/// Adds the private queues with their entries.
+pub fn shows_queues<A: Allocator>(
+    queues: &QueueOfQueues<A>,
+    text: &mut Vec<u8>,
+) -> Result<(), Bad> {
     for i in 0..queues.list_len() {
         write!(text, "{:?}", queues.head(i))?;
         for j in 0..MAX_PENDING {
