@@ -186,11 +186,10 @@ impl Sessions {
             journal: Some(Journal::new(alloc, &mut self.written)),
         };
         let run = ProgramRun {
-            program: &mut asker,
             pause: NoPause,
             notes: &mut self.notes,
         };
-        let end = program_run(alloc, plan, &mut record, &mut link, run);
+        let end = program_run(alloc, plan, &mut record, &mut link, &mut asker, run);
         let ClientRecord { store, .. } = record;
         self.keeper = store;
         asker.tells_balance(answer)?;
