@@ -46,16 +46,21 @@ pub fn play_long(
         let refused = number % 10 == 0 && heap.has_refused();
         heap.refuse(0);
         writeln!(outcomes, "{done:?}")?;
-        last = match &done {
-            Ok(note) => Some((event, *note)),
-            Err(_) => None,
-        };
+        last = told_note(&event, &done);
         if let Err(fault) = is_right(&mut watch, world, number, &done, refused) {
             write!(answer, "event {number}: ")?;
             return tells(fault, answer);
         }
     }
     tells("ok", answer)
+}
+
+// The event with its note, if it has happened.
+fn told_note(event: &Event, done: &Result<WorldNote, WorldError>) -> Option<(Event, WorldNote)> {
+    match done {
+        Ok(note) => Some((*event, *note)),
+        Err(_) => None,
+    }
 }
 
 // The histories keep the rules after an event, and after each thousand all of them are looked at again. Memory is wanting only
