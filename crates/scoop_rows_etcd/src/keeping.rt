@@ -4,7 +4,7 @@ use crate::scripted::LentEtcd;
 use crate::telling::tell;
 use scoop_etcd_stores::FatefulKeeper;
 use scoop_handler::{HandlerState, Heard, Note, Reason};
-use scoop_keeper::{Keeper, KeeperError};
+use scoop_keeper::{Keeper, KeeperError, SharedKeeper};
 use scoop_message::{ClientId, HandlerId, Message, Words};
 use scoop_queue::QueueOfQueues;
 use scoop_row_player::Bad;
