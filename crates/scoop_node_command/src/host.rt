@@ -100,7 +100,7 @@ impl<'s, 'o, 'p, O: Objects> Host<'s, 'o, 'p, O> {
         link: UdpLink,
         keeper: K,
         output: W,
-    ) -> Result<HostParts<'r, K, W, T>, OutOfMemory> {
+    ) -> Result<HostParts<'r, O, K, W, T>, OutOfMemory> {
         let link = self.hear(rt, threads, link)?;
         let observers = self.observers(rt, threads)?;
         let output = match BufWriter::new(rt.alloc(), output) {
@@ -108,6 +108,8 @@ impl<'s, 'o, 'p, O: Objects> Host<'s, 'o, 'p, O> {
             Err(_) => return Err(OutOfMemory),
         };
         Ok(NodeParts {
+            plan: &self.plan,
+            watch: &self.watch,
             keeper: ObservedKeeper::new(keeper, observers),
             link,
             lines: WatchedOutput::new(output, threads, &self.watch),
@@ -133,46 +135,6 @@ impl<'s, 'o, 'p, O: Objects> Host<'s, 'o, 'p, O> {
             self.watch.counts(),
             self.config.holds(),
         )
-    }
-
-    /// Runs the node of these parts until its turns are over or it is asked to end, lets its watch end, and returns the keeper. It
-    /// tolerates failed calls of its link.
-    pub fn run<K, L, W, E, T>(
-        &self,
-        rt: &HostRuntime,
-        threads: &T,
-        parts: NodeParts<K, L, W, E>,
-        ending: &Ending,
-    ) -> Result<K, RuntimeError>
-    where
-        K: Keeper<Global> + Send,
-        L: Link,
-        W: Write + Drop,
-        E: Write + Drop,
-        T: Threads + Wait + Clock + Sync,
-        O: Sync,
-    {
-        let NodeParts {
-            keeper,
-            link,
-            mut lines,
-            notes,
-        } = parts;
-        let mut link = PatientLink::new(link, "node", notes);
-        let mut around = Around {
-            lines: &mut lines,
-            ending,
-        };
-        let ended = node_run(
-            threads,
-            rt.alloc(),
-            &self.plan,
-            keeper,
-            &mut link,
-            &mut around,
-        );
-        self.watch.end();
-        ended
     }
 
     // Who observes the keeper of the node: the name of its file, its counts, its journal, and its watch.
@@ -205,15 +167,54 @@ impl<'s, 'o, 'p, O: Objects> Host<'s, 'o, 'p, O> {
 
 /// What a node runs with: its keeper, its link, where its lines go, and where notes of failed calls go.
 #[derive(Drop)]
-pub struct NodeParts<K: Drop, L: Drop, W: Drop, E: Drop> {
+pub struct NodeParts<'r, O: Objects, K: Drop, L: Drop, W: Drop, E: Drop> {
+    plan: &'r NodePlan<O>,
+    watch: &'r Watch,
     keeper: K,
     link: L,
     lines: W,
     notes: E,
 }
 
+impl<'r, O, K, L, W, E> NodeParts<'r, O, K, L, W, E>
+where
+    O: Objects + Sync,
+    K: Keeper<Global> + Send,
+    L: Link,
+    W: Write + Drop,
+    E: Write + Drop,
+{
+    /// Runs the node until its turns are over or it is asked to end, lets its watch end, and returns the keeper. It tolerates failed
+    /// calls of its link.
+    pub fn run<T: Threads + Wait + Clock + Sync>(
+        self,
+        alloc: Global,
+        threads: &T,
+        ending: &Ending,
+    ) -> Result<K, RuntimeError> {
+        let NodeParts {
+            plan,
+            watch,
+            keeper,
+            link,
+            mut lines,
+            notes,
+        } = self;
+        let mut link = PatientLink::new(link, "node", notes);
+        let mut around = Around {
+            lines: &mut lines,
+            ending,
+        };
+        let ended = node_run(threads, alloc, plan, keeper, &mut link, &mut around);
+        watch.end();
+        ended
+    }
+}
+
 /// The parts of a host over a store K and an output W.
-pub type HostParts<'r, K, W, T> = NodeParts<
+pub type HostParts<'r, O, K, W, T> = NodeParts<
+    'r,
+    O,
     HostKeeper<'r, K, T>,
     HostLink<'r, T>,
     WatchedOutput<'r, BufWriter<W>, T>,
@@ -263,10 +264,9 @@ fn warn_unsealed(rt: &HostRuntime, config: &NodeConfig<'_, '_>, address: SocketA
 
 /// Runs the node of these parts in a thread, does the task in this one, and returns the keeper when both have ended.
 pub(crate) fn run_beside<K, L, W, E, O, T, S>(
-    rt: &HostRuntime,
+    alloc: Global,
     threads: &T,
-    host: &Host<'_, '_, '_, O>,
-    parts: NodeParts<K, L, W, E>,
+    parts: NodeParts<'_, O, K, L, W, E>,
     task: S,
 ) -> Result<K, RuntimeError>
 where
@@ -281,8 +281,7 @@ where
     let ending = Ending::new();
     let ending = &ending;
     thread::scope(thread::scope_env(), threads, move |scope| {
-        let running = scope.spawn(move || host.run(rt, threads, parts, ending));
-        match running {
+        match scope.spawn(move || parts.run(alloc, threads, ending)) {
             Ok(running) => {
                 task.run();
                 running.join(threads)

@@ -174,7 +174,7 @@ where
         server,
         log: Log::new(rt.stderr(), config.place.number, config.log),
     };
-    match run_beside(rt, threads, host, parts, screen) {
+    match run_beside(rt.alloc(), threads, parts, screen) {
         Ok(keeper) => Ok(keeper.into_inner()),
         Err(error) => Err(error),
     }

@@ -81,7 +81,7 @@ fn run_host<'r, K: SharedKeeper<Global> + Send, T: Threads + Wait + Clock + Sync
     ending: &Ending,
 ) -> Result<K, RuntimeError> {
     let ended = match host.prepare(rt, threads, link, keeper, rt.stderr()) {
-        Ok(parts) => host.run(rt, threads, parts, ending),
+        Ok(parts) => parts.run(rt.alloc(), threads, ending),
         Err(error) => Err(RuntimeError::from(error)),
     };
     match ended {
