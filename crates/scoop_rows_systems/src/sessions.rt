@@ -124,11 +124,13 @@ impl Sessions {
         answer: &mut Vec<u8>,
     ) -> Result<(), Bad> {
         let (_, _, _, words) = first_three(line)?;
-        let plan = plan_of(system, line)?;
-        match name {
-            b"client" => self.runs(&plan, words, answer),
-            b"program" => self.runs_program(&plan, words, answer),
-            _ => self.cuts(&plan, answer),
+        match plan_of(system, line) {
+            Ok(plan) => match name {
+                b"client" => self.runs(&plan, words, answer),
+                b"program" => self.runs_program(&plan, words, answer),
+                _ => self.cuts(&plan, answer),
+            },
+            Err(bad) => Err(bad),
         }
     }
 
@@ -216,7 +218,8 @@ impl Sessions {
             journal: Some(Journal::new(alloc, &mut self.written)),
         };
         let begun = match Caller::begin(alloc, plan, &mut record, link, NoPause, &mut self.notes) {
-            Ok(mut caller) => {
+            Ok(begun) => {
+                let mut caller = begun;
                 let _ended = asker.run(&mut caller);
                 Ok(())
             }
@@ -285,5 +288,8 @@ fn plan_of<'s>(system: &'s System, line: &[u8]) -> Result<ClientPlan<'s>, Bad> {
         b"typed" => ClientPlan::new(system, place, turns, true),
         _ => ClientPlan::new(system, place, turns, false),
     };
-    plan.map_err(|_| Bad::Number)
+    match plan {
+        Ok(plan) => Ok(plan),
+        Err(_) => Err(Bad::Number),
+    }
 }

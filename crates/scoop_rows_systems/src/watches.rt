@@ -91,15 +91,19 @@ impl<R: Wait + Clock> Subject for Watches<'_, R> {
 
 impl<'a, R: Wait + Clock> Watches<'a, R> {
     pub fn new(alloc: Global, rt: &'a R, watch: &'a Watch) -> Result<Watches<'a, R>, Bad> {
-        let system = System::read(alloc, SYSTEM).map_err(|_| Bad::Words)?;
-        let handler = handler_of(alloc, &system)?;
-        Ok(Watches {
-            rt,
-            watch,
-            system,
-            handler,
-            watched: Watched::new(rt, watch),
-        })
+        let Ok(system) = System::read(alloc, SYSTEM) else {
+            return Err(Bad::Words);
+        };
+        match handler_of(alloc, &system) {
+            Ok(handler) => Ok(Watches {
+                rt,
+                watch,
+                system,
+                handler,
+                watched: Watched::new(rt, watch),
+            }),
+            Err(bad) => Err(bad),
+        }
     }
 
     /// Notes what a handler has heard.
