@@ -91,29 +91,21 @@ impl<'s, 'o, 'p, O: Objects> Host<'s, 'o, 'p, O> {
         go_on(rt, config.store, config.system, config.place.number, keeper)
     }
 
-    /// The parts of the node over this link and this keeper of its store: its lines go to this output, and notes of failed calls
-    /// to standard error.
-    pub fn prepare<'r, K: SharedKeeper<Global>, W: Write + Drop, T: Wait + Clock>(
+    /// The node over this link and this keeper of its store, before it runs.
+    pub fn prepare<'r, K: SharedKeeper<Global>, T: Wait + Clock>(
         &'r self,
         rt: &'r HostRuntime,
         threads: &'r T,
         link: UdpLink,
         keeper: K,
-        output: W,
-    ) -> Result<HostParts<'r, O, K, W, T>, OutOfMemory> {
+    ) -> Result<HostRun<'r, O, K, T>, OutOfMemory> {
         let link = self.hear(rt, threads, link)?;
         let observers = self.observers(rt, threads)?;
-        let output = match BufWriter::new(rt.alloc(), output) {
-            Ok(output) => output,
-            Err(_) => return Err(OutOfMemory),
-        };
-        Ok(NodeParts {
+        Ok(NodeRun {
             plan: &self.plan,
             watch: &self.watch,
             keeper: ObservedKeeper::new(keeper, observers),
             link,
-            lines: WatchedOutput::new(output, threads, &self.watch),
-            notes: SlowNotes::new(rt.stderr(), SystemTimes::new(threads)),
         })
     }
 
@@ -165,61 +157,70 @@ impl<'s, 'o, 'p, O: Objects> Host<'s, 'o, 'p, O> {
     }
 }
 
-/// What a node runs with: its keeper, its link, where its lines go, and where notes of failed calls go.
+/// A node before it runs.
 #[derive(Drop)]
-pub struct NodeParts<'r, O: Objects, K: Drop, L: Drop, W: Drop, E: Drop> {
+pub struct NodeRun<'r, O: Objects, K: Drop, L: Drop> {
     plan: &'r NodePlan<O>,
     watch: &'r Watch,
     keeper: K,
     link: L,
-    lines: W,
-    notes: E,
 }
 
-impl<'r, O, K, L, W, E> NodeParts<'r, O, K, L, W, E>
+impl<'r, O, K, L> NodeRun<'r, O, K, L>
 where
     O: Objects + Sync,
     K: Keeper<Global> + Send,
     L: Link,
-    W: Write + Drop,
-    E: Write + Drop,
 {
-    /// Runs the node until its turns are over or it is asked to end, lets its watch end, and returns the keeper. It tolerates failed
-    /// calls of its link.
-    pub fn run<T: Threads + Wait + Clock + Sync>(
+    /// Runs the node until its turns are over or it is asked to end, lets its watch end, and returns the keeper. Its lines go to
+    /// this output, and notes of failed calls, which it tolerates, to these notes.
+    pub fn run<T: Threads + Wait + Clock + Sync, W: Write + Drop>(
         self,
         alloc: Global,
         threads: &T,
+        output: W,
+        notes: Stderr,
         ending: &Ending,
     ) -> Result<K, RuntimeError> {
-        let NodeParts {
+        let watch = self.watch;
+        let ended = match BufWriter::new(alloc, output) {
+            Ok(output) => {
+                let lines = WatchedOutput::new(output, threads, watch);
+                let notes = SlowNotes::new(notes, SystemTimes::new(threads));
+                self.run_noted(alloc, threads, lines, notes, ending)
+            }
+            Err(_) => Err(RuntimeError::from(OutOfMemory)),
+        };
+        watch.end();
+        ended
+    }
+
+    // Runs the node with these lines and notes.
+    fn run_noted<T: Threads + Wait + Clock + Sync, W: Write + Drop, E: Write + Drop>(
+        self,
+        alloc: Global,
+        threads: &T,
+        mut lines: W,
+        notes: E,
+        ending: &Ending,
+    ) -> Result<K, RuntimeError> {
+        let NodeRun {
             plan,
-            watch,
             keeper,
             link,
-            mut lines,
-            notes,
+            ..
         } = self;
         let mut link = PatientLink::new(link, "node", notes);
         let mut around = Around {
             lines: &mut lines,
             ending,
         };
-        let ended = node_run(threads, alloc, plan, keeper, &mut link, &mut around);
-        watch.end();
-        ended
+        node_run(threads, alloc, plan, keeper, &mut link, &mut around)
     }
 }
 
-/// The parts of a host over a store K and an output W.
-pub type HostParts<'r, O, K, W, T> = NodeParts<
-    'r,
-    O,
-    HostKeeper<'r, K, T>,
-    HostLink<'r, T>,
-    WatchedOutput<'r, BufWriter<W>, T>,
-    SlowNotes<Stderr, SystemTimes<'r, T>>,
->;
+/// The run of a host over a store K.
+pub type HostRun<'r, O, K, T> = NodeRun<'r, O, HostKeeper<'r, K, T>, HostLink<'r, T>>;
 
 /// The keeper of a host's store K, with those who observe it.
 pub type HostKeeper<'r, K, T> = ObservedKeeper<'r, K, Watched<'r, T>, &'r JournalFile>;
@@ -262,26 +263,25 @@ fn warn_unsealed(rt: &HostRuntime, config: &NodeConfig<'_, '_>, address: SocketA
     );
 }
 
-/// Runs the node of these parts in a thread, does the task in this one, and returns the keeper when both have ended.
-pub(crate) fn run_beside<K, L, W, E, O, T, S>(
-    alloc: Global,
+/// Runs the node in a thread, does the task in this one, and returns the node's keeper when both have ended.
+pub(crate) fn run_beside<K, L, O, T, S>(
+    rt: &HostRuntime,
     threads: &T,
-    parts: NodeParts<'_, O, K, L, W, E>,
+    node: NodeRun<'_, O, K, L>,
     task: S,
 ) -> Result<K, RuntimeError>
 where
     K: Keeper<Global> + Send,
     L: Link + Send,
-    W: Write + Drop + Send,
-    E: Write + Drop + Send,
     O: Objects + Sync,
     T: Threads + Wait + Clock + Sync,
     S: Task<()>,
 {
+    let (alloc, output, notes) = (rt.alloc(), rt.stdout(), rt.stderr());
     let ending = Ending::new();
     let ending = &ending;
     thread::scope(thread::scope_env(), threads, move |scope| {
-        match scope.spawn(move || parts.run(alloc, threads, ending)) {
+        match scope.spawn(move || node.run(alloc, threads, output, notes, ending)) {
             Ok(running) => {
                 task.run();
                 running.join(threads)

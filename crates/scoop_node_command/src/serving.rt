@@ -165,7 +165,7 @@ where
     // A copy, which lives no longer than this call, as the system does.
     let path = copied(rt, config.store.path())?;
     let about = about(config, config.system, path.as_deref());
-    let parts = host.prepare(rt, threads, link, keeper, rt.stdout())?;
+    let node = host.prepare(rt, threads, link, keeper)?;
     let screen = Screen {
         threads,
         alloc: rt.alloc(),
@@ -174,7 +174,7 @@ where
         server,
         log: Log::new(rt.stderr(), config.place.number, config.log),
     };
-    match run_beside(rt.alloc(), threads, parts, screen) {
+    match run_beside(rt, threads, node, screen) {
         Ok(keeper) => Ok(keeper.into_inner()),
         Err(error) => Err(error),
     }

@@ -80,8 +80,8 @@ fn run_host<'r, K: SharedKeeper<Global> + Send, T: Threads + Wait + Clock + Sync
     keeper: K,
     ending: &Ending,
 ) -> Result<K, RuntimeError> {
-    let ended = match host.prepare(rt, threads, link, keeper, rt.stderr()) {
-        Ok(parts) => parts.run(rt.alloc(), threads, ending),
+    let ended = match host.prepare(rt, threads, link, keeper) {
+        Ok(node) => node.run(rt.alloc(), threads, rt.stderr(), rt.stderr(), ending),
         Err(error) => Err(RuntimeError::from(error)),
     };
     match ended {
