@@ -8,7 +8,7 @@ use crate::stops::Stops;
 use crate::stores::Stores;
 use scoop_files::StoreName;
 use scoop_row_player::{Areas, Bad, Play, Sheet};
-use sqlite::Connection;
+use sqlite::{Connection, File, FileStore};
 use std::cell::RefCell;
 
 /// The areas `images`, `keepers`, `stores`, `stops`, `journals`, `audits`, `files` and `databases`. Those about files work in the
@@ -47,5 +47,15 @@ fn play_journals(play: Play<'_>, sheet: &mut Sheet) -> Result<bool, Bad> {
 
 fn play_folder(rt: &HostRuntime, play: Play<'_>, sheet: &mut Sheet) -> Result<bool, Bad> {
     let name = StoreName::new(sheet.alloc(), STORE)?;
-    play.over(&mut Folder::new(rt, &name), sheet)
+    play_named(rt, &name, play, sheet)
+}
+
+fn play_named<'a>(
+    rt: &'a HostRuntime,
+    name: &'a StoreName,
+    play: Play<'_>,
+    sheet: &mut Sheet,
+) -> Result<bool, Bad> {
+    let mut folder: Folder<'a, FileStore<File>> = Folder::new(rt, name);
+    play.over(&mut folder, sheet)
 }

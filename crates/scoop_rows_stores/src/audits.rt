@@ -39,7 +39,9 @@ impl<'a> Audits<'a> {
     fn audits(&self, name: &[u8], line: &[u8], answer: &mut Vec<u8>) -> Result<(), Bad> {
         let alloc = self.rt.alloc();
         let text = fs::read_to_string(self.rt, SYSTEM)?;
-        let system = System::read(alloc, text.as_str()).map_err(|_| Bad::Words)?;
+        let Ok(system) = System::read(alloc, text.as_str()) else {
+            return Err(Bad::Words);
+        };
         let mut journals = Vec::new(alloc);
         for text in &self.journals {
             journals.push(Journal {

@@ -24,6 +24,7 @@ use scoop_lines::{is, two_words};
 use scoop_message::{ClientId, HandlerId};
 use scoop_observed::{AnyKeeper, ObservedKeeper, Observers};
 use scoop_owner::Newest;
+use scoop_record::Store;
 use scoop_row_player::answers::{keeps, tells, told};
 use scoop_row_player::words::{
     after_space, block, first, first_two, last, long, number, read_text, text_of,
@@ -31,6 +32,7 @@ use scoop_row_player::words::{
 use scoop_row_player::{Bad, Subject};
 use scoop_rows_parts::stand_ins::Owning;
 use scoop_watch::Unwatched;
+use sqlite::{Alter, File, FileStore};
 use std::alloc::Global;
 use std::time::{Duration, Instant};
 use std::{fs, thread};
@@ -55,25 +57,25 @@ const FILES: [&str; 5] = [
 ];
 
 // A store in a file, or a keeper in memory that stands for one and passes on a number of calls.
-type AnyPlace = AnyKeeper<FiledStore, Owning<FailingKeeper<MemoryKeeper>>>;
+type AnyPlace<S> = AnyKeeper<Store<S>, Owning<FailingKeeper<MemoryKeeper>>>;
 
 // It writes no journal.
-type Kept<'a> = ObservedKeeper<'a, AnyPlace, Unwatched, Vec<u8>>;
+type Kept<'a, S> = ObservedKeeper<'a, AnyPlace<S>, Unwatched, Vec<u8>>;
 
-/// The folder, with what is open there.
+/// The folder, with what is open there. The files' type is named where a store is opened or closed: the prover compares it for long.
 #[derive(Drop)]
-pub struct Folder<'a> {
+pub struct Folder<'a, S: Alter + Drop> {
     rt: &'a HostRuntime,
     name: &'a StoreName,
-    keeper: Option<Kept<'a>>,
+    keeper: Option<Kept<'a, S>>,
     watch: Option<NameWatch<'a>>,
     held: Option<JournalFile>,
     start: Option<Instant>,
 }
 
-impl<'a> Folder<'a> {
+impl<'a, S: Alter + Drop> Folder<'a, S> {
     /// The folder without the files of other cases.
-    pub fn new(rt: &'a HostRuntime, name: &'a StoreName) -> Folder<'a> {
+    pub fn new(rt: &'a HostRuntime, name: &'a StoreName) -> Folder<'a, S> {
         for file in FILES {
             let _gone = fs::remove_file(rt, file);
         }
@@ -94,14 +96,6 @@ impl<'a> Folder<'a> {
         let keeper = AnyKeeper::Shared(Owning { keeper, left });
         self.keeper = Some(kept(self.rt, self.name, keeper));
         tells("ok", answer)
-    }
-
-    fn closes(&mut self, answer: &mut Vec<u8>) -> Result<(), Bad> {
-        let kept = self.keeper.take().ok_or(Bad::Command)?;
-        match kept.into_inner() {
-            AnyKeeper::File(store) => tells_closed(close_named(store, self.name), answer),
-            AnyKeeper::Memory(_) | AnyKeeper::Shared(_) => tells("ok", answer),
-        }
     }
 
     fn gives(&mut self, command: &[u8], answer: &mut Vec<u8>) -> Result<(), Bad> {
@@ -147,7 +141,17 @@ impl<'a> Folder<'a> {
     }
 }
 
-impl Subject for Folder<'_> {
+impl<'a> Folder<'a, FileStore<File>> {
+    fn closes(&mut self, answer: &mut Vec<u8>) -> Result<(), Bad> {
+        let kept = self.keeper.take().ok_or(Bad::Command)?;
+        match kept.into_inner() {
+            AnyKeeper::File(store) => tells_closed(close_named(store, self.name), answer),
+            AnyKeeper::Memory(_) | AnyKeeper::Shared(_) => tells("ok", answer),
+        }
+    }
+}
+
+impl Subject for Folder<'_, FileStore<File>> {
     fn does(&mut self, command: &[u8], answer: &mut Vec<u8>) -> Result<(), Bad> {
         let (name, line) = first(command)?;
         match name {
@@ -188,7 +192,11 @@ fn gives_kept<K: Keeper<Global>>(
 }
 
 // A keeper that looks after this name.
-fn kept<'a>(rt: &'a HostRuntime, name: &'a StoreName, keeper: AnyPlace) -> Kept<'a> {
+fn kept<'a, S: Alter + Drop>(
+    rt: &'a HostRuntime,
+    name: &'a StoreName,
+    keeper: AnyPlace<S>,
+) -> Kept<'a, S> {
     let observers = Observers {
         name: Some(Named::new(rt, name)),
         counts: None,
@@ -211,7 +219,7 @@ fn keeps_opened<'a>(
     rt: &'a HostRuntime,
     name: &'a StoreName,
     opened: Result<FiledStore, FileError>,
-    keeper: &mut Option<Kept<'a>>,
+    keeper: &mut Option<Kept<'a, FileStore<File>>>,
     answer: &mut Vec<u8>,
 ) -> Result<(), Bad> {
     match opened {
