@@ -109,6 +109,8 @@ fn owner_of(alloc: Global, text: &str, line: &[u8]) -> Result<String, Bad> {
         b"client" => Owner::Client(ClientId(party)),
         _ => return Err(Bad::Words),
     };
-    let system = System::read(alloc, text).map_err(|_| Bad::Words)?;
+    let Ok(system) = System::read(alloc, text) else {
+        return Err(Bad::Words);
+    };
     Ok(owner_text(alloc, &system, owner)?)
 }
