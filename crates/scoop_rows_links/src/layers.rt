@@ -139,7 +139,9 @@ pub(crate) fn client_of<'a>(
     tape: Tape<'a>,
     notes: &'a RefCell<Vec<u8>>,
 ) -> Result<Client<'a>, OutOfMemory> {
-    let system = System::read(alloc, HANDLER_1).map_err(|_| OutOfMemory)?;
+    let Ok(system) = System::read(alloc, HANDLER_1) else {
+        return Err(OutOfMemory);
+    };
     let notes = ClientNotes {
         waits: Paper::of(notes, u64::MAX),
         faults: Paper::of(notes, u64::MAX),
