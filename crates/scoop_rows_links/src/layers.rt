@@ -12,7 +12,7 @@ use scoop_row_player::answers::tells;
 use scoop_row_player::{Bad, Heap};
 use scoop_rows_parts::stand_ins::Paper;
 use scoop_seal::SealedLink;
-use scoop_system::{Place, System};
+use scoop_system::System;
 use std::alloc::Global;
 use std::cell::RefCell;
 use std::net::SocketAddr;
