@@ -93,22 +93,24 @@ fn run_host<'r, K: SharedKeeper<Global> + Send, T: Threads + Wait + Clock + Sync
     }
 }
 
-/// Starts a thread for each node, does the task in this one, asks the nodes to end, and waits for all.
-pub(crate) fn run_beside<K, S, T, E>(
-    rt: &HostRuntime,
-    threads: &T,
-    nodes: &mut [Hosted<'_, '_, '_, K>],
+/// Starts a thread for each node, does the task in this one, asks the nodes to end, and waits for all. Returns the nodes, and what
+/// the task gave.
+pub(crate) fn run_beside<'r, 's, 'o, 'p, K, S, T, E>(
+    rt: &'r HostRuntime,
+    threads: &'r T,
+    mut nodes: Vec<Hosted<'s, 'o, 'p, K>>,
+    ending: &'r Ending,
     task: S,
-) -> E
+) -> (Vec<Hosted<'s, 'o, 'p, K>>, E)
 where
     K: SharedKeeper<Global> + Send,
     S: Task<E>,
     T: Threads + Wait + Clock + Sync,
 {
-    let ending = Ending::new();
-    let ending = &ending;
-    thread::scope(thread::scope_env(), threads, move |scope| {
-        for node in nodes.iter_mut() {
+    let lent = nodes.as_mut_slice();
+    let ran = thread::scope(thread::scope_env(), threads, move |scope| {
+        let each = lent.iter_mut();
+        for node in each {
             let spawned = scope.spawn(move || node.run(rt, threads, ending));
             if spawned.is_err() {
                 report_no_thread(rt);
@@ -117,7 +119,8 @@ where
         let ran = task.run();
         ending.ask();
         ran
-    })
+    });
+    (nodes, ran)
 }
 
 fn report_no_thread(rt: &HostRuntime) {

@@ -17,7 +17,7 @@ use scoop_opening::{
 };
 use scoop_record::Store;
 use scoop_report::{Hints, Status, hint, report};
-use scoop_runtime::{ClientPlan, FileFault, OutOfRange, RuntimeError, Serving, Tables};
+use scoop_runtime::{ClientPlan, Ending, FileFault, OutOfRange, RuntimeError, Serving, Tables};
 use scoop_system::{ClientPlace, System};
 use sqlite::{Alter, File, FileStore};
 use std::io::IsTerminal;
@@ -50,10 +50,7 @@ pub fn run_up<T: Threads + Wait + Clock + Net + Sync>(
     let Some(place) = client_place(&system, options.client) else {
         return Err(report_no_client(rt, options));
     };
-    match plan_of(rt, &system, place, options.is_strict) {
-        Ok(plan) => run_in(rt, threads, options, serving, &plan),
-        Err(range) => Err(report_range(rt, range)),
-    }
+    run_in(rt, threads, options, serving, &system, place)
 }
 
 // Refuses a place in an etcd: the stores are files of a folder.
@@ -108,20 +105,21 @@ fn run_in<T: Threads + Wait + Clock + Net + Sync>(
     threads: &T,
     options: &UpOptions<'_>,
     serving: Serving,
-    plan: &ClientPlan<'_>,
+    system: &System,
+    place: &ClientPlace,
 ) -> Result<(), Status> {
     match options.dir {
         Some(dir) => make_folder(rt, dir)?,
         None => report(rt, "no --dir: nothing is stored"),
     }
-    let paths = paths_of(rt, plan, options.dir)?;
+    let paths = paths_of(rt, system, place.client, options.dir)?;
     let stores = choices_of(rt, &paths)?;
     let names = names_of(rt, &paths)?;
-    let nodes = match nodes_of(rt, plan, serving, &stores) {
+    let nodes = match nodes_of(rt, system, serving, &stores) {
         Ok(nodes) => nodes,
         Err(status) => return Err(status),
     };
-    match client_of(rt, plan, &stores) {
+    match client_of(rt, system, place, options.is_strict, &stores) {
         Ok(client) => {
             let parties = Parties {
                 nodes: &nodes,
@@ -174,18 +172,18 @@ fn put<T: Drop>(rt: &HostRuntime, list: &mut Vec<T>, it: T) -> Result<(), Status
 // The files of the parties' stores in the folder, the client's last. None without a folder.
 fn paths_of(
     rt: &HostRuntime,
-    plan: &ClientPlan<'_>,
+    system: &System,
+    client: ClientId,
     dir: Option<&str>,
 ) -> Result<Vec<String>, Status> {
     let mut paths = Vec::new(rt.alloc());
     let Some(dir) = dir else {
         return Ok(paths);
     };
-    for place in plan.system().nodes() {
+    for place in system.nodes() {
         put(rt, &mut paths, store_path(rt, dir, "node", place.number)?)?;
     }
-    let client = plan.place().client.0;
-    put(rt, &mut paths, store_path(rt, dir, "client", client)?)?;
+    put(rt, &mut paths, store_path(rt, dir, "client", client.0)?)?;
     Ok(paths)
 }
 
@@ -212,11 +210,10 @@ fn names_of(rt: &HostRuntime, paths: &[String]) -> Result<Vec<StoreName>, Status
 // The nodes of the system over these stores. Refuses a store of another owner.
 fn nodes_of<'s, 'o>(
     rt: &HostRuntime,
-    plan: &ClientPlan<'s>,
+    system: &'s System,
     serving: Serving,
     stores: &[StoreChoice<'o>],
 ) -> Result<Vec<NodeConfig<'s, 'o>>, Status> {
-    let system = plan.system();
     let mut nodes = Vec::new(rt.alloc());
     for (at, place) in system.nodes().iter().enumerate() {
         let store = stores.get(at).copied().unwrap_or(StoreChoice::None);
@@ -232,21 +229,26 @@ fn nodes_of<'s, 'o>(
 // The client over the last of these stores.
 fn client_of<'s, 'o>(
     rt: &HostRuntime,
-    plan: &ClientPlan<'s>,
+    system: &'s System,
+    place: &ClientPlace,
+    is_strict: bool,
     stores: &[StoreChoice<'o>],
 ) -> Result<ClientConfig<'s, 'o>, Status> {
     let store = stores.last().copied().unwrap_or(StoreChoice::None);
-    check_owner(rt, store, plan.system(), Owner::Client(plan.place().client))?;
-    Ok(ClientConfig {
-        plan: *plan,
-        store,
-        after: None,
-        journal: JournalChoice {
-            path: None,
-            syncs: false,
-        },
-        key: None,
-    })
+    check_owner(rt, store, system, Owner::Client(place.client))?;
+    match plan_of(rt, system, place, is_strict) {
+        Ok(plan) => Ok(ClientConfig {
+            plan,
+            store,
+            after: None,
+            journal: JournalChoice {
+                path: None,
+                syncs: false,
+            },
+            key: None,
+        }),
+        Err(range) => Err(report_range(rt, range)),
+    }
 }
 
 // ---- opening
@@ -351,12 +353,12 @@ where
         link,
         store,
     };
-    let (ran, store) = run_beside(rt, threads, nodes.as_mut_slice(), client);
+    let (nodes, (ran, store)) = run_beside(rt, threads, nodes, &Ending::new(), client);
     let ran = match ran {
         Ok(()) => Ok(()),
         Err(end) => Err(parties.client.report(rt, end)),
     };
-    left(rt, ran, nodes, store)
+    gather(rt, ran, nodes, store)
 }
 
 // Puts each node over its store.
@@ -412,7 +414,7 @@ impl<'a, 's, 'o, 'r, S: Alter + Drop, T: Net> Task<(Result<(), End>, Option<Stor
 }
 
 // What is left when all have ended. Reports each node that ended early.
-fn left<S: Alter + Drop + Send>(
+fn gather<S: Alter + Drop + Send>(
     rt: &HostRuntime,
     ran: Result<(), Status>,
     nodes: Vec<Hosted<'_, '_, '_, NodeKeeper<'_, '_, S>>>,
