@@ -1,14 +1,14 @@
 //! The areas of stores.
 
 use crate::audits::Audits;
-use crate::folder::{Folder, STORE};
+use crate::folder::{FileFolder, STORE};
 use crate::journals::Journals;
 use crate::keepers::Keepers;
 use crate::stops::Stops;
 use crate::stores::Stores;
 use scoop_files::StoreName;
 use scoop_row_player::{Areas, Bad, Play, Sheet};
-use sqlite::{Connection, File, FileStore};
+use sqlite::Connection;
 use std::cell::RefCell;
 
 /// The areas `images`, `keepers`, `stores`, `stops`, `journals`, `audits`, `files` and `databases`. Those about files work in the
@@ -56,6 +56,5 @@ fn play_named<'a>(
     play: Play<'_>,
     sheet: &mut Sheet,
 ) -> Result<bool, Bad> {
-    let mut folder: Folder<'a, FileStore<File>> = Folder::new(rt, name);
-    play.over(&mut folder, sheet)
+    play.over(&mut FileFolder::new(rt, name), sheet)
 }

@@ -141,7 +141,10 @@ impl<'a, S: Alter + Drop> Folder<'a, S> {
     }
 }
 
-impl<'a> Folder<'a, FileStore<File>> {
+/// The folder of stores in files.
+pub type FileFolder<'a> = Folder<'a, FileStore<File>>;
+
+impl<'a> FileFolder<'a> {
     fn closes(&mut self, answer: &mut Vec<u8>) -> Result<(), Bad> {
         let kept = self.keeper.take().ok_or(Bad::Command)?;
         match kept.into_inner() {
@@ -151,7 +154,7 @@ impl<'a> Folder<'a, FileStore<File>> {
     }
 }
 
-impl Subject for Folder<'_, FileStore<File>> {
+impl Subject for FileFolder<'_> {
     fn does(&mut self, command: &[u8], answer: &mut Vec<u8>) -> Result<(), Bad> {
         let (name, line) = first(command)?;
         match name {
