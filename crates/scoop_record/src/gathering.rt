@@ -93,7 +93,7 @@ impl<S: Alter + Drop> Keeper<Global> for GatheringStore<S> {
     ghost use Rattle.sqlite.specs.State.{Survives};
     ghost use Rattle.sqlite.specs.Effect.{Database};
     ghost use Rattle.scoop_keeper.specs.declared.keeper.KeeperError.{KeeperError};
-    ghost use Rattle.scoop_keeper.specs.Keeper.{Damaged, Keeps, Stays, IsSame, IsTheOne, Sets, IsPutError, next_of, last_incarnation, stored_of};
+    ghost use Rattle.scoop_keeper.specs.Keeper.{Damaged, Keeps, Lasts, Stays, IsSame, IsTheOne, Sets, IsPutError, next_of, last_incarnation, stored_of};
     ghost use Rattle.scoop_record.specs.Store.{handlers_in, incs_in, IsSound, IsOpenOnOk, Advances, SavesAll};
     ghost use Rattle.scoop_record.specs.Gathering.{Over};
 
@@ -118,6 +118,9 @@ impl<S: Alter + Drop> Keeper<Global> for GatheringStore<S> {
         ensures named { IfErr result (λ e. e ≡ KeeperError.OutOfMemory) }
         ensures stored { OnOk result (Keeps (Over self.old.pending (handlers_in (seen S.Store self.old.store).now))
             (Over self.new.pending (handlers_in (seen S.Store self.new.store).now)) state.now) }
+        ensures lasts { Lasts (Over self.old.pending (handlers_in (seen S.Store self.old.store).now))
+            (Over self.new.pending (handlers_in (seen S.Store self.new.store).now))
+            (handlers_in (seen S.Store self.old.store).now) (handlers_in (seen S.Store self.new.store).now) }
     {
         gather(&mut self.pending, state)?;
         Ok(())
@@ -132,6 +135,9 @@ impl<S: Alter + Drop> Keeper<Global> for GatheringStore<S> {
         ensures named { IfErr result (λ e. IsPutError e ⊎ (e ≡ KeeperError.BadImage handler)) }
         ensures pending { self.new.pending ≡ self.old.pending }
         ensures same { IsSound (seen S.Store self.new.store) → (seen S.Store self.new.store).now ≡ (seen S.Store self.old.store).now }
+        ensures lasts { IsSound (seen S.Store self.new.store) → Lasts (Over self.old.pending (handlers_in (seen S.Store self.old.store).now))
+            (Over self.new.pending (handlers_in (seen S.Store self.new.store).now))
+            (handlers_in (seen S.Store self.old.store).now) (handlers_in (seen S.Store self.new.store).now) }
         ensures honest { IsSound (seen S.Store self.new.store) → IsSound (seen S.Store self.old.store) }
         ensures survives { Survives (seen S.Store self.old.store) (seen S.Store self.new.store) (λ _. ⊥) }
     {
@@ -154,6 +160,9 @@ impl<S: Alter + Drop> Keeper<Global> for GatheringStore<S> {
         ensures handlers { IsSound (seen S.Store self.new.store)
             → Stays (Over self.old.pending (handlers_in (seen S.Store self.old.store).now))
             (Over self.new.pending (handlers_in (seen S.Store self.new.store).now)) }
+        ensures lasts { IsSound (seen S.Store self.new.store) → Lasts (Over self.old.pending (handlers_in (seen S.Store self.old.store).now))
+            (Over self.new.pending (handlers_in (seen S.Store self.new.store).now))
+            (handlers_in (seen S.Store self.old.store).now) (handlers_in (seen S.Store self.new.store).now) }
         ensures pending { self.new.pending ≡ self.old.pending }
         ensures honest { IsSound (seen S.Store self.new.store) → IsSound (seen S.Store self.old.store) }
         ensures survives { Survives (seen S.Store self.old.store) (seen S.Store self.new.store) (λ trees. (db : Database)
