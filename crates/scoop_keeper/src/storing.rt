@@ -1,4 +1,4 @@
-//! A handler over a keeper, which stores each new state before the handler keeps it.
+//! A handler over a keeper, which stores each new state. If that is refused, the handler goes back to the old one.
 
 ghost use Rattle.std.specs.Prelude.{◌≡◌, ◌≢◌, ◌↔◌, Some, IsTrue, IfOk, IfErr, IfSome, OnOk, OnErr};
 ghost use Rattle.scoop_handler.specs.State.{HandlerState as State};

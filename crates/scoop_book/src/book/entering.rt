@@ -113,8 +113,9 @@ impl<B: Behaviour, K: Keeper<A>, A: Allocator + Copy> Book<B, K, A> {
         }
     }
 
-    /// A handler hears a message, for the pass of this number. The keeper stores the new state before the handler
-    /// takes it. The book skips the put if the keeper is known to have that state. The entry is the history's last.
+    /// A handler hears a message, for the pass of this number, and the keeper stores the new state. If it refuses, the
+    /// handler goes back to the old one. The book skips the put if the keeper is known to have that state. The entry is
+    /// the history's last.
     ///
     /// A refusal leaves handlers, history and record as they were. In this order: `NodeFailed`, `HistoryFull`,
     /// `UnknownHandler`, `StoreRefused`, after which the book enters nothing any more, `OutOfMemory`.
