@@ -20,7 +20,7 @@ invariant_of-result g c =
     g.B.Behaviour.words c.args.handlers.items c.in-Ok.opened.1.items c.in-Ok.opened.0.items c.args.limit false c.new.result c.new-2.result.entries
     c.new.ensures c.new-2.ensures c.in-Ok.ensures.opens c.in-Ok.ensures.kept
     (subst (MayOpen g.B.Behaviour.class) c.deref.ensures.value c.in_default.ensures.none).apart c.open_all.ensures.handlers c.settle.ensures.handlers
-    c.in-Ok-settle.ensures.outlasts c.open_all.ensures.honest
+    c.in_default-settle.ensures.outlasts c.open_all.ensures.honest
 
 pub returns-clause-sound : goal.returns-clause-sound
 returns-clause-sound g c =
@@ -28,7 +28,7 @@ returns-clause-sound g c =
     g.B.Behaviour.words c.args.handlers.items c.in-Ok.opened.1.items c.in-Ok.opened.0.items c.args.limit false c.new.result c.new-2.result.entries
     c.new.ensures c.new-2.ensures c.in-Ok.ensures.opens c.in-Ok.ensures.kept
     (subst (MayOpen g.B.Behaviour.class) c.deref.ensures.value c.in_default.ensures.none).apart c.open_all.ensures.handlers c.settle.ensures.handlers
-    c.in-Ok-settle.ensures.outlasts c.open_all.ensures.honest
+    c.in_default-settle.ensures.outlasts c.open_all.ensures.honest
 
 pub returns-in-Err-settle-clause-refused : goal.returns-in-Err-settle-clause-refused
 returns-in-Err-settle-clause-refused g c =
