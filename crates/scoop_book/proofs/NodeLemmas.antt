@@ -9,9 +9,9 @@ use Rattle.scoop_keeper.specs.Keeper.{Stored, Stays}
 use Rattle.scoop_book.specs.declared.event.Event.{Event}
 use Rattle.scoop_book.specs.declared.event.Reply.{Reply}
 use Rattle.scoop_book.specs.declared.error.FinishRefusal.{FinishRefusal}
-use Rattle.scoop_book.specs.Moves.{LocalHandler, Entry, Replays, moved}
+use Rattle.scoop_book.specs.Moves.{LocalHandler, Entry, moved}
 use Rattle.scoop_book.specs.Books.{BookValue, IsBook, IsSince, Gains, IsUnfinished, Stays as BookStays}
-use Rattle.scoop_book.specs.Closing.{Agrees, AreAllPasses, Differs, FollowsOpening, IsClosed, IsCommitted, IsComplete, IsEntered, WasSo}
+use Rattle.scoop_book.specs.Closing.{Agrees, AreAllPasses, Differs, FollowsOpening, IsCommitted, IsComplete, IsEntered, WasSo}
 use Rattle.scoop_book.specs.Reopening.{ClosesWith}
 use Rattle.scoop_book.specs.Passes.{PassValue, fresh_pass, pass_value, with_event}
 

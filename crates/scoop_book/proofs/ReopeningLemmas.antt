@@ -4,7 +4,7 @@ use Rattle.std.proofs.Common.{◌≡◌, ℕ, zero, suc, ◌+◌, ◌<◌, List,
 use Rattle.std.proofs.lemmas.List.Folds.{find_at}
 use Rattle.std.proofs.lemmas.List.{length-map, take_more}
 use Rattle.std.proofs.lemmas.List.Elements.{AllZip-get_or, AllZip-push}
-use Rattle.std.specs.List.{All, position_or_len}
+use Rattle.std.specs.List.{position_or_len}
 use Rattle.scoop_message.specs.Message.{same_handler}
 use Rattle.scoop_message.specs.Lists.{NoRepeats}
 use Rattle.scoop_message.proofs.Same.{handler_decides}
