@@ -1,6 +1,7 @@
 //! Rows about a system and its clients. In texts, `\n` stands for a newline and `\r` for a carriage return.
 //!
-//! - `+ TEXT` adds a line to the file. `read TEXT` adds the text, reads the file and forgets its text; it answers the fault.
+//! - `+ TEXT` adds a line to the file. `read TEXT` adds the text, reads the file and forgets its text. It answers the faults,
+//!   without their lines. `faults TEXT` answers them with their lines.
 //! - `print` answers the system as `scoop check` prints it.
 //! - `line TEXT` answers what the line asks a client, or its fault. `script CLIENT TEXT` answers `right`, or the faults of the
 //!   script.
@@ -42,6 +43,7 @@ impl Systems {
         add_line(text.as_slice(), &mut self.text)
     }
 
+    // Reads the file, and answers its faults.
     fn reads(&mut self, answer: &mut Vec<u8>) -> Result<(), Bad> {
         let text = text_of(self.text.as_slice())?;
         keeps(
@@ -49,6 +51,21 @@ impl Systems {
             System::read(*answer.allocator(), text),
             answer,
         )
+    }
+
+    // The same without the lines that say where a fault is.
+    fn reads_plainly(&mut self, answer: &mut Vec<u8>) -> Result<(), Bad> {
+        let mut all = Vec::new(*answer.allocator());
+        self.reads(&mut all)?;
+        for line in all.as_slice().split(|byte| *byte == b'\n') {
+            if !line.starts_with(b"  ") {
+                if !answer.is_empty() {
+                    answer.push(b'\n')?;
+                }
+                answer.extend_from_slice(line)?;
+            }
+        }
+        Ok(())
     }
 }
 
@@ -62,6 +79,12 @@ impl Subject for Systems {
                 tells("ok", answer)
             }
             b"read" => {
+                self.adds(line)?;
+                self.reads_plainly(answer)?;
+                self.text.clear();
+                Ok(())
+            }
+            b"faults" => {
                 self.adds(line)?;
                 self.reads(answer)?;
                 self.text.clear();

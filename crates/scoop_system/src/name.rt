@@ -17,7 +17,7 @@ pub const MAX_NAME_LEN: usize = 32;
 
 /// The name of a class or an operation, or a text of the file as faults print it: up to 32 bytes of printable ASCII.
 /// Contracts see it as the list of its bytes. Printed as it is.
-#[derive(Clone, Copy, Debug)]
+#[derive(Clone, Copy)]
 pub struct Name {
     cells: [u8; MAX_NAME_LEN],
     count: usize,

@@ -1,196 +1,198 @@
 //! The classes of a file.
 
-ghost use Rattle.std.specs.Prelude.{◌≡◌, ◌≤◌, ◌==◌, [], length, map, is_some, Ok, Err, IfOk, IfErr};
-ghost use Rattle.std.specs.List.{list_any};
-ghost use Rattle.toml.specs.View.{view};
-ghost use Rattle.scoop_message.specs.declared.limits.TheConstants.{MAX_WORDS, MAX_OPS};
-ghost use Rattle.scoop_object.specs.Class.{IsClass};
-ghost use Rattle.scoop_classes.specs.Classes.{same_text, class_of_name};
-ghost use Rattle.scoop_system.specs.Classes.{class_of, classes_from, class_head, operations_from, class_before};
-ghost use Rattle.scoop_system.specs.Meaning.{classes_of};
-ghost use Rattle.scoop_system.specs.Terms.{operation_of};
-ghost use Rattle.scoop_system.specs.Stop.{IfFault};
+ghost use Rattle.std.specs.Prelude.{◌≤◌, IfOk, IfSome, OnOk};
+ghost use Rattle.scoop_message.specs.declared.limits.TheConstants.{MAX_WORDS};
+ghost use Rattle.scoop_system.specs.WellFormed.{AreOperations, EachAfter, IsMade, IsNewClass};
 
-use super::MAX_CLASSES;
-use super::place::{at, class_place, operation_place};
-use super::stop::Stop;
-use super::term::{answer_at, test_at, writes_at};
-use super::value::{key_fault, list_at, name_at, number_at};
-use crate::class::{OwnClass, OwnOperation, class_named, operation_named};
-use crate::error::{Fault, Key, Place, Wrong};
+use super::formula::{read_term, read_test, read_write};
+use super::found::Found;
+use super::item::{Item, Kind};
+use crate::check::{MAX_CLASSES, class_fault, operation_fault};
+use crate::class::{OwnClass, OwnOperation};
+use crate::key::Key;
 use crate::name::Name;
-use scoop_classes::DemoClass;
-use scoop_message::limits::{MAX_OPS, MAX_WORDS};
-use scoop_object::{Class, ClassError, OpRow};
-use std::alloc::Global;
+use crate::phrase::{Form, Phrase, Shown};
+use scoop_message::OutOfMemory;
+use scoop_message::limits::{MAX_OPS, MAX_WORDS, MAX_WRITES};
+use scoop_object::{Class, ClassError, OpRow, Term, Write, Writes};
 use toml::Value;
 
-// The name and the number of words of a class, and the values of its operations.
-#[derive(Drop)]
-struct ClassHead<'a> {
-    name: Name,
-    words: u8,
-    operations: &'a [Value],
-}
+// The value of an unused cell.
+const BLANK: Write = Write {
+    word: 0,
+    base: Term::Const(0),
+    plus: Term::Const(0),
+    minus: Term::Const(0),
+};
 
-// The classes of a file.
-pub(super) fn read_classes(alloc: Global, file: &Value) -> Result<Vec<OwnClass>, Stop>
-    ensures ok { IfOk result (λ classes. classes_of (view file.now) ≡ Ok classes.items) }
-    ensures fault { IfErr result (λ e. IfFault e (λ fault. classes_of (view file.now) ≡ Err fault)) }
+// Adds the classes of a file.
+pub(super) fn read_classes(
+    classes: &mut Vec<OwnClass>,
+    found: &mut Found<'_>,
+) -> Result<(), OutOfMemory>
+    requires { EachAfter IsNewClass classes.old.items }
+    ensures { OnOk result (EachAfter IsNewClass classes.new.items) }
 {
-    let values = at(Place::File, list_at(file, Key::Class, MAX_CLASSES))?;
-    let mut classes = Vec::new(alloc);
-    match add_classes(alloc, &mut classes, values) {
-        Ok(()) => Ok(classes),
-        Err(stop) => Err(stop),
-    }
-}
-
-// Adds the classes of these values.
-fn add_classes(alloc: Global, classes: &mut Vec<OwnClass>, values: &[Value]) -> Result<(), Stop>
-    ensures ok { IfOk result (λ _. classes_from classes.old.items (map view values.now) ≡ Ok classes.new.items) }
-    ensures fault { IfErr result (λ e. IfFault e (λ fault. classes_from classes.old.items (map view values.now) ≡ Err fault)) }
-{
-    for value in values {
-        let class = read_class(alloc, value, classes.as_slice())?;
-        classes.push(class)?;
-    }
-    Ok(())
-}
-
-// A class, after those before it.
-fn read_class(alloc: Global, value: &Value, done: &[OwnClass]) -> Result<OwnClass, Stop>
-    ensures ok { IfOk result (λ class. class_of done.now (view value.now) ≡ Ok class) }
-    ensures fault { IfErr result (λ e. IfFault e (λ fault. class_of done.now (view value.now) ≡ Err fault)) }
-{
-    let place = class_place(value, done.len() + 1);
-    let head = match class_head(value, done) {
-        Ok(head) => head,
-        Err(wrong) => return Err(Stop::Fault(Fault { place, wrong })),
-    };
-    let mut rows = Vec::with_capacity(alloc, head.operations.len())?;
-    let mut operations = Vec::with_capacity(alloc, head.operations.len())?;
-    read_operations(&head, &mut rows, &mut operations)?;
-    let class = build_class(alloc, head.words, rows.as_slice())?;
-    Ok(OwnClass::new(head.name, class, operations))
-}
-
-// The class of rows that make one.
-fn build_class(alloc: Global, words: u8, rows: &[OpRow]) -> Result<Class, Stop>
-    requires { IsClass words rows.now }
-    ensures ok { IfOk result (λ class. class ≡ record { words = words; rows = rows.now }) }
-    ensures refused { IfErr result (λ e. e ≡ Stop.OutOfMemory) }
-{
-    match Class::build(alloc, words, rows) {
-        Ok(class) => Ok(class),
-        Err(ClassError::OutOfMemory) => Err(Stop::OutOfMemory),
-        Err(_) => unreachable!(),
-    }
-}
-
-// The name, the number of words and the operations' values of a class.
-fn class_head<'a>(value: &'a Value, done: &[OwnClass]) -> Result<ClassHead<'a>, Wrong>
-    ensures ok { IfOk result (λ h. class_head done.now (view value.now)
-        ≡ Ok (record { name = h.name; words = h.words; operations = map view h.operations.now })) }
-    ensures fault { IfErr result (λ wrong. class_head done.now (view value.now) ≡ Err wrong) }
-    ensures some { IfOk result (λ h. 1 ≤ h.words) }
-    ensures few { IfOk result (λ h. h.words ≤ MAX_WORDS) }
-    ensures room { IfOk result (λ h. length h.operations.now ≤ MAX_OPS) }
-{
-    if let Some(wrong) = key_fault(value, &[Key::Name, Key::Words, Key::Operation]) {
-        return Err(wrong);
-    }
-    let name = name_at(value, Key::Name)?;
-    let words = number_at(value, Key::Words, 1, MAX_WORDS as u64)? as u8;
-    let operations = list_at(value, Key::Operation, MAX_OPS)?;
-    if let Some(wrong) = class_before(done, name) {
-        return Err(wrong);
-    }
-    Ok(ClassHead {
-        name,
-        words,
-        operations,
-    })
-}
-
-// The fault of a name that a class before it has.
-fn class_before(classes: &[OwnClass], name: Name) -> Option<Wrong>
-    ensures { result ≡ class_before classes.now name }
-{
-    if DemoClass::from_name(name.as_str()).is_some() {
-        Some(Wrong::KnownClass)
-    } else if class_named(classes, name.as_bytes()).is_some() {
-        Some(Wrong::Twice)
-    } else {
-        None
-    }
-}
-
-// The operations of a class, with their names.
-fn read_operations(
-    head: &ClassHead<'_>,
-    rows: &mut Vec<OpRow>,
-    operations: &mut Vec<OwnOperation>,
-) -> Result<(), Stop>
-    requires { head.now.words ≤ MAX_WORDS }
-    ensures ok { IfOk result (λ _. operations_from head.now.name head.now.words rows.old.items operations.old.items (map view head.now.operations.now)
-        ≡ Ok (rows.new.items, operations.new.items)) }
-    ensures fault { IfErr result (λ e. IfFault e (λ fault.
-        operations_from head.now.name head.now.words rows.old.items operations.old.items (map view head.now.operations.now) ≡ Err fault)) }
-{
-    for value in head.operations {
-        let place = operation_place(value, head.name, rows.len() + 1);
-        let words = usize::from(head.words);
-        match at(
-            place,
-            read_operation(value, words, rows.as_slice(), operations.as_slice()),
-        ) {
-            Ok((row, operation)) => {
-                rows.push(row)?;
-                operations.push(operation)?;
+    let file = found.file();
+    let values = found.list(&file, Key::Class, MAX_CLASSES);
+    for (before, value) in values.iter().enumerate() {
+        let item = Item::of(value, Kind::Class, before.saturating_add(1));
+        if let Some(class) = read_class(&item, found)? {
+            match class_fault(classes.as_slice(), &class) {
+                None => classes.push(class)?,
+                Some(wrong) => found.add(&item, wrong),
             }
-            Err(fault) => return Err(Stop::Fault(fault)),
         }
     }
     Ok(())
 }
 
-// An operation and its name, after those before it.
-fn read_operation(
-    value: &Value,
-    words: usize,
-    rows: &[OpRow],
-    operations: &[OwnOperation],
-) -> Result<(OpRow, OwnOperation), Wrong>
-    requires { words ≤ MAX_WORDS }
-    ensures { result ≡ operation_of words rows.now operations.now (view value.now) }
+// A class. One whose operations have faults is still known by its name.
+fn read_class(item: &Item<'_>, found: &mut Found<'_>) -> Result<Option<OwnClass>, OutOfMemory>
+    ensures { IfOk result (λ read. IfSome read IsMade) }
 {
-    let known = [Key::Number, Key::Name, Key::Test, Key::Writes, Key::Answer];
-    if let Some(wrong) = key_fault(value, &known) {
-        return Err(wrong);
+    if !found.has_keys(item, &[Key::Name, Key::Words, Key::Operation]) {
+        return Ok(None);
     }
-    let number = number_at(value, Key::Number, 0, u64::from(u16::MAX))? as u16;
-    let name = name_at(value, Key::Name)?;
-    let test = test_at(value, words)?;
-    let writes = writes_at(value, words)?;
-    let answer = answer_at(value, words)?;
-    if has_number(rows, number) {
-        return Err(Wrong::Twice);
+    let name = found.name(item, Key::Name);
+    let words = found.number(item, Key::Words, 1, MAX_WORDS as u64);
+    match (name, words) {
+        (Some(name), Some(words)) => class_of(item, name, words as u8, found),
+        _ => Ok(None),
     }
-    if operation_named(operations, name.as_bytes()).is_some() {
-        return Err(Wrong::NameTwice(name));
-    }
-    let row = OpRow {
-        op: number,
-        test,
-        writes,
-        answer,
-    };
-    Ok((row, OwnOperation { number, name }))
 }
 
-fn has_number(rows: &[OpRow], number: u16) -> bool
-    ensures { result ≡ list_any (λ row. row.op == number) rows.now }
+// The class with this name and number of words.
+fn class_of(
+    item: &Item<'_>,
+    name: Name,
+    words: u8,
+    found: &mut Found<'_>,
+) -> Result<Option<OwnClass>, OutOfMemory>
+    requires some { 1 ≤ words }
+    requires few { words ≤ MAX_WORDS }
+    ensures { IfOk result (λ read. IfSome read IsMade) }
 {
-    rows.iter().any(|row| row.op == number)
+    let mut rows = Vec::new(found.alloc);
+    let mut operations = Vec::new(found.alloc);
+    match read_operations(item, name, words, &mut rows, &mut operations, found) {
+        Ok(()) => (),
+        Err(error) => return Err(error),
+    }
+    match Class::build(found.alloc, words, rows.as_slice()) {
+        Ok(class) => Ok(Some(OwnClass::new(name, class, operations))),
+        Err(ClassError::OutOfMemory) => Err(OutOfMemory),
+        Err(_) => {
+            found.add(item, Phrase::plain(Form::NoClass));
+            Ok(None)
+        }
+    }
+}
+
+// Adds the operations of a class: their rows, and their names.
+fn read_operations(
+    class: &Item<'_>,
+    name: Name,
+    words: u8,
+    rows: &mut Vec<OpRow>,
+    operations: &mut Vec<OwnOperation>,
+    found: &mut Found<'_>,
+) -> Result<(), OutOfMemory>
+    requires { AreOperations rows.old.items operations.old.items }
+    ensures { OnOk result (AreOperations rows.new.items operations.new.items) }
+{
+    let values = found.list(class, Key::Operation, MAX_OPS);
+    for (before, value) in values.iter().enumerate() {
+        let item = Item::operation(value, before.saturating_add(1), class, name);
+        if let Some((row, name)) = read_operation(&item, words, found) {
+            let operation = OwnOperation {
+                number: row.op,
+                name,
+            };
+            match operation_fault(operations.as_slice(), &operation) {
+                None => {
+                    rows.push(row)?;
+                    operations.push(operation)?;
+                }
+                Some(wrong) => found.add(&item, wrong),
+            }
+        }
+    }
+    Ok(())
+}
+
+// An operation and its name.
+fn read_operation(item: &Item<'_>, words: u8, found: &mut Found<'_>) -> Option<(OpRow, Name)> {
+    let known = [Key::Number, Key::Name, Key::Test, Key::Writes, Key::Answer];
+    if !found.has_keys(item, &known) {
+        return None;
+    }
+    let number = found.number(item, Key::Number, 0, u64::from(u16::MAX));
+    let name = found.name(item, Key::Name);
+    let test = read_test_at(item, words, found);
+    let writes = read_writes(item, words, found);
+    let answer = read_answer(item, words, found);
+    let row = OpRow {
+        op: number? as u16,
+        test: test?,
+        writes: writes?,
+        answer: answer?,
+    };
+    Some((row, name?))
+}
+
+// The test of an operation, if it has one.
+fn read_test_at(item: &Item<'_>, words: u8, found: &mut Found<'_>) -> Option<Option<(Term, Term)>> {
+    let Some(value) = item.value.get("test") else {
+        return Some(None);
+    };
+    match read_test(value, words) {
+        Ok(test) => Some(Some(test)),
+        Err(wrong) => {
+            found.add(item, wrong);
+            None
+        }
+    }
+}
+
+// The answer of an operation.
+fn read_answer(item: &Item<'_>, words: u8, found: &mut Found<'_>) -> Option<Term> {
+    match read_term(found.needed(item, Key::Answer)?, words) {
+        Ok(answer) => Some(answer),
+        Err(wrong) => {
+            found.add(item, wrong);
+            None
+        }
+    }
+}
+
+// The writes of an operation.
+fn read_writes(item: &Item<'_>, words: u8, found: &mut Found<'_>) -> Option<Writes> {
+    let values = found.list(item, Key::Writes, MAX_WRITES);
+    match writes_of(values, words) {
+        Ok(writes) => Some(writes),
+        Err(wrong) => {
+            found.add(item, wrong);
+            None
+        }
+    }
+}
+
+// No word is written twice.
+fn writes_of(values: &[Value], words: u8) -> Result<Writes, Phrase> {
+    let mut cells = [BLANK; MAX_WRITES];
+    for (cell, value) in cells.iter_mut().zip(values) {
+        *cell = read_write(value, words)?;
+    }
+    let writes = &cells[..values.len().min(MAX_WRITES)];
+    for (place, write) in writes.iter().enumerate() {
+        if writes[..place].iter().any(|other| other.word == write.word) {
+            let word = Shown::Number(u64::from(write.word));
+            return Err(Phrase::one(Form::WrittenTwice, word));
+        }
+    }
+    match Writes::of(writes) {
+        Ok(writes) => Ok(writes),
+        Err(_) => unreachable!(),
+    }
 }

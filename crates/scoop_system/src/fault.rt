@@ -1,0 +1,155 @@
+//! Faults in the text of a system.
+
+use crate::key::Key;
+use crate::name::Name;
+use crate::phrase::{Form, Phrase};
+use std::error::Error;
+use std::{fmt, mem};
+
+/// Faults of one file that are reported, at most.
+pub const MAX_FAULTS: usize = 20;
+
+/// Why a text is no system. Printed after the file's name.
+#[derive(Drop)]
+pub enum SystemError {
+    /// The text isn't TOML.
+    Toml(TomlFault),
+    /// The text is TOML, and describes no system.
+    Faults(Faults),
+    /// A growth of memory was refused.
+    OutOfMemory,
+}
+
+/// A fault of TOML, with its line and column counted from 1.
+#[derive(Clone, Copy)]
+pub struct TomlFault {
+    pub line: usize,
+    /// In characters, not bytes.
+    pub column: usize,
+    pub error: toml::de::Error,
+    /// The kind of a table in single brackets, as `[node]`, before a fault at a later table.
+    pub single: Option<Key>,
+    /// Whether a `[[class.operation]]` stands before the first `[[class]]`, which is the fault.
+    pub early: bool,
+}
+
+/// The faults of a file, in the order of its lines. All are counted, and the first ones kept.
+#[derive(Drop)]
+pub struct Faults {
+    cells: [Fault; MAX_FAULTS],
+    count: usize,
+}
+
+/// A fault and its place. Printed as `node 1: unknown key "adress"`, and in a second line `  line 4: did you mean "address"?`.
+#[derive(Clone, Copy)]
+pub struct Fault {
+    /// The line in which the table of the fault begins, counted from 1; 0 if that isn't known.
+    pub line: usize,
+    /// The table.
+    pub place: Phrase,
+    /// What is wrong with it.
+    pub wrong: Phrase,
+    /// The known word that is nearest to the unknown one, if one is near.
+    pub nearest: Option<Name>,
+}
+
+impl Faults {
+    pub(crate) fn none() -> Faults {
+        let blank = Fault {
+            line: usize::MAX,
+            place: Phrase::plain(Form::Whole),
+            wrong: Phrase::plain(Form::Whole),
+            nearest: None,
+        };
+        Faults {
+            cells: [blank; MAX_FAULTS],
+            count: 0,
+        }
+    }
+
+    // Adds a fault after those of its line and of lines before it.
+    pub(crate) fn add(&mut self, fault: Fault) {
+        let mut next = fault;
+        for cell in self.cells.iter_mut() {
+            if next.line < cell.line {
+                mem::swap(cell, &mut next);
+            }
+        }
+        self.count = self.count.saturating_add(1);
+    }
+
+    pub(crate) fn is_empty(&self) -> bool {
+        self.count == 0
+    }
+
+    /// The first faults, at most twenty.
+    pub fn as_slice(&self) -> &[Fault] {
+        &self.cells[..self.count.min(MAX_FAULTS)]
+    }
+
+    /// How many faults come after these.
+    pub fn more(&self) -> usize {
+        self.count.saturating_sub(MAX_FAULTS)
+    }
+}
+
+impl fmt::Display for SystemError {
+    fn fmt<W: fmt::Write>(&self, f: &mut fmt::Formatter<W>) -> fmt::Result {
+        match self {
+            SystemError::Toml(fault) => write!(f, "{fault}"),
+            SystemError::Faults(faults) => write!(f, "{faults}"),
+            SystemError::OutOfMemory => f.write_str("out of memory"),
+        }
+    }
+}
+
+impl fmt::Debug for SystemError {
+    fn fmt<W: fmt::Write>(&self, f: &mut fmt::Formatter<W>) -> fmt::Result {
+        write!(f, "{self}")
+    }
+}
+
+impl Error for SystemError {}
+
+impl fmt::Display for TomlFault {
+    // TOML's own faults have TOML's texts.
+    fn fmt<W: fmt::Write>(&self, f: &mut fmt::Formatter<W>) -> fmt::Result {
+        let line = self.line;
+        let column = self.column;
+        let message = self.error.message();
+        let hint = match self.single {
+            _ if self.early => ": a [[class.operation]] comes after its [[class]]",
+            Some(key) => key.hint(),
+            None => "",
+        };
+        write!(f, "line {line}, column {column}: {message}{hint}")
+    }
+}
+
+impl fmt::Display for Faults {
+    fn fmt<W: fmt::Write>(&self, f: &mut fmt::Formatter<W>) -> fmt::Result {
+        let mut end = "";
+        for fault in self.as_slice() {
+            write!(f, "{end}{fault}")?;
+            end = "\n";
+        }
+        match self.more() {
+            0 => Ok(()),
+            more => write!(f, "\nand {more} more"),
+        }
+    }
+}
+
+impl fmt::Display for Fault {
+    fn fmt<W: fmt::Write>(&self, f: &mut fmt::Formatter<W>) -> fmt::Result {
+        let place = self.place;
+        let end = place.form.end();
+        let wrong = self.wrong;
+        write!(f, "{place}{end}{wrong}")?;
+        match (self.line, self.nearest) {
+            (0, _) => Ok(()),
+            (line, None) => write!(f, "\n  line {line}"),
+            (line, Some(nearest)) => write!(f, "\n  line {line}: did you mean \"{nearest}\"?"),
+        }
+    }
+}
