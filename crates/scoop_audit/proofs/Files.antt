@@ -22,7 +22,7 @@ use Rattle.scoop_system.specs.declared.place.ClientPlace.{ClientPlace}
 use Rattle.scoop_system.specs.Known.{handlers_on, known_in, numbers_on}
 use Rattle.scoop_system.specs.System.{NamedClass, Plan, class_table}
 use Rattle.scoop_system.specs.WellFormed.{IsNewClient, IsNewHandler, IsWellFormed}
-use Rattle.scoop_system.proofs.WellFormedFacts.{Apart, UsesSome, class_known, each_all, each_apart, each_few, uses_some}
+use Rattle.scoop_system.proofs.WellFormedFacts.{Apart, UsesSome, class_known, each_all, each_apart, each_few, found_any, uses_some}
 use Rattle.scoop_audit.specs.Parties.{MayRun, has_handlers, joins_in, nodes_in, placed_as, placed_in, placed_on, placements_in_file}
 use Rattle.scoop_audit.specs.Told.{placements_on}
 use Rattle.scoop_audit.proofs.Paged.{clients_ids, none_lost}
@@ -58,7 +58,7 @@ handler_sound : (classes : List NamedClass) (nodes : List NodePlace) (before : L
     → IsSound classes nodes h
 handler_sound classes nodes before h new =
     let class = class_known classes h.class (length h.words) new.words.all in
-    record { class = class.table; found = class.found; words = record { some = new.words.some; few = new.words.few }; same = class.words; stands = new.node }
+    record { class = class.table; found = class.found; words = record { some = new.words.some; few = new.words.few }; same = class.words; stands = sym (found_any (λ (n : NodePlace). n.number == h.node) nodes) ∙ new.node }
 
 -- ---- as they are placed
 
@@ -183,17 +183,17 @@ plan_sound : (s : Plan) → IsWellFormed s → IsSoundPlan s
 plan_sound s well =
     let parts = well.parts in
     record {
-      nodes = each_apart (λ (n : NodePlace). n.number) s.nodes (λ i n is. (parts.nodes i n is).number);
-      handlers = each_apart (λ (h : HandlerPlace). h.handler.0) s.handlers (λ i h is. (parts.handlers i h is).number);
+      nodes = each_apart (λ (n : NodePlace). n.number) s.nodes (λ i n is. (parts.nodes.each i n is).number);
+      handlers = each_apart (λ (h : HandlerPlace). h.handler.0) s.handlers (λ i h is. (parts.handlers.each i h is).number);
       sound =
           each_all (IsNewHandler s.classes s.nodes) (IsSound s.classes s.nodes) s.handlers (λ before h new. handler_sound s.classes s.nodes before h new)
-          parts.handlers;
-      few = each_few (IsNewHandler s.classes s.nodes) MAX_HANDLERS s.handlers (λ before h new. new.room) parts.handlers;
-      clients = each_apart (λ (c : ClientPlace). c.client.0) s.clients (λ i c is. (parts.clients i c is).number);
+          parts.handlers.each;
+      few = each_few (IsNewHandler s.classes s.nodes) MAX_HANDLERS s.handlers (λ before h new. new.room) parts.handlers.each;
+      clients = each_apart (λ (c : ClientPlace). c.client.0) s.clients (λ i c is. (parts.clients.each i c is).number);
       joining =
           each_all (IsNewClient s.nodes s.handlers) (IsSoundClient s.handlers) s.clients (λ before c new. client_sound s.nodes s.handlers before c new)
-          parts.clients;
-      few_clients = each_few (IsNewClient s.nodes s.handlers) MAX_CLIENTS s.clients (λ before c new. new.room) parts.clients;
+          parts.clients.each;
+      few_clients = each_few (IsNewClient s.nodes s.handlers) MAX_CLIENTS s.clients (λ before c new. new.room) parts.clients.each;
     }
 
 -- the handlers that are placed, in their order

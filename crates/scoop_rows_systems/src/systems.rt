@@ -16,7 +16,7 @@ use scoop_row_player::answers::{add_line, keeps, tells, told, without_last};
 use scoop_row_player::words::{first, number, numbers, read_text, text_of};
 use scoop_row_player::{Bad, Subject};
 use scoop_runtime::{Serving, check_script};
-use scoop_system::{ClientLine, LineFaultIn, System, print_system, read_line};
+use scoop_system::{ClientLine, LineFaultIn, System, Test, print_system, read_line};
 use std::alloc::Global;
 use std::io;
 use std::io::Write;
@@ -154,11 +154,12 @@ fn put_line<W: Write>(line: &ClientLine, out: &mut W) -> io::Result<()> {
             for condition in conditions.as_slice() {
                 let (asked, request) = (condition.asked, &condition.request);
                 let args = request.args.as_slice();
-                write!(
-                    out,
-                    ", {asked} {} {args:?} {:?}",
-                    request.op, condition.test
-                )?;
+                let (test, value) = match condition.test {
+                    Test::Least(value) => ("Least", value),
+                    Test::Most(value) => ("Most", value),
+                    Test::Is(value) => ("Is", value),
+                };
+                write!(out, ", {asked} {} {args:?} {test}({value})", request.op)?;
             }
             Ok(())
         }

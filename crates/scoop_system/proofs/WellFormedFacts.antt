@@ -1,6 +1,6 @@
 -- What a well-formed system has, element by element: nothing comes twice, and what is named is there.
-use Rattle.std.proofs.Common.{◌≡◌, ◌≤◌, ◌<◌, ◌+◌, ◌==◌, inl, inr, ℕ, zero, suc, Bool, true, false, List, [], ◌∷◌, length, map, Option, Some, None, refl, sym, ap, ◌∙◌, arith}
-use Rattle.std.specs.Prelude.{◌||◌, slice_get, IfSome}
+use Rattle.std.proofs.Common.{◌≡◌, ◌≤◌, ◌<◌, ◌+◌, ◌==◌, inl, inr, ℕ, zero, suc, Bool, true, false, List, [], ◌∷◌, length, map, Option, Some, None, cond, find, take, refl, sym, ap, ◌∙◌, subst, arith}
+use Rattle.std.specs.Prelude.{◌||◌, slice_get, is_some, IfSome}
 use Rattle.std.specs.List.{AllByRecursion, list_any}
 use Rattle.std.specs.Option.{option_map}
 use Rattle.std.proofs.lemmas.Bool.Decides.{Decides-eqb, eqb_tells}
@@ -24,7 +24,7 @@ Apart [] = Unit {0}
 Apart (x ∷ xs) = IsNot x xs × Apart xs
 
 neither : (a b : Bool) → (a || b) ≡ false → (a ≡ false) × (b ≡ false)
-neither true b no = absurd (cc)
+neither true b is = absurd (cc)
 neither false b is = (refl, is)
 
 not_of : {A : Type 0} (key : A → ℕ) (k : ℕ) (xs : List A) → ((i : ℕ) (x : A) → slice_get xs i ≡ Some x → (k == key x) ≡ false) → IsNot k (map key xs)
@@ -33,12 +33,26 @@ not_of key k (x ∷ xs) differs =
     let other : (k == key x) ≡ false = differs 0 x refl in
     ((λ same. let yes : (k == key x) ≡ true = (Decides-eqb k (key x)).1 same in absurd (cc)), not_of key k xs (λ i y is. differs (suc i) y is))
 
--- keys that are new after those before them
-pub each_apart : {A : Type 0} (key : A → ℕ) (xs : List A) → EachAfter (λ before x. list_any (λ y. key y == key x) before ≡ false) xs → Apart (map key xs)
-each_apart key [] each = tt
-each_apart {A} key (z ∷ xs) each =
+pub found_any : {A : Type 0} (test : A → Bool) (xs : List A) → is_some (find test xs) ≡ list_any test xs
+found_any test [] = refl
+found_any test (x ∷ xs) = either (test x) (found_any test xs)
+  where
+    either : (here : Bool) → is_some (find test xs) ≡ list_any test xs → is_some (cond here (Some x) (find test xs)) ≡ (here || list_any test xs)
+    either true is = refl
+    either false is = is
+
+none_any : {A : Type 0} (test : A → Bool) (xs : List A) → find test xs ≡ None → list_any test xs ≡ false
+none_any test xs none = sym (found_any test xs) ∙ ap is_some none
+
+any_apart : {A : Type 0} (key : A → ℕ) (xs : List A) → EachAfter (λ before x. list_any (λ y. key y == key x) before ≡ false) xs → Apart (map key xs)
+any_apart key [] each = tt
+any_apart {A} key (z ∷ xs) each =
     let both : (i : ℕ) (x : A) → slice_get xs i ≡ Some x → _ = λ i x is. neither (key z == key x) _ (each (suc i) x is) in
-    (not_of key (key z) xs (λ i x is. (both i x is).0), each_apart key xs (λ i x is. (both i x is).1))
+    (not_of key (key z) xs (λ i x is. (both i x is).0), any_apart key xs (λ i x is. (both i x is).1))
+
+-- keys that are new after those before them
+pub each_apart : {A : Type 0} (key : A → ℕ) (xs : List A) → EachAfter (λ before x. find (λ y. key y == key x) before ≡ None) xs → Apart (map key xs)
+each_apart key xs each = any_apart key xs (λ i x is. none_any (λ y. key y == key x) (take i xs) (each i x is))
 
 pub each_all : {A : Type 0} (P : List A → A → Type 0) (Q : A → Type 0) (xs : List A) → ((before : List A) (x : A) → P before x → Q x) → EachAfter P xs
     → AllByRecursion Q xs
@@ -104,4 +118,5 @@ first_used (p ∷ hs) h named there =
 pub uses_some : (hs : List HandlerPlace) (used : Option (List HandlerId)) → IfSome used (AreNamed hs) → UsesSome hs used
 uses_some hs None named = tt
 uses_some hs (Some []) named = let some = named.some in absurd (omega (arith, some))
-uses_some hs (Some (h ∷ more)) named = first_used hs h more (named.each 0 h refl).there
+uses_some hs (Some (h ∷ more)) named =
+    first_used hs h more (sym (found_any (λ (p : HandlerPlace). p.handler.0 == h.0) hs) ∙ (named.each 0 h refl).there)

@@ -1,8 +1,15 @@
 -- Lists that grow by an element which is right after those before it.
-use Rattle.std.proofs.Common.{◌≡◌, ◌≤◌, ◌<◌, ◌+◌, ℕ, zero, suc, Option, None, List, [], ◌∷◌, ◌++◌, get_or, length, take, Some, sym, subst}
+use Rattle.std.proofs.Common.{◌≡◌, map, refl, ◌≤◌, ◌<◌, ◌+◌, ℕ, zero, suc, List, [], ◌∷◌, ◌++◌, get_or, length, take, Some, ap, ◌∙◌, sym, subst}
 use Rattle.std.proofs.lemmas.List.{take_all, take_more}
-use Rattle.std.specs.Prelude.{slice_get, IfNone}
-use Rattle.scoop_system.specs.WellFormed.{EachAfter}
+use Rattle.std.specs.Prelude.{slice_get}
+use Rattle.std.proofs.lemmas.List.{map-append}
+use Rattle.scoop_object.specs.declared.row.OpRow.{OpRow}
+use Rattle.scoop_system.specs.declared.class.OwnOperation.{OwnOperation}
+use Rattle.scoop_system.specs.declared.place.NodePlace.{NodePlace}
+use Rattle.scoop_system.specs.declared.place.HandlerPlace.{HandlerPlace}
+use Rattle.scoop_system.specs.declared.place.ClientPlace.{ClientPlace}
+use Rattle.scoop_system.specs.System.{NamedClass}
+use Rattle.scoop_system.specs.WellFormed.{AreClasses, AreClients, AreHandlers, AreNodes, AreOperations, EachAfter, IsNewClass, IsNewClient, IsNewHandler, IsNewNode, IsNewOperation}
 
 pub each_none : {A : Type 0} (P : List A → A → Type 0) → EachAfter P []
 each_none P = λ i x is. absurd (cc)
@@ -25,10 +32,44 @@ each_taken P xs i d less each last = subst (EachAfter P) (sym (take_more xs i d 
 pub each_whole : {A : Type 0} (P : List A → A → Type 0) (xs : List A) (i : ℕ) → length xs ≤ i → EachAfter P (take i xs) → EachAfter P xs
 each_whole P xs i end each = subst (EachAfter P) (take_all i xs end) each
 
-pub none_then : {X A B : Type 0} (o : Option X) → IfNone o A → (A → B) → IfNone o B
-none_then None a makes = makes a
-none_then (Some x) a makes = tt
+-- ---- the lists of a file
 
-pub none_is : {X P : Type 0} (o : Option X) → o ≡ None → IfNone o P → P
-none_is None is holds = holds
-none_is (Some x) is holds = absurd (cc)
+pub operations_none : AreOperations [] []
+operations_none = record { numbers = refl; each = each_none IsNewOperation }
+
+pub operations_more : (rows : List OpRow) (row : OpRow) (os : List OwnOperation) (o : OwnOperation) → AreOperations rows os → o.number ≡ row.op → IsNewOperation os o
+    → AreOperations (rows ++ row ∷ []) (os ++ o ∷ [])
+operations_more rows row os o are same new =
+    record {
+      numbers =
+          map-append (λ (p : OwnOperation). p.number) os (o ∷ [])
+          ∙ (ap (λ ns. ns ++ o.number ∷ []) are.numbers ∙ (ap (λ n. map (λ (r : OpRow). r.op) rows ++ n ∷ []) same
+          ∙ sym (map-append (λ (r : OpRow). r.op) rows (row ∷ []))));
+      each = each_more IsNewOperation os o are.each new;
+    }
+
+pub classes_none : AreClasses []
+classes_none = record { each = each_none IsNewClass }
+
+pub classes_more : (cs : List NamedClass) (c : NamedClass) → AreClasses cs → IsNewClass cs c → AreClasses (cs ++ c ∷ [])
+classes_more cs c are new = record { each = each_more IsNewClass cs c are.each new }
+
+pub nodes_none : AreNodes []
+nodes_none = record { each = each_none IsNewNode }
+
+pub nodes_more : (ns : List NodePlace) (n : NodePlace) → AreNodes ns → IsNewNode ns n → AreNodes (ns ++ n ∷ [])
+nodes_more ns n are new = record { each = each_more IsNewNode ns n are.each new }
+
+pub handlers_none : (cs : List NamedClass) (ns : List NodePlace) → AreHandlers cs ns []
+handlers_none cs ns = record { each = each_none (IsNewHandler cs ns) }
+
+pub handlers_more : (cs : List NamedClass) (ns : List NodePlace) (hs : List HandlerPlace) (h : HandlerPlace) → AreHandlers cs ns hs → IsNewHandler cs ns hs h
+    → AreHandlers cs ns (hs ++ h ∷ [])
+handlers_more cs ns hs h are new = record { each = each_more (IsNewHandler cs ns) hs h are.each new }
+
+pub clients_none : (ns : List NodePlace) (hs : List HandlerPlace) → AreClients ns hs []
+clients_none ns hs = record { each = each_none (IsNewClient ns hs) }
+
+pub clients_more : (ns : List NodePlace) (hs : List HandlerPlace) (ks : List ClientPlace) (k : ClientPlace) → AreClients ns hs ks → IsNewClient ns hs ks k
+    → AreClients ns hs (ks ++ k ∷ [])
+clients_more ns hs ks k are new = record { each = each_more (IsNewClient ns hs) ks k are.each new }

@@ -1,5 +1,5 @@
 -- What holds of every system that was read: numbers, names and addresses are unique, and what a table names is in the file.
-use Rattle.std.specs.Prelude.{◌≡◌, ◌≤◌, ◌<◌, ℕ, ◌==◌, Bool, true, false, not, List, [], ◌∷◌, find, length, map, slice_get, take, IfSome, Option, Some, None, codes}
+use Rattle.std.specs.Prelude.{◌≡◌, ◌≤◌, ◌<◌, ℕ, ◌==◌, Bool, true, false, not, List, [], ◌∷◌, ◌++◌, find, length, map, slice_get, take, is_some, IfSome, Option, Some, None, codes}
 use Rattle.std.specs.List.{list_any}
 use Rattle.std.specs.Option.{option_map}
 use Rattle.std.specs.declared.net.socket_addr.SocketAddr.{SocketAddr}
@@ -19,21 +19,29 @@ use Rattle.scoop_system.specs.declared.place.HandlerClass.{HandlerClass}
 use Rattle.scoop_system.specs.declared.place.ClientPlace.{ClientPlace}
 use Rattle.scoop_system.specs.Address.{first_of, has_address, same_address}
 use Rattle.scoop_system.specs.Known.{is_among}
-use Rattle.scoop_system.specs.System.{NamedClass, Plan, class_named, class_table, handler_of_name}
+use Rattle.scoop_system.specs.Name.{IsName}
+use Rattle.scoop_system.specs.System.{NamedClass, Plan, class_named, class_table, client_named, handler_named, handler_of_name, node_named}
 
 -- each element stands in this relation to those before it
 abbrev pub EachAfter : {A : Type 0} → (List A → A → Type 0) → List A → Type 0
 EachAfter {A} P xs = (i : ℕ) (x : A) → slice_get xs i ≡ Some x → P (take i xs) x
 
--- a life is at least 1
-abbrev pub IsIdentity : Identity → Type 0
-IsIdentity identity = IfSome identity.life (λ life. 1 ≤ life)
+-- a system may have a name, and a life, which is at least 1
+pub record IsIdentity (i : Identity) : Type 0 where
+  pub name : IfSome i.name IsName
+  pub life : IfSome i.life (λ life. 1 ≤ life)
+
+-- an element is added to a list if it has no fault, or the list stays as it is
+abbrev pub Keeps : {A F : Type 0} → Bool → Option F → List A → A → List A → Type 0
+Keeps true fault xs x new = (fault ≡ None) × (new ≡ xs ++ x ∷ [])
+Keeps false fault xs x new = new ≡ xs
 
 -- ---- classes
 
 -- an operation has a number and a name of its own
 pub record IsNewOperation (before : List OwnOperation) (o : OwnOperation) : Type 0 where
   pub number : list_any (λ p. p.number == o.number) before ≡ false
+  pub named : IsName o.name
   pub name : find (λ p. same_text p.name o.name) before ≡ None
 
 -- the operations are those of the rows, in their order
@@ -49,9 +57,13 @@ pub record IsMade (c : NamedClass) : Type 0 where
 -- a class has a name of its own, which none of the classes of all systems has
 pub record IsNewClass (before : List NamedClass) (c : NamedClass) : Type 0 where
   pub room : length before < MAX_CLASSES
+  pub named : IsName c.name
   pub other : class_of_name c.name ≡ None
   pub new : class_named before c.name ≡ None
   pub made : IsMade c
+
+pub record AreClasses (cs : List NamedClass) : Type 0 where
+  pub each : EachAfter IsNewClass cs
 
 -- ---- addresses
 
@@ -70,27 +82,34 @@ node_at nodes a = find (λ n. has_address n.addresses a) nodes
 abbrev pub client_at : List ClientPlace → SocketAddr → Option ClientPlace
 client_at clients a = find (λ c. same_address c.address a) clients
 
-abbrev pub first_client : List ClientPlace → Option SocketAddr
-first_client [] = None
-first_client (c ∷ cs) = Some c.address
+abbrev pub first_own : List SocketAddr → Option SocketAddr
+first_own [] = None
+first_own (a ∷ rest) = Some a
 
--- the first address of the file
-abbrev pub first_address : List NodePlace → List ClientPlace → Option SocketAddr
-first_address [] clients = first_client clients
-first_address (n ∷ ns) clients = Some n.address
+abbrev pub first_client : List ClientPlace → List SocketAddr → Option SocketAddr
+first_client [] own = first_own own
+first_client (c ∷ cs) own = Some c.address
 
--- an address with a port, which no party has, of the same family as the first one
-pub record IsFree (nodes : List NodePlace) (clients : List ClientPlace) (a : SocketAddr) : Type 0 where
+-- the first address of the file, which has these addresses of a party last
+abbrev pub first_address : List NodePlace → List ClientPlace → List SocketAddr → Option SocketAddr
+first_address [] clients own = first_client clients own
+first_address (n ∷ ns) clients own = Some n.address
+
+-- an address with a port, which no party has, of the same family as the first one; the address's own party has these already
+pub record IsFree (nodes : List NodePlace) (clients : List ClientPlace) (own : List SocketAddr) (a : SocketAddr) : Type 0 where
   pub port : (socket_port a == 0) ≡ false
   pub node : node_at nodes a ≡ None
   pub client : client_at clients a ≡ None
-  pub family : IfSome (first_address nodes clients) (λ first. other_family first a ≡ false)
+  pub family : IfSome (first_address nodes clients own) (λ first. other_family first a ≡ false)
 
--- an address of a node is free, it stands once, and all have one family
+-- an address of a node is free, and stands once
 pub record IsNewAddress (nodes : List NodePlace) (before : List SocketAddr) (a : SocketAddr) : Type 0 where
-  pub free : IsFree nodes [] a
+  pub free : IsFree nodes [] before a
   pub once : has_address before a ≡ false
-  pub family : list_any (other_family a) before ≡ false
+
+pub record AreAddresses (nodes : List NodePlace) (addresses : List SocketAddr) : Type 0 where
+  pub some : 1 ≤ length addresses
+  pub each : EachAfter (IsNewAddress nodes) addresses
 
 abbrev pub is_status : Option SocketAddr → SocketAddr → Bool
 is_status None a = false
@@ -110,11 +129,13 @@ pub record IsNewStatus (nodes : List NodePlace) (a : SocketAddr) : Type 0 where
 -- a node has a number of its own, and stands at the first of its addresses
 pub record IsNewNode (before : List NodePlace) (n : NodePlace) : Type 0 where
   pub room : length before < MAX_NODES
-  pub number : list_any (λ m. m.number == n.number) before ≡ false
-  pub some : 1 ≤ length n.addresses
-  pub stands : same_address n.address (first_of n.addresses) ≡ true
-  pub addresses : EachAfter (IsNewAddress before) n.addresses
+  pub number : node_named before n.number ≡ None
+  pub addresses : AreAddresses before n.addresses
+  pub stands : n.address ≡ first_of n.addresses
   pub status : IfSome n.status (IsNewStatus before)
+
+pub record AreNodes (ns : List NodePlace) : Type 0 where
+  pub each : EachAfter IsNewNode ns
 
 -- how many words an object of the class has, if it is known
 abbrev pub class_words : List NamedClass → HandlerClass → Option ℕ
@@ -122,6 +143,7 @@ class_words classes class = option_map (λ t. t.words) (class_table classes clas
 
 -- no handler has the name, and it isn't `when`, which ends the handlers of a line
 pub record IsNewName (before : List HandlerPlace) (name : List ℕ) : Type 0 where
+  pub named : IsName name
   pub new : handler_of_name before name ≡ None
   pub other : same_text name (codes "when") ≡ false
 
@@ -134,15 +156,18 @@ pub record HasWords (classes : List NamedClass) (h : HandlerPlace) : Type 0 wher
 -- a handler has a number and a name of its own, its node is there, and it has the words of its class
 pub record IsNewHandler (classes : List NamedClass) (nodes : List NodePlace) (before : List HandlerPlace) (h : HandlerPlace) : Type 0 where
   pub room : length before < MAX_HANDLERS
-  pub number : list_any (λ g. g.handler.0 == h.handler.0) before ≡ false
+  pub number : handler_named before h.handler ≡ None
   pub name : IfSome h.name (IsNewName before)
-  pub node : list_any (λ n. n.number == h.node) nodes ≡ true
+  pub node : is_some (node_named nodes h.node) ≡ true
   pub words : HasWords classes h
+
+pub record AreHandlers (classes : List NamedClass) (nodes : List NodePlace) (hs : List HandlerPlace) : Type 0 where
+  pub each : EachAfter (IsNewHandler classes nodes) hs
 
 -- a handler that a client names is there, and is named once
 pub record IsNewNamed (handlers : List HandlerPlace) (before : List HandlerId) (h : HandlerId) : Type 0 where
   pub once : is_among before h ≡ false
-  pub there : list_any (λ p. p.handler.0 == h.0) handlers ≡ true
+  pub there : is_some (handler_named handlers h) ≡ true
 
 pub record AreNamed (handlers : List HandlerPlace) (named : List HandlerId) : Type 0 where
   pub some : 1 ≤ length named
@@ -151,20 +176,23 @@ pub record AreNamed (handlers : List HandlerPlace) (named : List HandlerId) : Ty
 -- a client has a number and an address of its own, and names handlers of the file
 pub record IsNewClient (nodes : List NodePlace) (handlers : List HandlerPlace) (before : List ClientPlace) (c : ClientPlace) : Type 0 where
   pub room : length before < MAX_CLIENTS
-  pub number : list_any (λ k. k.client.0 == c.client.0) before ≡ false
+  pub number : client_named before c.client ≡ None
   pub some : 1 ≤ c.batch
   pub few : c.batch ≤ MAX_ENTRIES
-  pub address : IsFree nodes before c.address
+  pub address : IsFree nodes before [] c.address
   pub used : IfSome c.handlers (AreNamed handlers)
+
+pub record AreClients (nodes : List NodePlace) (handlers : List HandlerPlace) (cs : List ClientPlace) : Type 0 where
+  pub each : EachAfter (IsNewClient nodes handlers) cs
 
 -- ---- all
 
 -- the classes, nodes, handlers and clients of a file
 pub record AreParts (cs : List NamedClass) (ns : List NodePlace) (hs : List HandlerPlace) (ks : List ClientPlace) : Type 0 where
-  pub classes : EachAfter IsNewClass cs
-  pub nodes : EachAfter IsNewNode ns
-  pub handlers : EachAfter (IsNewHandler cs ns) hs
-  pub clients : EachAfter (IsNewClient ns hs) ks
+  pub classes : AreClasses cs
+  pub nodes : AreNodes ns
+  pub handlers : AreHandlers cs ns hs
+  pub clients : AreClients ns hs ks
 
 -- a system that can run
 pub record IsWellFormed (s : Plan) : Type 0 where

@@ -1,29 +1,57 @@
 //! When a table of a file is right after those before it.
 
-ghost use Rattle.std.specs.Prelude.{◌≡◌, ◌==◌, IfNone, IfSome, Some, length};
+ghost use Rattle.std.specs.Prelude.{◌≡◌, ◌==◌, IfNone, IfSome};
+ghost use Rattle.scoop_system.specs.Name.{IsName};
 ghost use Rattle.std.specs.List.{list_any};
 ghost use Rattle.std.specs.Option.{option_copied};
 ghost use Rattle.scoop_classes.specs.Classes.{table_of};
-ghost use Rattle.scoop_system.specs.Address.{first_of, same_address};
-ghost use Rattle.scoop_system.specs.WellFormed.{AreNamed, EachAfter, HasWords, IsFree, IsMade, IsNewAddress, IsNewClass, IsNewClient, IsNewHandler};
+ghost use Rattle.scoop_system.specs.Address.{first_of};
+ghost use Rattle.scoop_system.specs.WellFormed.{AreAddresses, AreNamed, HasWords, IsFree, IsIdentity, IsMade, IsNewClass, IsNewClient, IsNewHandler};
 ghost use Rattle.scoop_system.specs.WellFormed.{IsNewName, IsNewNode, IsNewOperation, IsNewStatus, class_words, client_at, first_address, is_status, node_at, other_family, status_node};
 
 use crate::class::{OwnClass, OwnOperation, class_named, operation_named};
+use crate::identity::Identity;
 use crate::key::Key;
 use crate::known::is_among;
 use crate::name::Name;
 use crate::node_addresses::has_address;
 use crate::phrase::{Form, Phrase, Shown};
 use crate::place::{ClientPlace, HandlerClass, HandlerPlace, NodePlace};
-use crate::system::handler_of_name;
+use crate::system::{client_of, handler_of, handler_of_name, node_of};
 use scoop_classes::DemoClass;
 use scoop_lines::is;
 use scoop_message::HandlerId;
 use scoop_message::limits::{MAX_CLIENTS, MAX_ENTRIES, MAX_HANDLERS, MAX_NODES};
+use scoop_object::Write;
 use std::net::SocketAddr;
 
 /// Classes of one file, at most: as many as handlers.
 pub const MAX_CLASSES: usize = 64;
+
+// The fault of the name and the life of a system.
+pub(crate) fn identity_fault(identity: &Identity) -> Option<Phrase>
+    ensures { IfNone result (IsIdentity identity.now) }
+{
+    if let Some(wrong) = shape_fault(identity.name) {
+        return Some(wrong);
+    }
+    let life = identity.life?;
+    if life == 0 {
+        return Some(out_of_range(Key::Life, 1, u64::from(u32::MAX)));
+    }
+    None
+}
+
+// The fault of a name that isn't one.
+fn shape_fault(name: Option<Name>) -> Option<Phrase>
+    ensures { IfNone result (IfSome name IsName) }
+{
+    let name = name?;
+    if !name.is_name() {
+        return Some(no_name());
+    }
+    None
+}
 
 // ---- classes
 
@@ -35,6 +63,9 @@ pub(crate) fn class_fault(before: &[OwnClass], class: &OwnClass) -> Option<Phras
     if before.len() >= MAX_CLASSES {
         return Some(too_many(Key::Class, MAX_CLASSES));
     }
+    if !class.name().is_name() {
+        return Some(no_name());
+    }
     if DemoClass::from_name(class.name().as_str()).is_some() {
         return Some(Phrase::plain(Form::KnownClass));
     }
@@ -44,15 +75,36 @@ pub(crate) fn class_fault(before: &[OwnClass], class: &OwnClass) -> Option<Phras
     None
 }
 
-// The fault of an operation after these.
-pub(crate) fn operation_fault(before: &[OwnOperation], operation: &OwnOperation) -> Option<Phrase>
+// The fault of an operation with these writes after these operations.
+pub(crate) fn operation_fault(
+    before: &[OwnOperation],
+    operation: &OwnOperation,
+    writes: &[Write],
+) -> Option<Phrase>
     ensures { IfNone result (IsNewOperation before.now operation.now) }
 {
+    if !operation.name.is_name() {
+        return Some(no_name());
+    }
     if has_operation(before, operation.number) {
         return Some(Phrase::plain(Form::Twice));
     }
     if operation_named(before, operation.name.as_bytes()).is_some() {
         return Some(Phrase::one(Form::NameTwice, Shown::Text(operation.name)));
+    }
+    if let Some(wrong) = writes_fault(writes) {
+        return Some(wrong);
+    }
+    None
+}
+
+// The fault of writes of which two write one word.
+fn writes_fault(writes: &[Write]) -> Option<Phrase> {
+    for (place, write) in writes.iter().enumerate() {
+        if writes[..place].iter().any(|other| other.word == write.word) {
+            let word = Shown::Number(u64::from(write.word));
+            return Some(Phrase::one(Form::WrittenTwice, word));
+        }
     }
     None
 }
@@ -69,60 +121,42 @@ fn has_operation(operations: &[OwnOperation], number: u16) -> bool
 
 // The fault of a node after these.
 pub(crate) fn node_fault(before: &[NodePlace], node: &NodePlace) -> Option<Phrase>
+    requires { node.now.address ≡ first_of node.now.addresses }
     ensures { IfNone result (IsNewNode before.now node.now) }
 {
     if before.len() >= MAX_NODES {
         return Some(too_many(Key::Node, MAX_NODES));
     }
-    if has_node(before, node.number) {
+    if node_of(before, node.number).is_some() {
         return Some(Phrase::plain(Form::Twice));
-    }
-    if node.addresses.as_slice().is_empty() || !stands_at_first(node) {
-        return Some(Phrase::plain(Form::NotAddresses));
     }
     if let Some(wrong) = addresses_fault(before, node.addresses.as_slice()) {
         return Some(wrong);
     }
-    status_fault(before, node.status)
-}
-
-fn has_node(nodes: &[NodePlace], number: u32) -> bool
-    ensures { result ≡ list_any (λ n. n.number == number) nodes.now }
-{
-    nodes.iter().any(|node| node.number == number)
-}
-
-fn stands_at_first(node: &NodePlace) -> bool
-    ensures { result ≡ same_address node.now.address (first_of node.now.addresses) }
-{
-    node.address == node.addresses.first()
+    if let Some(wrong) = status_fault(before, node.status) {
+        return Some(wrong);
+    }
+    None
 }
 
 // The fault of the addresses of a node after these nodes.
 fn addresses_fault(nodes: &[NodePlace], addresses: &[SocketAddr]) -> Option<Phrase>
-    ensures { IfNone result (EachAfter (IsNewAddress nodes.now) addresses.now) }
+    ensures { IfNone result (AreAddresses nodes.now addresses.now) }
 {
+    if addresses.is_empty() {
+        return Some(Phrase::plain(Form::NotAddresses));
+    }
     for (place, address) in addresses.iter().enumerate() {
         let before = &addresses[..place];
         if has_address(before, *address) {
             let shown = Shown::Address(*address);
             return Some(Phrase::one(Form::AddressTwice, shown));
         }
-        if is_mixed(before, *address) {
-            return Some(Phrase::plain(Form::OtherFamily));
-        }
-        if let Some(wrong) = address_fault(nodes, &[], *address) {
+        if let Some(wrong) = address_fault(nodes, &[], before, *address) {
             return Some(wrong);
         }
     }
     None
-}
-
-// Whether an address is of another family than one of these.
-fn is_mixed(addresses: &[SocketAddr], address: SocketAddr) -> bool
-    ensures { result ≡ list_any (other_family address) addresses.now }
-{
-    addresses.iter().any(|other| other_family(address, *other))
 }
 
 fn other_family(address: SocketAddr, other: SocketAddr) -> bool
@@ -131,13 +165,14 @@ fn other_family(address: SocketAddr, other: SocketAddr) -> bool
     address.is_ipv4() != other.is_ipv4()
 }
 
-// The fault of the address of a party after these.
+// The fault of the address of a party after these. The party has its own addresses already.
 fn address_fault(
     nodes: &[NodePlace],
     clients: &[ClientPlace],
+    own: &[SocketAddr],
     address: SocketAddr,
 ) -> Option<Phrase>
-    ensures { IfNone result (IsFree nodes.now clients.now address) }
+    ensures { IfNone result (IsFree nodes.now clients.now own.now address) }
 {
     if address.port() == 0 {
         return Some(Phrase::one(Form::NotAnAddress, Shown::Key(Key::Address)));
@@ -148,7 +183,7 @@ fn address_fault(
     if let Some(place) = client_at(clients, address) {
         return Some(used_by(Key::Client, place.client.0));
     }
-    match first_address(nodes, clients) {
+    match first_address(nodes, clients, own) {
         Some(first) if other_family(first, address) => Some(Phrase::plain(Form::OtherFamily)),
         _ => None,
     }
@@ -174,13 +209,18 @@ fn client_at(clients: &[ClientPlace], address: SocketAddr) -> Option<&ClientPlac
 }
 
 // The first address of the file, if there is one.
-fn first_address(nodes: &[NodePlace], clients: &[ClientPlace]) -> Option<SocketAddr>
-    ensures { result ≡ first_address nodes.now clients.now }
+fn first_address(
+    nodes: &[NodePlace],
+    clients: &[ClientPlace],
+    own: &[SocketAddr],
+) -> Option<SocketAddr>
+    ensures { result ≡ first_address nodes.now clients.now own.now }
 {
-    match (nodes, clients) {
-        ([node, ..], _) => Some(node.address),
-        ([], [client, ..]) => Some(client.address),
-        ([], []) => None,
+    match (nodes, clients, own) {
+        ([node, ..], _, _) => Some(node.address),
+        ([], [client, ..], _) => Some(client.address),
+        ([], [], [address, ..]) => Some(*address),
+        ([], [], []) => None,
     }
 }
 
@@ -228,22 +268,16 @@ pub(crate) fn handler_fault(
     if before.len() >= MAX_HANDLERS {
         return Some(too_many(Key::Handler, MAX_HANDLERS));
     }
-    if has_handler(before, place.handler.0) {
+    if handler_of(before, place.handler).is_some() {
         return Some(Phrase::plain(Form::Twice));
     }
     if let Some(wrong) = name_fault(before, place.name) {
         return Some(wrong);
     }
-    if !has_node(nodes, place.node) {
+    if node_of(nodes, place.node).is_none() {
         return Some(numbered(Form::NoSuchNode, place.node));
     }
     words_fault(classes, place)
-}
-
-fn has_handler(handlers: &[HandlerPlace], number: u32) -> bool
-    ensures { result ≡ list_any (λ h. h.handler.0 == number) handlers.now }
-{
-    handlers.iter().any(|place| place.handler.0 == number)
 }
 
 // The fault of the name of a handler after these.
@@ -251,6 +285,9 @@ fn name_fault(before: &[HandlerPlace], name: Option<Name>) -> Option<Phrase>
     ensures { IfNone result (IfSome name (IsNewName before.now)) }
 {
     let name = name?;
+    if !name.is_name() {
+        return Some(no_name());
+    }
     if is(name.as_bytes(), "when") {
         return Some(Phrase::one(Form::LineWord, Shown::Text(name)));
     }
@@ -319,25 +356,19 @@ pub(crate) fn client_fault(
     if before.len() >= MAX_CLIENTS {
         return Some(too_many(Key::Client, MAX_CLIENTS));
     }
-    if has_client(before, place.client.0) {
+    if client_of(before, place.client).is_some() {
         return Some(Phrase::plain(Form::Twice));
     }
     if place.batch == 0 || usize::from(place.batch) > MAX_ENTRIES {
         return Some(out_of_range(Key::Batch, 1, MAX_ENTRIES as u64));
     }
-    if let Some(wrong) = address_fault(nodes, before, place.address) {
+    if let Some(wrong) = address_fault(nodes, before, &[], place.address) {
         return Some(wrong);
     }
     match &place.handlers {
         Some(named) => named_fault(handlers, named.as_slice()),
         None => None,
     }
-}
-
-fn has_client(clients: &[ClientPlace], number: u32) -> bool
-    ensures { result ≡ list_any (λ c. c.client.0 == number) clients.now }
-{
-    clients.iter().any(|place| place.client.0 == number)
 }
 
 // The fault of the handlers that a client names.
@@ -351,7 +382,7 @@ fn named_fault(handlers: &[HandlerPlace], named: &[HandlerId]) -> Option<Phrase>
         if is_among(&named[..place], *handler) {
             return Some(numbered(Form::HandlerTwice, handler.0));
         }
-        if !has_handler(handlers, handler.0) {
+        if handler_of(handlers, *handler).is_none() {
             return Some(numbered(Form::NoSuchHandler, handler.0));
         }
     }
@@ -359,6 +390,11 @@ fn named_fault(handlers: &[HandlerPlace], named: &[HandlerId]) -> Option<Phrase>
 }
 
 // ---- texts
+
+// The value of the key is no name.
+fn no_name() -> Phrase {
+    Phrase::one(Form::NotAName, Shown::Key(Key::Name))
+}
 
 // The value of the key isn't a whole number from `low`, which is 0 or 1, to `high`.
 pub(crate) fn out_of_range(key: Key, low: u64, high: u64) -> Phrase {

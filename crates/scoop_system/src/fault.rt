@@ -1,8 +1,7 @@
 //! Faults in the text of a system.
 
-use crate::key::Key;
 use crate::name::Name;
-use crate::phrase::{Form, Phrase};
+use crate::phrase::{Form, Phrase, Shown};
 use std::error::Error;
 use std::{fmt, mem};
 
@@ -27,10 +26,8 @@ pub struct TomlFault {
     /// In characters, not bytes.
     pub column: usize,
     pub error: toml::de::Error,
-    /// The kind of a table in single brackets, as `[node]`, before a fault at a later table.
-    pub single: Option<Key>,
-    /// Whether a `[[class.operation]]` stands before the first `[[class]]`, which is the fault.
-    pub early: bool,
+    /// The cause, if a table above is written wrongly: `: a node is written [[node]], not [node]`. Else empty.
+    pub hint: &'static str,
 }
 
 /// The faults of a file, in the order of its lines. All are counted, and the first ones kept.
@@ -78,8 +75,9 @@ impl Faults {
         self.count = self.count.saturating_add(1);
     }
 
-    pub(crate) fn is_empty(&self) -> bool {
-        self.count == 0
+    // How many there are.
+    pub(crate) fn count(&self) -> usize {
+        self.count
     }
 
     /// The first faults, at most twenty.
@@ -90,6 +88,18 @@ impl Faults {
     /// How many faults come after these.
     pub fn more(&self) -> usize {
         self.count.saturating_sub(MAX_FAULTS)
+    }
+}
+
+impl Fault {
+    // The second line of its text.
+    fn line_phrase(&self) -> Phrase {
+        let line = Shown::Number(self.line as u64);
+        match self.nearest {
+            _ if self.line == 0 => Phrase::plain(Form::Whole),
+            None => Phrase::one(Form::Line, line),
+            Some(nearest) => Phrase::two(Form::LineNear, line, Shown::Text(nearest)),
+        }
     }
 }
 
@@ -117,11 +127,7 @@ impl fmt::Display for TomlFault {
         let line = self.line;
         let column = self.column;
         let message = self.error.message();
-        let hint = match self.single {
-            _ if self.early => ": a [[class.operation]] comes after its [[class]]",
-            Some(key) => key.hint(),
-            None => "",
-        };
+        let hint = self.hint;
         write!(f, "line {line}, column {column}: {message}{hint}")
     }
 }
@@ -143,13 +149,8 @@ impl fmt::Display for Faults {
 impl fmt::Display for Fault {
     fn fmt<W: fmt::Write>(&self, f: &mut fmt::Formatter<W>) -> fmt::Result {
         let place = self.place;
-        let end = place.form.end();
         let wrong = self.wrong;
-        write!(f, "{place}{end}{wrong}")?;
-        match (self.line, self.nearest) {
-            (0, _) => Ok(()),
-            (line, None) => write!(f, "\n  line {line}"),
-            (line, Some(nearest)) => write!(f, "\n  line {line}: did you mean \"{nearest}\"?"),
-        }
+        let line = self.line_phrase();
+        write!(f, "{place}{wrong}{line}")
     }
 }

@@ -51,7 +51,7 @@ pub use fault::{Fault, Faults, MAX_FAULTS, SystemError, TomlFault};
 pub use identity::Identity;
 pub use key::Key;
 pub use line::{ClientLine, LineFault, LineFaultIn, MAX_NAMED, read_line};
-pub use name::{MAX_NAME_LEN, Name, is_name};
+pub use name::{MAX_NAME_LEN, Name};
 pub use named_handlers::NamedHandlers;
 pub use node_addresses::{MAX_ADDRESSES, NodeAddresses};
 pub use phrase::{Form, Phrase, Shown};

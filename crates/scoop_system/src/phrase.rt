@@ -43,6 +43,11 @@ pub enum Form {
     Operation,
     /// The operation of this count, in the class of a name: it has no number.
     CountedOperation,
+    // ---- lines
+    /// The line of a fault.
+    Line,
+    /// The same, with the nearest known word.
+    LineNear,
     // ---- faults
     /// No such table may have the key.
     UnknownKey,
@@ -126,6 +131,7 @@ impl Form {
             Form::Class => "class \"",
             Form::Operation => "operation ",
             Form::CountedOperation => "[[class.operation]] ",
+            Form::Line | Form::LineNear => "\n  line ",
             Form::UnknownKey => "unknown key \"",
             Form::Missing => "no ",
             Form::NotAddresses => "address must be one address or a list of 1 to 4",
@@ -161,8 +167,9 @@ impl Form {
         match self {
             Form::Numbered | Form::AddressOf => " ",
             Form::Counted => "]] ",
-            Form::Class | Form::UnknownKey | Form::NoSuchClass | Form::NoHandlerNamed => "\"",
+            Form::UnknownKey | Form::NoSuchClass | Form::NoHandlerNamed => "\"",
             Form::Operation | Form::CountedOperation => " of class \"",
+            Form::LineNear => ": did you mean \"",
             Form::NotFromZero => " must be a whole number from 0 to ",
             Form::NotFromOne => " must be a whole number from 1 to ",
             Form::NotAName => {
@@ -187,12 +194,13 @@ impl Form {
         }
     }
 
-    // The text between a place of this form and its fault.
-    pub(crate) fn end(self) -> &'static str {
+    // The text after the second word: a place ends in a colon.
+    fn end(self) -> &'static str {
         match self {
-            Form::Whole => "",
-            Form::Operation | Form::CountedOperation => "\": ",
-            _ => ": ",
+            Form::At | Form::Numbered | Form::Counted => ": ",
+            Form::Class | Form::Operation | Form::CountedOperation => "\": ",
+            Form::LineNear => "\"?",
+            _ => "",
         }
     }
 }
@@ -223,7 +231,8 @@ impl fmt::Display for Phrase {
         let first = self.first;
         let after = self.form.after();
         let second = self.second;
-        write!(f, "{before}{first}{after}{second}")
+        let end = self.form.end();
+        write!(f, "{before}{first}{after}{second}{end}")
     }
 }
 

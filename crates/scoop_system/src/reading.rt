@@ -15,15 +15,17 @@ mod party;
 mod suggesting;
 mod toml_fault;
 
+use crate::check::identity_fault;
 use crate::class::OwnClass;
 use crate::fault::SystemError;
 use crate::identity::Identity;
 use crate::key::Key;
+use crate::phrase::Phrase;
 use crate::place::{ClientPlace, HandlerPlace, NodePlace};
 use crate::system::System;
 use class::read_classes;
 use found::Found;
-use item::{Item, Kind};
+use item::{Kind, number_at};
 use party::{read_clients, read_handlers, read_nodes};
 use scoop_message::OutOfMemory;
 use std::alloc::Global;
@@ -54,7 +56,7 @@ fn read_file<'a>(alloc: Global, text: &'a str, file: &'a Value) -> Result<System
 {
     let mut found = Found::new(alloc, text, file);
     match read_parts(&mut found) {
-        Ok(system) if found.faults.is_empty() => Ok(system),
+        Ok(system) if found.faults.count() == 0 => Ok(system),
         Ok(_) if !found.refused => Err(SystemError::Faults(found.faults)),
         _ => Err(SystemError::OutOfMemory),
     }
@@ -77,6 +79,15 @@ fn read_parts(found: &mut Found<'_>) -> Result<System, OutOfMemory>
 }
 
 // Fills empty lists. They are borrowed, so that no early return has to drop them.
+#[tactic(
+    auto,
+    using(
+        crate::proofs::WellFormedLemmas::classes_none,
+        crate::proofs::WellFormedLemmas::nodes_none,
+        crate::proofs::WellFormedLemmas::handlers_none,
+        crate::proofs::WellFormedLemmas::clients_none
+    )
+)]
 fn read_lists(
     found: &mut Found<'_>,
     classes: &mut Vec<OwnClass>,
@@ -101,7 +112,7 @@ fn read_identity(found: &mut Found<'_>) -> Identity
     ensures { IsIdentity result }
 {
     let file = found.file();
-    found.has_keys(
+    found.check_keys(
         &file,
         &[
             Key::System,
@@ -111,32 +122,28 @@ fn read_identity(found: &mut Found<'_>) -> Identity
             Key::Client,
         ],
     );
-    match file.value.get("system") {
-        Some(value) => identity_of(&Item::of(value, Kind::System, 1), found),
-        None => Identity::none(),
+    let Some(table) = file.value.get("system") else {
+        return Identity::none();
+    };
+    let item = found.item(table, Kind::System, 0);
+    found.check_keys(&item, &[Key::Name, Key::Life]);
+    let identity = Identity {
+        name: found.optional_name(&item),
+        life: found.or_blank(&item, life_at(table), None),
+    };
+    let wrong = identity_fault(&identity);
+    if found.passes(&item, wrong) {
+        identity
+    } else {
+        Identity::none()
     }
 }
 
-// The name and the life in a table.
-fn identity_of(item: &Item<'_>, found: &mut Found<'_>) -> Identity
-    ensures { IsIdentity result }
-{
-    if !found.has_keys(item, &[Key::Name, Key::Life]) {
-        return Identity::none();
+// The life in a table, if it has one.
+fn life_at(table: &Value) -> Result<Option<u32>, Phrase> {
+    if table.get("life").is_none() {
+        return Ok(None);
     }
-    let name = match item.value.get("name") {
-        Some(_) => found.name(item, Key::Name),
-        None => None,
-    };
-    let life = match item.value.get("life") {
-        Some(_) => found.number(item, Key::Life, 1, u64::from(u32::MAX)),
-        None => None,
-    };
-    match life {
-        Some(life) => Identity {
-            name,
-            life: Some(life as u32),
-        },
-        None => Identity { name, life: None },
-    }
+    let life = number_at(table, Key::Life, 1, u64::from(u32::MAX))?;
+    Ok(Some(life as u32))
 }

@@ -6,7 +6,7 @@ use std::error::Error;
 use std::fmt;
 
 /// The fault of a line. Printed in words, as `not a number "stock"`.
-#[derive(Clone, Copy, Debug, PartialEq, Eq)]
+#[derive(Clone, Copy)]
 pub enum LineFault {
     /// The first word is unknown.
     UnknownLine(ShownWord),
@@ -67,6 +67,12 @@ impl fmt::Display for LineFault {
             | LineFault::TooManyHandlers
             | LineFault::TooManyConditions => f.write_str(self.plain_text()),
         }
+    }
+}
+
+impl fmt::Debug for LineFault {
+    fn fmt<W: fmt::Write>(&self, f: &mut fmt::Formatter<W>) -> fmt::Result {
+        write!(f, "{self}")
     }
 }
 

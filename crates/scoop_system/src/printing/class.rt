@@ -9,10 +9,9 @@ use std::{fmt, io};
 /// Writes a class: a line of its name and its number of words, and a line for each operation.
 pub fn print_class<W: Write>(class: &OwnClass, writer: &mut W) -> io::Result<()> {
     let name = class.name();
-    match class.class().words() {
-        1 => writeln!(writer, "class {name} 1 word")?,
-        words => writeln!(writer, "class {name} {words} words")?,
-    }
+    let words = class.class().words();
+    let end = if words == 1 { "" } else { "s" };
+    writeln!(writer, "class {name} {words} word{end}")?;
     for (row, operation) in class.class().rows().iter().zip(class.operations()) {
         print_row(row, operation.name, writer)?;
     }
@@ -22,30 +21,46 @@ pub fn print_class<W: Write>(class: &OwnClass, writer: &mut W) -> io::Result<()>
 // An operation: its number and its name, its test if it has one, its writes and its answer.
 fn print_row<W: Write>(row: &OpRow, name: Name, writer: &mut W) -> io::Result<()> {
     let number = row.op;
-    write!(writer, "  {number} {name}: ")?;
-    if let Some((left, right)) = row.test {
-        let (left, right) = (Printed(left), Printed(right));
-        write!(writer, "{left} <= {right}; ")?;
-    }
-    let mut end = "";
-    for write in row.writes.as_slice() {
-        writer.write_all(end.as_bytes())?;
-        print_write(write, writer)?;
-        end = ", ";
-    }
-    if !end.is_empty() {
-        writer.write_all(b"; ")?;
-    }
+    let test = PrintedTest(row.test);
+    let writes = PrintedWrites(row.writes.as_slice());
     let answer = Printed(row.answer);
-    writeln!(writer, "{answer}")
+    writeln!(writer, "  {number} {name}: {test}{writes}{answer}")
 }
 
-fn print_write<W: Write>(write: &WordWrite, writer: &mut W) -> io::Result<()> {
-    let word = write.word;
-    let base = Printed(write.base);
-    let plus = Printed(write.plus);
-    let minus = Printed(write.minus);
-    write!(writer, "w{word} := {base} + {plus} - {minus}")
+// A test as `check` prints it.
+#[derive(Clone, Copy)]
+struct PrintedTest(Option<(Term, Term)>);
+
+impl fmt::Display for PrintedTest {
+    fn fmt<W: fmt::Write>(&self, f: &mut fmt::Formatter<W>) -> fmt::Result {
+        match self.0 {
+            Some((left, right)) => {
+                let (left, right) = (Printed(left), Printed(right));
+                write!(f, "{left} <= {right}; ")
+            }
+            None => Ok(()),
+        }
+    }
+}
+
+// Writes as `check` prints them.
+#[derive(Clone, Copy)]
+struct PrintedWrites<'a>(&'a [WordWrite]);
+
+impl fmt::Display for PrintedWrites<'_> {
+    fn fmt<W: fmt::Write>(&self, f: &mut fmt::Formatter<W>) -> fmt::Result {
+        let mut left = self.0.len();
+        for write in self.0 {
+            left = left.saturating_sub(1);
+            let word = write.word;
+            let base = Printed(write.base);
+            let plus = Printed(write.plus);
+            let minus = Printed(write.minus);
+            let end = if left == 0 { "; " } else { ", " };
+            write!(f, "w{word} := {base} + {plus} - {minus}{end}")?;
+        }
+        Ok(())
+    }
 }
 
 // A term as a file writes it.

@@ -1,5 +1,7 @@
 //! The terms, tests and writes of an operation: `w0`, `a0 <= w0`, `w0 = w0 + a0 - a1`.
 
+use super::item::{needed, values_of};
+use crate::key::Key;
 use crate::name::Name;
 use crate::phrase::{Form, Phrase, Shown};
 use scoop_lines::{decimal, is, next_word};
@@ -7,52 +9,64 @@ use scoop_message::limits::MAX_ARGS;
 use scoop_object::{Term, Write};
 use toml::Value;
 
-// A term that a value writes, in a class of this many words.
-pub(super) fn read_term(value: &Value, words: u8) -> Result<Term, Phrase> {
+// A term, in a class of this many words: a word, an argument, or a constant in decimal digits.
+fn term(text: &[u8], words: u8) -> Result<Term, Phrase> {
+    let wrong = match text {
+        [b'w', digits @ ..] => match decimal(digits) {
+            Some(place) if place < u64::from(words) => return Ok(Term::Word(place as u8)),
+            Some(_) => Form::NoSuchWord,
+            None => Form::NotATerm,
+        },
+        [b'a', digits @ ..] => match decimal(digits) {
+            Some(place) if place < MAX_ARGS as u64 => return Ok(Term::Arg(place as u8)),
+            Some(_) => Form::NoSuchArgument,
+            None => Form::NotATerm,
+        },
+        _ => match decimal(text) {
+            Some(number) => return Ok(Term::Const(number)),
+            None => Form::NotATerm,
+        },
+    };
+    Err(Phrase::one(wrong, Shown::Text(Name::told_bytes(text))))
+}
+
+// The text of a term.
+fn term_text(value: &Value) -> Result<&[u8], Phrase> {
     match value.as_str() {
-        Some(text) => term(text.as_bytes(), words),
+        Some(text) => Ok(text.as_bytes()),
         None => Err(Phrase::plain(Form::NotAText)),
     }
 }
 
-// A term: a word, an argument, or a constant in decimal digits.
-fn term(text: &[u8], words: u8) -> Result<Term, Phrase> {
-    let shown = Shown::Text(Name::told_bytes(text));
-    let term = match text {
-        [b'w', digits @ ..] => match decimal(digits) {
-            Some(place) if place < u64::from(words) => Some(Term::Word(place as u8)),
-            Some(_) => return Err(Phrase::one(Form::NoSuchWord, shown)),
-            None => None,
-        },
-        [b'a', digits @ ..] => match decimal(digits) {
-            Some(place) if place < MAX_ARGS as u64 => Some(Term::Arg(place as u8)),
-            Some(_) => return Err(Phrase::one(Form::NoSuchArgument, shown)),
-            None => None,
-        },
-        _ => decimal(text).map(Term::Const),
-    };
-    match term {
-        Some(term) => Ok(term),
-        None => Err(Phrase::one(Form::NotATerm, shown)),
-    }
+// The answer of an operation.
+pub(super) fn answer_at(table: &Value, words: u8) -> Result<Term, Phrase> {
+    term(term_text(needed(table, Key::Answer)?)?, words)
 }
 
-// A test: a formula, or a list of two terms.
-pub(super) fn read_test(value: &Value, words: u8) -> Result<(Term, Term), Phrase> {
+// The test of an operation, if it has one.
+pub(super) fn test_at(table: &Value, words: u8) -> Result<Option<(Term, Term)>, Phrase> {
+    let Some(value) = table.get("test") else {
+        return Ok(None);
+    };
+    let (left, right) = test_texts(value)?;
+    Ok(Some((term(left, words)?, term(right, words)?)))
+}
+
+// The terms of a test, which is a formula or a list of two terms.
+fn test_texts(value: &Value) -> Result<(&[u8], &[u8]), Phrase> {
     if let Some(text) = value.as_str() {
-        let Some((left, right)) = test_words(text.as_bytes()) else {
-            let shown = Shown::Text(Name::told(text));
-            return Err(Phrase::one(Form::NotATestFormula, shown));
+        return match test_words(text.as_bytes()) {
+            Some(texts) => Ok(texts),
+            None => Err(not_a(Form::NotATestFormula, text)),
         };
-        return Ok((term(left, words)?, term(right, words)?));
     }
-    match value.as_array().map(Vec::as_slice) {
-        Some([left, right]) => Ok((read_term(left, words)?, read_term(right, words)?)),
+    match values_of(value) {
+        [left, right] => Ok((term_text(left)?, term_text(right)?)),
         _ => Err(Phrase::plain(Form::NotATest)),
     }
 }
 
-// The two terms of `LEFT <= RIGHT`.
+// The terms of `LEFT <= RIGHT`.
 fn test_words(text: &[u8]) -> Option<(&[u8], &[u8])> {
     let (left, rest) = next_word(text)?;
     let (sign, rest) = next_word(rest)?;
@@ -64,29 +78,15 @@ fn test_words(text: &[u8]) -> Option<(&[u8], &[u8])> {
     }
 }
 
-// A write: a formula, or a list of a word and the three terms of `base + plus - minus`.
+// A write, in a class of this many words.
 pub(super) fn read_write(value: &Value, words: u8) -> Result<Write, Phrase> {
-    if let Some(text) = value.as_str() {
-        let Some(write) = write_words(text.as_bytes()) else {
-            let shown = Shown::Text(Name::told(text));
-            return Err(Phrase::one(Form::NotAWriteFormula, shown));
-        };
-        return Ok(Write {
-            word: word_of(term(write.word, words)?)?,
-            base: term(write.base, words)?,
-            plus: term(write.plus, words)?,
-            minus: term(write.minus, words)?,
-        });
-    }
-    match value.as_array().map(Vec::as_slice) {
-        Some([word, base, plus, minus]) => Ok(Write {
-            word: word_of(read_term(word, words)?)?,
-            base: read_term(base, words)?,
-            plus: read_term(plus, words)?,
-            minus: read_term(minus, words)?,
-        }),
-        _ => Err(Phrase::plain(Form::NotAWrite)),
-    }
+    let texts = write_texts(value)?;
+    Ok(Write {
+        word: word_of(term(texts.word, words)?)?,
+        base: term(texts.base, words)?,
+        plus: term(texts.plus, words)?,
+        minus: term(texts.minus, words)?,
+    })
 }
 
 // The word that a write names.
@@ -97,24 +97,43 @@ fn word_of(term: Term) -> Result<u8, Phrase> {
     }
 }
 
-// The words of a write.
+// The texts of a write's terms.
 #[derive(Clone, Copy)]
-struct WriteWords<'a> {
+struct WriteTexts<'a> {
     word: &'a [u8],
     base: &'a [u8],
     plus: &'a [u8],
     minus: &'a [u8],
 }
 
-// The words of `WORD = BASE + PLUS - MINUS`.
-fn write_words(text: &[u8]) -> Option<WriteWords<'_>> {
+// The terms of a write, which is a formula, or a list of a word and the three terms of `base + plus - minus`.
+fn write_texts(value: &Value) -> Result<WriteTexts<'_>, Phrase> {
+    if let Some(text) = value.as_str() {
+        return match write_words(text.as_bytes()) {
+            Some(texts) => Ok(texts),
+            None => Err(not_a(Form::NotAWriteFormula, text)),
+        };
+    }
+    match values_of(value) {
+        [word, base, plus, minus] => Ok(WriteTexts {
+            word: term_text(word)?,
+            base: term_text(base)?,
+            plus: term_text(plus)?,
+            minus: term_text(minus)?,
+        }),
+        _ => Err(Phrase::plain(Form::NotAWrite)),
+    }
+}
+
+// The terms of `WORD = BASE + PLUS - MINUS`.
+fn write_words(text: &[u8]) -> Option<WriteTexts<'_>> {
     let (word, rest) = next_word(text)?;
     let (sign, rest) = next_word(rest)?;
     let (base, rest) = next_word(rest)?;
     let (plus, rest) = signed(rest, "+")?;
     let (minus, rest) = signed(rest, "-")?;
     if (is(sign, "=") || is(sign, ":=")) && next_word(rest).is_none() {
-        Some(WriteWords {
+        Some(WriteTexts {
             word,
             base,
             plus,
@@ -131,4 +150,9 @@ fn signed<'a>(line: &'a [u8], sign: &str) -> Option<(&'a [u8], &'a [u8])> {
         Some((word, rest)) if is(word, sign) => next_word(rest),
         _ => Some((b"0", line)),
     }
+}
+
+// A text that is no formula.
+fn not_a(form: Form, text: &str) -> Phrase {
+    Phrase::one(form, Shown::Text(Name::told(text)))
 }

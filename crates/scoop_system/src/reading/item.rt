@@ -1,5 +1,8 @@
 //! A table of a file, and the values in it.
 
+ghost use Rattle.std.specs.Prelude.{◌≤◌, IfOk};
+
+use crate::check::out_of_range;
 use crate::key::Key;
 use crate::name::{Name, is_name};
 use crate::phrase::{Form, Phrase, Shown};
@@ -29,6 +32,8 @@ pub(super) struct Item<'a> {
     // The place of an operation's class among the classes.
     pub(super) class: usize,
     pub(super) place: Phrase,
+    // The number of faults that were found before it.
+    pub(super) faults: usize,
 }
 
 impl Kind {
@@ -57,59 +62,31 @@ impl Kind {
     }
 }
 
-impl<'a> Item<'a> {
-    // The table at this place among those of its kind.
-    pub(super) fn of(value: &'a Value, kind: Kind, count: usize) -> Item<'a> {
-        Item {
-            value,
-            kind,
-            count,
-            class: 0,
-            place: place_of(value, kind, count),
-        }
-    }
-
-    // The operation at this place of the class, which has this name.
-    pub(super) fn operation(
-        value: &'a Value,
-        count: usize,
-        class: &Item<'_>,
-        name: Name,
-    ) -> Item<'a> {
-        let (form, number) = match number_below(value, u64::from(u16::MAX)) {
-            Some(number) => (Form::Operation, number),
-            None => (Form::CountedOperation, count as u64),
-        };
-        Item {
-            value,
-            kind: Kind::Operation,
-            count,
-            class: class.count,
-            place: Phrase::two(form, Shown::Number(number), Shown::Text(name)),
-        }
-    }
-}
-
 // How faults name a table: by its number or its name, or by its count if it has none.
-fn place_of(value: &Value, kind: Kind, count: usize) -> Phrase {
-    match kind {
-        Kind::File => Phrase::plain(Form::Whole),
-        Kind::System => Phrase::one(Form::At, Shown::Key(Key::System)),
+pub(super) fn place_of(value: &Value, kind: Kind, count: usize) -> Phrase {
+    let key = Shown::Key(kind.key());
+    let named = match kind {
+        Kind::File => return Phrase::plain(Form::Whole),
+        Kind::System => return Phrase::one(Form::At, key),
         Kind::Class => match text_name(value.get("name")) {
-            Some(name) => Phrase::one(Form::Class, Shown::Text(name)),
-            None => keyed(Form::Counted, kind, count as u64),
+            Some(name) => return Phrase::one(Form::Class, Shown::Text(name)),
+            None => None,
         },
-        Kind::Operation | Kind::Node | Kind::Handler | Kind::Client => {
-            match number_below(value, u64::from(u32::MAX)) {
-                Some(number) => keyed(Form::Numbered, kind, number),
-                None => keyed(Form::Counted, kind, count as u64),
-            }
-        }
+        _ => number_below(value, u64::from(u32::MAX)),
+    };
+    match named {
+        Some(number) => Phrase::two(Form::Numbered, key, Shown::Number(number)),
+        None => Phrase::two(Form::Counted, key, Shown::Number(count as u64)),
     }
 }
 
-fn keyed(form: Form, kind: Kind, number: u64) -> Phrase {
-    Phrase::two(form, Shown::Key(kind.key()), Shown::Number(number))
+// The same of an operation of the class of this name.
+pub(super) fn place_of_operation(value: &Value, count: usize, class: Name) -> Phrase {
+    let class = Shown::Text(class);
+    match number_below(value, u64::from(u16::MAX)) {
+        Some(number) => Phrase::two(Form::Operation, Shown::Number(number), class),
+        None => Phrase::two(Form::CountedOperation, Shown::Number(count as u64), class),
+    }
 }
 
 // The number of a table, if it isn't above `high`.
@@ -117,6 +94,53 @@ fn number_below(value: &Value, high: u64) -> Option<u64> {
     match whole(value.get("number")) {
         Some(number) if number <= high => Some(number),
         _ => None,
+    }
+}
+
+// The value at a key that the table must have.
+pub(super) fn needed(table: &Value, key: Key) -> Result<&Value, Phrase> {
+    match table.get(key.as_str()) {
+        Some(value) => Ok(value),
+        None => Err(Phrase::one(Form::Missing, Shown::Key(key))),
+    }
+}
+
+// The whole number at a key, from `low`, which is 0 or 1, to `high`.
+pub(super) fn number_at(table: &Value, key: Key, low: u64, high: u64) -> Result<u64, Phrase>
+    ensures low { IfOk result (λ number. low ≤ number) }
+    ensures high { IfOk result (λ number. number ≤ high) }
+{
+    match whole(Some(needed(table, key)?)) {
+        Some(number) if low <= number && number <= high => Ok(number),
+        _ => Err(out_of_range(key, low, high)),
+    }
+}
+
+// The name of a table.
+pub(super) fn name_at(table: &Value) -> Result<Name, Phrase> {
+    match text_name(Some(needed(table, Key::Name)?)) {
+        Some(name) => Ok(name),
+        None => Err(Phrase::one(Form::NotAName, Shown::Key(Key::Name))),
+    }
+}
+
+// The address that the value of a key writes.
+pub(super) fn address_of(value: &Value, key: Key) -> Result<SocketAddr, Phrase> {
+    let wrong = Phrase::one(Form::NotAnAddress, Shown::Key(key));
+    let Some(text) = value.as_str() else {
+        return Err(wrong);
+    };
+    match text.parse::<SocketAddr>() {
+        Ok(address) => Ok(address),
+        Err(_) => Err(wrong),
+    }
+}
+
+// The values of a list; none if it isn't one.
+pub(super) fn values_of(value: &Value) -> &[Value] {
+    match value.as_array() {
+        Some(values) => values.as_slice(),
+        None => &[],
     }
 }
 
@@ -141,9 +165,4 @@ pub(super) fn text_name(value: Option<&Value>) -> Option<Name> {
     } else {
         None
     }
-}
-
-// The address that a value writes.
-pub(super) fn address(value: &Value) -> Option<SocketAddr> {
-    value.as_str()?.parse::<SocketAddr>().ok()
 }

@@ -1,10 +1,11 @@
 //! The nodes, handlers and clients of a file.
 
-ghost use Rattle.std.specs.Prelude.{OnOk};
-ghost use Rattle.scoop_system.specs.WellFormed.{EachAfter, IsNewClient, IsNewHandler, IsNewNode};
+ghost use Rattle.std.specs.Prelude.{◌≡◌, OnOk};
+ghost use Rattle.scoop_system.specs.Address.{first_of};
+ghost use Rattle.scoop_system.specs.WellFormed.{AreClients, AreHandlers, AreNodes};
 
 use super::found::Found;
-use super::item::{Item, Kind, address, text_name, whole, word};
+use super::item::{Item, Kind, address_of, needed, text_name, values_of, whole, word};
 use crate::check::{client_fault, handler_fault, node_fault};
 use crate::class::OwnClass;
 use crate::key::Key;
@@ -20,77 +21,67 @@ use scoop_message::{ClientId, HandlerId, OutOfMemory, Words};
 use std::net::SocketAddr;
 use toml::Value;
 
+// ---- nodes
+
 // Adds the nodes of a file.
 pub(super) fn read_nodes(
     nodes: &mut Vec<NodePlace>,
     found: &mut Found<'_>,
 ) -> Result<(), OutOfMemory>
-    requires { EachAfter IsNewNode nodes.old.items }
-    ensures { OnOk result (EachAfter IsNewNode nodes.new.items) }
+    requires { AreNodes nodes.old.items }
+    ensures { OnOk result (AreNodes nodes.new.items) }
 {
-    let file = found.file();
-    let values = found.list(&file, Key::Node, MAX_NODES);
+    let values = found.tables(Kind::Node, MAX_NODES);
     for (before, value) in values.iter().enumerate() {
-        let item = Item::of(value, Kind::Node, before.saturating_add(1));
-        if let Some(node) = read_node(&item, found) {
-            match node_fault(nodes.as_slice(), &node) {
-                None => nodes.push(node)?,
-                Some(wrong) => found.add(&item, wrong),
-            }
-        }
+        let item = found.item(value, Kind::Node, before);
+        let node = read_node(&item, found);
+        let wrong = node_fault(nodes.as_slice(), &node);
+        found.keep(&item, wrong, node, nodes)?;
     }
     Ok(())
 }
 
-fn read_node(item: &Item<'_>, found: &mut Found<'_>) -> Option<NodePlace> {
-    if !found.has_keys(item, &[Key::Number, Key::Address, Key::Status]) {
-        return None;
-    }
-    let number = found.number(item, Key::Number, 0, u64::from(u32::MAX));
-    let addresses = read_addresses(item, found);
-    let status = match item.value.get("status") {
-        Some(status) => Some(read_address(item, status, Key::Status, found)?),
-        None => None,
-    };
-    let addresses = addresses?;
-    Some(NodePlace {
-        number: number? as u32,
+fn read_node(item: &Item<'_>, found: &mut Found<'_>) -> NodePlace
+    ensures { result.address ≡ first_of result.addresses }
+{
+    found.check_keys(item, &[Key::Number, Key::Address, Key::Status]);
+    let number = found.number(item, Key::Number, 0, u64::from(u32::MAX)) as u32;
+    let blank = NodeAddresses::one(nowhere());
+    let addresses = found.or_blank(item, addresses_at(item.value), blank);
+    let status = found.or_blank(item, status_at(item.value), None);
+    NodePlace {
+        number,
         address: addresses.first(),
         addresses,
         status,
-    })
+    }
 }
 
-// One address, or a list of them.
-fn read_addresses(item: &Item<'_>, found: &mut Found<'_>) -> Option<NodeAddresses> {
-    let value = found.needed(item, Key::Address)?;
+// The addresses of a node: one address, or a list of them.
+fn addresses_at(table: &Value) -> Result<NodeAddresses, Phrase> {
+    let value = needed(table, Key::Address)?;
     let Some(values) = value.as_array() else {
-        return Some(NodeAddresses::one(read_address(item, value, Key::Address, found)?));
+        return Ok(NodeAddresses::one(address_of(value, Key::Address)?));
     };
     if values.len() > MAX_ADDRESSES {
-        found.add(item, Phrase::plain(Form::NotAddresses));
-        return None;
+        return Err(Phrase::plain(Form::NotAddresses));
     }
     let mut addresses = [nowhere(); MAX_ADDRESSES];
     for (address, value) in addresses.iter_mut().zip(values.as_slice()) {
-        *address = read_address(item, value, Key::Address, found)?;
+        *address = address_of(value, Key::Address)?;
     }
-    Some(NodeAddresses::of(&addresses[..values.len()]))
+    Ok(NodeAddresses::of(&addresses[..values.len()]))
 }
 
-// The address at a key.
-fn read_address(
-    item: &Item<'_>,
-    value: &Value,
-    key: Key,
-    found: &mut Found<'_>,
-) -> Option<SocketAddr> {
-    let address = address(value);
-    if address.is_none() {
-        found.add(item, Phrase::one(Form::NotAnAddress, Shown::Key(key)));
+// The status address of a node, if it has one.
+fn status_at(table: &Value) -> Result<Option<SocketAddr>, Phrase> {
+    match table.get("status") {
+        Some(value) => Ok(Some(address_of(value, Key::Status)?)),
+        None => Ok(None),
     }
-    address
 }
+
+// ---- handlers
 
 // Adds the handlers of a file with these classes and nodes.
 pub(super) fn read_handlers(
@@ -99,72 +90,61 @@ pub(super) fn read_handlers(
     nodes: &[NodePlace],
     found: &mut Found<'_>,
 ) -> Result<(), OutOfMemory>
-    requires { EachAfter (IsNewHandler classes.now nodes.now) handlers.old.items }
-    ensures { OnOk result (EachAfter (IsNewHandler classes.now nodes.now) handlers.new.items) }
+    requires { AreHandlers classes.now nodes.now handlers.old.items }
+    ensures { OnOk result (AreHandlers classes.now nodes.now handlers.new.items) }
 {
-    let file = found.file();
-    let values = found.list(&file, Key::Handler, MAX_HANDLERS);
+    let values = found.tables(Kind::Handler, MAX_HANDLERS);
     for (before, value) in values.iter().enumerate() {
-        let item = Item::of(value, Kind::Handler, before.saturating_add(1));
-        if let Some(handler) = read_handler(&item, found) {
-            match handler_fault(classes, nodes, handlers.as_slice(), &handler) {
-                None => handlers.push(handler)?,
-                Some(wrong) => found.add_checked(&item, wrong),
-            }
-        }
+        let item = found.item(value, Kind::Handler, before);
+        let handler = read_handler(&item, found);
+        let wrong = handler_fault(classes, nodes, handlers.as_slice(), &handler);
+        found.keep(&item, wrong, handler, handlers)?;
     }
     Ok(())
 }
 
-fn read_handler(item: &Item<'_>, found: &mut Found<'_>) -> Option<HandlerPlace> {
+fn read_handler(item: &Item<'_>, found: &mut Found<'_>) -> HandlerPlace {
     let known = [Key::Number, Key::Name, Key::Node, Key::Class, Key::Words];
-    if !found.has_keys(item, &known) {
-        return None;
+    found.check_keys(item, &known);
+    let number = found.number(item, Key::Number, 0, u64::from(u32::MAX)) as u32;
+    let node = found.number(item, Key::Node, 0, u64::from(u32::MAX)) as u32;
+    let class = HandlerClass::Known(DemoClass::Cell);
+    HandlerPlace {
+        handler: HandlerId(number),
+        node,
+        class: found.or_blank(item, class_at(item.value), class),
+        words: found.or_blank(item, words_at(item.value), no_words()),
+        name: found.optional_name(item),
     }
-    let number = found.number(item, Key::Number, 0, u64::from(u32::MAX));
-    let node = found.number(item, Key::Node, 0, u64::from(u32::MAX));
-    let class = read_handler_class(item, found);
-    let words = read_words(item, found);
-    let name = match item.value.get("name") {
-        Some(_) => found.name(item, Key::Name).map(Some),
-        None => Some(None),
-    };
-    Some(HandlerPlace {
-        handler: HandlerId(number? as u32),
-        node: node? as u32,
-        class: class?,
-        words: words?,
-        name: name?,
-    })
 }
 
 // The class that a handler names.
-fn read_handler_class(item: &Item<'_>, found: &mut Found<'_>) -> Option<HandlerClass> {
-    let value = found.needed(item, Key::Class)?;
+fn class_at(table: &Value) -> Result<HandlerClass, Phrase> {
+    let value = needed(table, Key::Class)?;
     let Some(text) = value.as_str() else {
-        found.add(item, Phrase::one(Form::NotAName, Shown::Key(Key::Class)));
-        return None;
+        return Err(Phrase::one(Form::NotAName, Shown::Key(Key::Class)));
     };
     if let Some(class) = DemoClass::from_name(text) {
-        return Some(HandlerClass::Known(class));
+        return Ok(HandlerClass::Known(class));
     }
-    let name = text_name(Some(value));
-    if name.is_none() {
-        let shown = Shown::Text(Name::told(text));
-        found.add_checked(item, Phrase::one(Form::NoSuchClass, shown));
+    match text_name(Some(value)) {
+        Some(name) => Ok(HandlerClass::Own(name)),
+        None => {
+            let shown = Shown::Text(Name::told(text));
+            Err(Phrase::one(Form::NoSuchClass, shown))
+        }
     }
-    name.map(HandlerClass::Own)
+}
+
+// The words of a handler.
+fn words_at(table: &Value) -> Result<Words, Phrase> {
+    match words_of(needed(table, Key::Words)?) {
+        Some(words) => Ok(words),
+        None => Err(Phrase::plain(Form::NotWords)),
+    }
 }
 
 // One to sixteen words.
-fn read_words(item: &Item<'_>, found: &mut Found<'_>) -> Option<Words> {
-    let words = words_of(found.needed(item, Key::Words)?);
-    if words.is_none() {
-        found.add(item, Phrase::plain(Form::NotWords));
-    }
-    words
-}
-
 fn words_of(value: &Value) -> Option<Words> {
     let values = value.as_array()?.as_slice();
     if values.len() > MAX_WORDS {
@@ -177,6 +157,16 @@ fn words_of(value: &Value) -> Option<Words> {
     Words::of(&words[..values.len()]).ok()
 }
 
+// The blank words.
+fn no_words() -> Words {
+    match Words::of(&[0]) {
+        Ok(words) => words,
+        Err(_) => unreachable!(),
+    }
+}
+
+// ---- clients
+
 // Adds the clients of a file with these nodes and handlers.
 pub(super) fn read_clients(
     clients: &mut Vec<ClientPlace>,
@@ -184,47 +174,34 @@ pub(super) fn read_clients(
     handlers: &[HandlerPlace],
     found: &mut Found<'_>,
 ) -> Result<(), OutOfMemory>
-    requires { EachAfter (IsNewClient nodes.now handlers.now) clients.old.items }
-    ensures { OnOk result (EachAfter (IsNewClient nodes.now handlers.now) clients.new.items) }
+    requires { AreClients nodes.now handlers.now clients.old.items }
+    ensures { OnOk result (AreClients nodes.now handlers.now clients.new.items) }
 {
-    let file = found.file();
-    let values = found.list(&file, Key::Client, MAX_CLIENTS);
+    let values = found.tables(Kind::Client, MAX_CLIENTS);
     for (before, value) in values.iter().enumerate() {
-        let item = Item::of(value, Kind::Client, before.saturating_add(1));
-        if let Some(client) = read_client(&item, handlers, found) {
-            match client_fault(nodes, handlers, clients.as_slice(), &client) {
-                None => clients.push(client)?,
-                Some(wrong) => found.add_checked(&item, wrong),
-            }
-        }
+        let item = found.item(value, Kind::Client, before);
+        let client = read_client(&item, handlers, found);
+        let wrong = client_fault(nodes, handlers, clients.as_slice(), &client);
+        found.keep(&item, wrong, client, clients)?;
     }
     Ok(())
 }
 
-fn read_client(
-    item: &Item<'_>,
-    handlers: &[HandlerPlace],
-    found: &mut Found<'_>,
-) -> Option<ClientPlace> {
+fn read_client(item: &Item<'_>, handlers: &[HandlerPlace], found: &mut Found<'_>) -> ClientPlace {
     let known = [Key::Number, Key::Address, Key::Batch, Key::Handlers];
-    if !found.has_keys(item, &known) {
-        return None;
-    }
-    let number = found.number(item, Key::Number, 0, u64::from(u32::MAX));
-    let address = match found.needed(item, Key::Address) {
-        Some(address) => read_address(item, address, Key::Address, found),
-        None => None,
-    };
-    let used = match item.value.get("handlers") {
-        Some(value) => read_used(item, value, handlers, found).map(Some),
-        None => Some(None),
-    };
-    Some(ClientPlace {
-        client: ClientId(number? as u32),
-        address: address?,
+    found.check_keys(item, &known);
+    let number = found.number(item, Key::Number, 0, u64::from(u32::MAX)) as u32;
+    ClientPlace {
+        client: ClientId(number),
+        address: found.or_blank(item, address_at(item.value), nowhere()),
         batch: read_batch(item.value.get("batch")),
-        handlers: used?,
-    })
+        handlers: found.or_blank(item, used_at(item.value, handlers), None),
+    }
+}
+
+// The address of a client.
+fn address_at(table: &Value) -> Result<SocketAddr, Phrase> {
+    address_of(needed(table, Key::Address)?, Key::Address)
 }
 
 // The number of entries that a client puts into one Log: 1 by default, and 0 for a value that is no small number.
@@ -235,32 +212,20 @@ fn read_batch(value: Option<&Value>) -> u8 {
     }
 }
 
-// The handlers that a client uses.
-fn read_used(
-    item: &Item<'_>,
-    value: &Value,
-    handlers: &[HandlerPlace],
-    found: &mut Found<'_>,
-) -> Option<NamedHandlers> {
-    let values = match value.as_array() {
-        Some(values) => values.as_slice(),
-        None => &[],
+// The handlers that a client uses, if its table names them.
+fn used_at(table: &Value, handlers: &[HandlerPlace]) -> Result<Option<NamedHandlers>, Phrase> {
+    let Some(value) = table.get("handlers") else {
+        return Ok(None);
     };
+    let values = values_of(value);
     if values.is_empty() || values.len() > MAX_HANDLERS {
-        found.add(item, Phrase::plain(Form::NotHandlers));
-        return None;
+        return Err(Phrase::plain(Form::NotHandlers));
     }
     let mut used = [HandlerId(0); MAX_HANDLERS];
     for (cell, value) in used.iter_mut().zip(values) {
-        match used_handler(value, handlers) {
-            Ok(handler) => *cell = handler,
-            Err(wrong) => {
-                found.add_checked(item, wrong);
-                return None;
-            }
-        }
+        *cell = used_handler(value, handlers)?;
     }
-    Some(NamedHandlers::of(&used[..values.len()]))
+    Ok(Some(NamedHandlers::of(&used[..values.len()])))
 }
 
 // The handler that a value names, by its name or its number.

@@ -1,9 +1,10 @@
 //! What the file has in place of a word that isn't known.
 
-use super::item::{text_name, whole};
+use super::item::{text_name, values_of, whole};
 use crate::key::Key;
 use crate::name::Name;
 use crate::phrase::{Form, Phrase, Shown};
+use crate::system::has_name;
 use scoop_classes::DemoClass;
 use scoop_message::OutOfMemory;
 use std::alloc::Global;
@@ -103,7 +104,7 @@ fn has_table(file: &Value, kind: Key, key: Key, word: Shown) -> bool {
         let value = table.get(key.as_str());
         let is = match word {
             Shown::Number(number) => whole(value) == Some(number),
-            Shown::Text(name) => text_name(value) == Some(name),
+            Shown::Text(name) => has_name(text_name(value), name.as_bytes()),
             _ => false,
         };
         if is {
@@ -116,10 +117,7 @@ fn has_table(file: &Value, kind: Key, key: Key, word: Shown) -> bool {
 // The tables at a key of the file.
 fn tables(file: &Value, key: Key) -> &[Value] {
     match file.get(key.as_str()) {
-        Some(list) => match list.as_array() {
-            Some(tables) => tables.as_slice(),
-            None => &[],
-        },
+        Some(list) => values_of(list),
         None => &[],
     }
 }

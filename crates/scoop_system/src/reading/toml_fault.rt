@@ -10,53 +10,46 @@ pub(super) fn toml_error(text: &str, error: toml::de::Error) -> SystemError {
         return SystemError::OutOfMemory;
     };
     let (line, column) = position(text, span.start);
-    let single = single_before(text, line);
-    let early = single.is_none() && is_early(text, line);
     SystemError::Toml(TomlFault {
         line,
         column,
         error,
-        single,
-        early,
+        hint: hint_at(text, line),
     })
 }
 
-// The kind of the first table in single brackets up to this line, counted from 1, if the line begins a table. A system's
-// tables have double brackets, so this table is the cause of TOML's fault.
-fn single_before(text: &str, line: usize) -> Option<Key> {
-    let mut single = None;
-    for (above, header) in text.lines().take(line).enumerate() {
-        single = single.or(single_header(header));
-        if above + 1 == line && header.trim_start().starts_with('[') {
-            return single;
-        }
-    }
-    None
-}
-
-// The kind of the table that a line begins in single brackets.
-fn single_header(line: &str) -> Option<Key> {
-    match head_of(line) {
-        "[class]" => Some(Key::Class),
-        "[node]" => Some(Key::Node),
-        "[handler]" => Some(Key::Handler),
-        "[client]" => Some(Key::Client),
-        "[class.operation]" => Some(Key::Operation),
-        _ => None,
-    }
-}
-
-// Whether this line is the first class of the file, and an operation stands above.
-fn is_early(text: &str, line: usize) -> bool {
+// The cause of a fault in this line, counted from 1, if the line begins a table: a table in single brackets up to it, since a
+// system's tables have double brackets; or an operation above, if the line is a class.
+fn hint_at(text: &str, line: usize) -> &'static str {
+    let mut single = "";
     let mut early = false;
-    for (above, written) in text.lines().take(line).enumerate() {
-        let head = head_of(written);
-        if head == "[[class]]" {
-            return early && above + 1 == line;
-        }
+    let mut head = "";
+    for written in text.lines().take(line) {
         early = early || head == "[[class.operation]]";
+        head = head_of(written);
+        if single.is_empty() {
+            single = single_hint(head);
+        }
     }
-    false
+    if !single.is_empty() && head.starts_with('[') {
+        single
+    } else if early && head == "[[class]]" {
+        ": a [[class.operation]] comes after its [[class]]"
+    } else {
+        ""
+    }
+}
+
+// How the table that a line begins in single brackets is written.
+fn single_hint(head: &str) -> &'static str {
+    match head {
+        "[class]" => Key::Class.hint(),
+        "[node]" => Key::Node.hint(),
+        "[handler]" => Key::Handler.hint(),
+        "[client]" => Key::Client.hint(),
+        "[class.operation]" => Key::Operation.hint(),
+        _ => "",
+    }
 }
 
 // The line and the column of a place in a text, both from 1. A column counts characters.
