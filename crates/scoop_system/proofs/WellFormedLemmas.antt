@@ -1,7 +1,7 @@
 -- Lists that grow by an element which is right after those before it.
-use Rattle.std.proofs.Common.{◌≡◌, map, refl, ◌≤◌, ◌<◌, ◌+◌, ℕ, zero, suc, List, [], ◌∷◌, ◌++◌, get_or, length, take, Some, ap, ◌∙◌, sym, subst}
+use Rattle.std.proofs.Common.{◌≡◌, map, refl, ◌≤◌, ◌<◌, ◌+◌, ℕ, zero, suc, Bool, true, false, cond, Option, None, List, [], ◌∷◌, ◌++◌, get_or, length, take, Some, ap, ◌∙◌, sym, subst}
 use Rattle.std.proofs.lemmas.List.{take_all, take_more}
-use Rattle.std.specs.Prelude.{slice_get}
+use Rattle.std.specs.Prelude.{slice_get, IfNone}
 use Rattle.std.proofs.lemmas.List.{map-append}
 use Rattle.scoop_object.specs.declared.row.OpRow.{OpRow}
 use Rattle.scoop_system.specs.declared.class.OwnOperation.{OwnOperation}
@@ -9,7 +9,7 @@ use Rattle.scoop_system.specs.declared.place.NodePlace.{NodePlace}
 use Rattle.scoop_system.specs.declared.place.HandlerPlace.{HandlerPlace}
 use Rattle.scoop_system.specs.declared.place.ClientPlace.{ClientPlace}
 use Rattle.scoop_system.specs.System.{NamedClass}
-use Rattle.scoop_system.specs.WellFormed.{AreClasses, AreClients, AreHandlers, AreNodes, AreOperations, EachAfter, IsNewClass, IsNewClient, IsNewHandler, IsNewNode, IsNewOperation}
+use Rattle.scoop_system.specs.WellFormed.{AreClasses, AreClients, AreHandlers, AreNodes, AreOperations, EachAfter, Keeps, IsNewClass, IsNewClient, IsNewHandler, IsNewNode, IsNewOperation}
 
 pub each_none : {A : Type 0} (P : List A → A → Type 0) → EachAfter P []
 each_none P = λ i x is. absurd (cc)
@@ -31,6 +31,19 @@ each_taken P xs i d less each last = subst (EachAfter P) (sym (take_more xs i d 
 
 pub each_whole : {A : Type 0} (P : List A → A → Type 0) (xs : List A) (i : ℕ) → length xs ≤ i → EachAfter P (take i xs) → EachAfter P xs
 each_whole P xs i end each = subst (EachAfter P) (take_all i xs end) each
+
+pub none_is : {F P : Type 0} (fault : Option F) → fault ≡ None → IfNone fault P → P
+none_is None is right = right
+none_is (Some f) is right = absurd (cc)
+
+-- a list that may keep a further element
+pub kept_all : {A F : Type 0} (Q : List A → Type 0) (R : List A → A → Type 0) → ((xs : List A) (x : A) → Q xs → R xs x → Q (xs ++ x ∷ []))
+    → {kept : Bool} {fault : Option F} {xs : List A} {x : A} {new : List A} → Keeps kept fault xs x new → Q xs → IfNone fault (R xs x) → Q new
+kept_all {A} {F} Q R more {kept} {fault} {xs} {x} {new} keeps all right = at kept keeps.none keeps.list
+  where
+    at : (b : Bool) → (b ≡ true → fault ≡ None) → new ≡ cond b (xs ++ x ∷ []) xs → Q new
+    at true none is = subst Q (sym is) (more xs x all (none_is fault (none refl) right))
+    at false none is = subst Q (sym is) all
 
 -- ---- the lists of a file
 

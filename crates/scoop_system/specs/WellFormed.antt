@@ -1,5 +1,5 @@
 -- What holds of every system that was read: numbers, names and addresses are unique, and what a table names is in the file.
-use Rattle.std.specs.Prelude.{◌≡◌, ◌≤◌, ◌<◌, ℕ, ◌==◌, Bool, true, false, not, List, [], ◌∷◌, ◌++◌, find, length, map, slice_get, take, is_some, IfSome, Option, Some, None, codes}
+use Rattle.std.specs.Prelude.{◌≡◌, ◌≤◌, ◌<◌, ℕ, ◌==◌, Bool, true, false, not, if◌then◌else◌, List, [], ◌∷◌, ◌++◌, find, length, map, slice_get, take, is_some, IfSome, Option, Some, None, codes}
 use Rattle.std.specs.List.{list_any}
 use Rattle.std.specs.Option.{option_map}
 use Rattle.std.specs.declared.net.socket_addr.SocketAddr.{SocketAddr}
@@ -31,10 +31,10 @@ pub record IsIdentity (i : Identity) : Type 0 where
   pub name : IfSome i.name IsName
   pub life : IfSome i.life (λ life. 1 ≤ life)
 
--- an element is added to a list if it has no fault, or the list stays as it is
-abbrev pub Keeps : {A F : Type 0} → Bool → Option F → List A → A → List A → Type 0
-Keeps true fault xs x new = (fault ≡ None) × (new ≡ xs ++ x ∷ [])
-Keeps false fault xs x new = new ≡ xs
+-- an element is added to a list, and then it has no fault; or the list stays as it is
+pub record Keeps {A F : Type 0} (kept : Bool) (fault : Option F) (xs : List A) (x : A) (new : List A) : Type 0 where
+  pub none : kept ≡ true → fault ≡ None
+  pub list : new ≡ (if kept then xs ++ x ∷ [] else xs)
 
 -- ---- classes
 
