@@ -1,12 +1,13 @@
 //! `scoop client`: a client of a system, whose commands are the lines of standard input.
 
 use crate::config::ClientConfig;
+use crate::script_lines::ScriptLines;
 use crate::tasks::{ClientTask, Cut, Input, Program, Script};
-use crate::typed_lines::TypedLines;
-use scoop_command_line::{ClientOptions, StoreChoice};
+use scoop_command_line::{ClientOptions, LinesChoice, StoreChoice};
 use scoop_etcd_stores::Fate;
 use scoop_files::{FiledStore, Named, StoreName, close};
 use scoop_journal::{Journal, JournalFile};
+use scoop_lines::{SourceError, SourceFault};
 use scoop_link::UdpLink;
 use scoop_links::{ClientLink, ClientNotes};
 use scoop_message::ClientId;
@@ -19,7 +20,10 @@ use scoop_opening::{
 use scoop_pacing::{SlowNotes, SystemTimes};
 use scoop_record::Store;
 use scoop_report::{Hints, Status, hint, report};
-use scoop_runtime::{ClientProgram, ClientRecord, FileFault, check_script, open_client_link};
+use scoop_runtime::{
+    ClientMode, ClientProgram, ClientRecord, FileFault, RuntimeError, check_script,
+    open_client_link,
+};
 use scoop_seal::SealedLink;
 use scoop_system::System;
 use scoop_watch::Unwatched;
@@ -71,22 +75,39 @@ fn run_in<T: Net>(
     options: &ClientOptions<'_>,
     system: &System,
 ) -> Result<(), Status> {
-    if options.only_cuts {
-        let config = ClientConfig::read(rt, options, system, false)?;
-        return run_task(rt, net, &config, &mut Cut);
+    match options.lines {
+        LinesChoice::None => {
+            let config = ClientConfig::read(rt, options, system, ClientMode::Script)?;
+            run_task(rt, net, &config, &mut Cut)
+        }
+        LinesChoice::Input => {
+            let config = ClientConfig::read(rt, options, system, input_mode(rt))?;
+            run_task(rt, net, &config, &mut Input { net, names: &[] })
+        }
+        LinesChoice::Pipe => {
+            let config = ClientConfig::read(rt, options, system, ClientMode::Piped)?;
+            run_task(rt, net, &config, &mut Input { net, names: &[] })
+        }
+        LinesChoice::File(path) => {
+            let text = read_text(rt, path)?;
+            check_lines(rt, options, system, path, &text)?;
+            let config = ClientConfig::read(rt, options, system, ClientMode::Script)?;
+            run_task(rt, net, &config, &mut Script { text: &text })
+        }
     }
-    let Some(path) = options.lines else {
-        let config = ClientConfig::read(rt, options, system, rt.stdin().is_terminal())?;
-        return run_task(rt, net, &config, &mut Input { net, names: &[] });
-    };
-    let text = read_text(rt, path)?;
-    check_lines(rt, options, system, path, &text)?;
-    let config = ClientConfig::read(rt, options, system, false)?;
-    run_task(rt, net, &config, &mut Script { text: &text })
 }
 
-/// Runs a program as the client of the options. With `only_cuts` it cuts the block of a run that was killed, and the program
-/// doesn't run. The order of what it opens and refuses is that of [`run_client`].
+/// Where the lines of standard input come from: a user types them, or they are a script.
+pub fn input_mode(rt: &HostRuntime) -> ClientMode {
+    if rt.stdin().is_terminal() {
+        ClientMode::Typed
+    } else {
+        ClientMode::Script
+    }
+}
+
+/// Runs a program as the client of the options. If they choose no lines, it cuts the block of a run that was killed, and the
+/// program doesn't run. The order of what it opens and refuses is that of [`run_client`].
 pub fn run_own_client<T: Net, G: ClientProgram>(
     rt: &HostRuntime,
     net: &T,
@@ -94,11 +115,10 @@ pub fn run_own_client<T: Net, G: ClientProgram>(
     program: &mut G,
 ) -> Result<(), Status> {
     let system = system_of(rt, options)?;
-    let config = ClientConfig::read(rt, options, &system, false)?;
-    if options.only_cuts {
-        run_task(rt, net, &config, &mut Cut)
-    } else {
-        run_task(rt, net, &config, &mut Program { program })
+    let config = ClientConfig::read(rt, options, &system, ClientMode::Script)?;
+    match options.lines {
+        LinesChoice::None => run_task(rt, net, &config, &mut Cut),
+        _ => run_task(rt, net, &config, &mut Program { program }),
     }
 }
 
@@ -110,13 +130,28 @@ fn check_lines(
     path: &str,
     text: &str,
 ) -> Result<(), Status> {
-    let mut lines = TypedLines::new(text.as_bytes());
+    let mut lines = ScriptLines::new(text);
     let client = system.client(ClientId(options.number));
     match check_script(system, client, &mut lines, &mut rt.stderr()) {
         Ok(true) => Ok(()),
         Ok(false) => Err(report_fault(rt, path, "nothing was sent", FileFault::NoScript)),
         Err(error) => Err(report_plainly(rt, error)),
     }
+}
+
+// Whether a program over a pipe knows from the replies that its client has ended with this error.
+fn is_replied(error: RuntimeError) -> bool {
+    matches!(
+        error,
+        RuntimeError::InsideBlock
+            | RuntimeError::InsideWhen
+            | RuntimeError::NotReady
+            | RuntimeError::Refused(_)
+            | RuntimeError::Input(SourceError {
+                fault: SourceFault::LineTooLong | SourceFault::NoNewline,
+                ..
+            })
+    )
 }
 
 // Runs the client for this task, and reports why it ends early.
@@ -128,6 +163,10 @@ fn run_task<T: Net, C: ClientTask>(
 ) -> Result<(), Status> {
     match run_journaled(rt, net, config, task) {
         Ok(()) => Ok(()),
+        Err(End::Lines(stop))
+            if config.plan.mode() == ClientMode::Piped && is_replied(stop.error) => {
+            Err(Status(stop.error.status()))
+        }
         Err(end) => Err(report_end(rt, &config.party(), end)),
     }
 }

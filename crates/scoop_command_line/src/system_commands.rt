@@ -241,7 +241,7 @@ pub(crate) const CLIENT: CommandRow = CommandRow {
     arguments: &CLIENT_ARGUMENTS,
 };
 
-pub(crate) const CLIENT_ARGUMENTS: [ArgumentRow; 12] = [
+pub(crate) const CLIENT_ARGUMENTS: [ArgumentRow; 13] = [
     ArgumentRow {
         name: "number",
         place: Place::Word,
@@ -298,6 +298,15 @@ pub(crate) const CLIENT_ARGUMENTS: [ArgumentRow; 12] = [
         default: None,
         help: "Takes the lines from this file. All of it is read and checked first: if it has a fault, nothing is sent, and \
             standard error has each fault with its line",
+    },
+    ArgumentRow {
+        name: "pipe",
+        place: Place::OptionWithoutAll(&["lines", "strict", "cut"]),
+        value: Value::Flag,
+        value_name: "",
+        default: None,
+        help: "Talks to a program over standard input and output: each line gets one reply, a refusal has one form, and the end of \
+            the input ends each wait. The first line is `scoop pipe 1 client C INC`. docs/PROTOCOL.md has the form",
     },
     ArgumentRow {
         name: "cut",

@@ -3,7 +3,7 @@
 //! - `heard MESSAGE` adds a message to the tape, in the words of `scoop frame`. Each session plays the whole tape.
 //! - `store N` begins with a new store, and with a new journal that fails after N writes.
 //! - `client NUMBER TURNS KIND LINES` runs the client with these lines, each of which takes at most this many turns. The kind
-//!   is `script`, `strict` or `typed`. It answers the client's output and its error, if there is one. `cut NUMBER TURNS KIND`
+//!   is `script`, `strict`, `typed` or `piped`. It answers the client's output and its error, if there is one. `cut NUMBER TURNS KIND`
 //!   runs `client --cut`.
 //! - `program NUMBER TURNS KIND THEN` runs a program that asks for the balance of handler 1 in a block, and then `ends` the
 //!   block, `returns` or `reserves` again. It answers the balance, the notes and how it ended. `let-go` in its place makes the
@@ -20,20 +20,19 @@ use scoop_journal::Journal;
 use scoop_keeper::MemoryKeeper;
 use scoop_lines::is;
 use scoop_link::{Datagram, TapeLink};
-use scoop_message::limits::BUFFER_LEN;
 use scoop_message::ClientId;
+use scoop_message::limits::BUFFER_LEN;
 use scoop_row_player::Bad;
 use scoop_row_player::answers::{has, tells, without_last};
 use scoop_row_player::words::{after_space, first_three, last, long, number, read_text};
 use scoop_runtime::{
-    Caller, ClientPlan, ClientProgram, ClientRecord, Console, ProgramRun, Progress, RuntimeError,
-    client_cut, client_run, program_run,
+    Caller, ClientMode, ClientPlan, ClientProgram, ClientRecord, Console, ProgramRun, Progress,
+    RuntimeError, client_cut, client_run, program_run,
 };
 use scoop_system::System;
 use std::alloc::Global;
-use std::io;
 use std::io::{Error, ErrorKind, Write};
-use std::mem;
+use std::{io, mem};
 
 // Datagrams that a client can send in one session, which repeats each one at each turn.
 const ROOM: usize = 2_048;
@@ -246,14 +245,7 @@ impl Sessions {
             store: mem::replace(&mut self.keeper, MemoryKeeper::new(alloc)),
             journal: Some(Journal::new(alloc, &mut self.written)),
         };
-        let ended = client_cut(
-            alloc,
-            plan,
-            &mut record,
-            &mut link,
-            answer,
-            &mut self.notes,
-        );
+        let ended = client_cut(alloc, plan, &mut record, &mut link, answer, &mut self.notes);
         let ClientRecord { store, .. } = record;
         self.keeper = store;
         ends(ended, answer)
@@ -294,12 +286,12 @@ fn plan_of<'s>(system: &'s System, line: &[u8]) -> Result<ClientPlan<'s>, Bad> {
     let (client, turns, kind, _) = first_three(line)?;
     let place = *system.client(ClientId(number(client)?)).ok_or(Bad::Number)?;
     let turns = long(turns)?;
-    let plan = match kind {
-        b"strict" => ClientPlan::new_strict(system, place, turns, false),
-        b"typed" => ClientPlan::new(system, place, turns, true),
-        _ => ClientPlan::new(system, place, turns, false),
+    let mode = match kind {
+        b"typed" => ClientMode::Typed,
+        b"piped" => ClientMode::Piped,
+        _ => ClientMode::Script,
     };
-    match plan {
+    match ClientPlan::new(system, place, turns, mode, is(kind, "strict")) {
         Ok(plan) => Ok(plan),
         Err(_) => Err(Bad::Number),
     }

@@ -20,7 +20,6 @@ use scoop_report::{Hints, Status, hint, report};
 use scoop_runtime::{ClientPlan, FileFault, OutOfRange, RuntimeError, Serving, Tables};
 use scoop_system::{ClientPlace, System};
 use sqlite::{Alter, File, FileStore};
-use std::io::IsTerminal;
 use std::net::Net;
 use std::sync::Wait;
 use std::thread::Threads;
@@ -94,12 +93,7 @@ fn plan_of<'a>(
     place: &ClientPlace,
     is_strict: bool,
 ) -> Result<ClientPlan<'a>, OutOfRange> {
-    let is_typed = rt.stdin().is_terminal();
-    if is_strict {
-        ClientPlan::new_strict(system, *place, TURNS, is_typed)
-    } else {
-        ClientPlan::new(system, *place, TURNS, is_typed)
-    }
+    ClientPlan::new(system, *place, TURNS, input_mode(rt), is_strict)
 }
 
 // Runs the parties over stores in the folder of the options, or over memory alone.

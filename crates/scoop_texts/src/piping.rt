@@ -1,0 +1,85 @@
+//! The lines that only a client over a pipe writes.
+
+ghost use Rattle.std.specs.Prelude.{◌≡◌, OnOk};
+ghost use Rattle.std.specs.Io.KnownBytes.{Appends};
+ghost use Rattle.scoop_texts.specs.Piping.{fault_name, fault_refusal, first_text, is_wordless, refused_text};
+
+use crate::error::RuntimeError;
+use scoop_lines::{SourceError, SourceFault};
+use scoop_message::ClientId;
+use scoop_system::{LineFault, ShownWord};
+use std::io;
+use std::io::Write;
+
+/// Writes the first line of a client, with its incarnation: `scoop pipe 1 client 7 3`.
+pub fn print_first<W: Write>(client: ClientId, inc: u32, writer: &mut W) -> io::Result<()>
+    ensures { OnOk result (Appends (W.contents writer.old) (W.contents writer.new) (first_text client inc)) }
+{
+    writeln!(writer, "scoop pipe 1 client {client} {inc}")
+}
+
+// Whether the word has no letter.
+fn is_wordless(word: ShownWord) -> bool
+    ensures { result ≡ is_wordless word.letters }
+{
+    matches!(word.letters.as_slice(), [0, ..])
+}
+
+fn fault_name(fault: LineFault) -> &'static str
+    ensures { result.now ≡ fault_name fault }
+{
+    match fault {
+        LineFault::UnknownLine(_) => "UnknownLine",
+        LineFault::WrongNumberOfWords => "WrongNumberOfWords",
+        LineFault::NotANumber(_) => "NotANumber",
+        LineFault::TooFewArguments(_) => "TooFewArguments",
+        LineFault::TooManyArguments(_) => "TooManyArguments",
+        LineFault::TooManyHandlers => "TooManyHandlers",
+        LineFault::TooManyConditions => "TooManyConditions",
+        LineFault::NoSuchOperation(_, _) => "NoSuchOperation",
+        LineFault::NoSuchHandler(_) => "NoSuchHandler",
+    }
+}
+
+// Writes the refusal of a line that can't be read.
+fn print_fault<W: Write>(fault: LineFault, writer: &mut W) -> io::Result<()>
+    ensures { OnOk result (Appends (W.contents writer.old) (W.contents writer.new) (fault_refusal fault)) }
+{
+    let name = fault_name(fault);
+    match fault {
+        LineFault::UnknownLine(word) if is_wordless(word) => writeln!(writer, "refused {name}"),
+        LineFault::UnknownLine(word)
+        | LineFault::NotANumber(word)
+        | LineFault::NoSuchOperation(_, word)
+        | LineFault::NoSuchHandler(word) => writeln!(writer, "refused {name} {word}"),
+        LineFault::TooFewArguments(number) | LineFault::TooManyArguments(number) => {
+            writeln!(writer, "refused {name} {number}")
+        }
+        LineFault::WrongNumberOfWords | LineFault::TooManyHandlers | LineFault::TooManyConditions =>
+            writeln!(writer, "refused {name}"),
+    }
+}
+
+/// Writes the refusal of a line that can't be read, that names a handler which the client doesn't use, or that the input
+/// doesn't give whole: `refused NAME`, and a word or a number if it has one. Nothing is written for other errors.
+pub fn print_refused<W: Write>(error: &RuntimeError, writer: &mut W) -> io::Result<()>
+    ensures { OnOk result (Appends (W.contents writer.old) (W.contents writer.new) (refused_text error.now)) }
+{
+    match error {
+        RuntimeError::Line(_, fault) => print_fault(*fault, writer),
+        RuntimeError::NotUsed(_, handler) => writeln!(writer, "refused NotUsed {handler}"),
+        RuntimeError::Input(
+            SourceError {
+                fault: SourceFault::LineTooLong,
+                ..
+            },
+        ) => writeln!(writer, "refused LineTooLong"),
+        RuntimeError::Input(
+            SourceError {
+                fault: SourceFault::NoNewline,
+                ..
+            },
+        ) => writeln!(writer, "refused NoNewline"),
+        _ => Ok(()),
+    }
+}
