@@ -1,7 +1,7 @@
 //! `scoop up`: all nodes of a system in one process, and a client.
 
 use crate::hosted::{Hosted, lost, run_beside};
-use scoop_client_command::{Asking, ClientConfig, Input, client_link, run_over};
+use scoop_client_command::{Asking, ClientConfig, Input, client_link, input_mode, run_over};
 use scoop_command_line::{JournalChoice, StoreChoice, UpOptions};
 use scoop_etcd_place::begins_as_etcd;
 use scoop_etcd_stores::Fate;
