@@ -178,7 +178,7 @@ impl<'a> Keyboard<'a> {
             if self.lines.ahead() != Ahead::Part || !self.has_bytes() {
                 break;
             }
-            let _flushed = self.lines.go_on(&mut io::sink());
+            let _came = self.lines.go_on(&mut io::sink());
         }
         self.lines.ahead()
     }

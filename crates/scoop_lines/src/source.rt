@@ -1,6 +1,6 @@
 //! The bytes of an input, read in chunks.
 
-ghost use Rattle.std.specs.Prelude.{◌≡◌, ◌≢◌, ◌≤◌, ℕ, List, Option, None, Ok, Some, Err, false, IfOk, IfErr, IfSome, MatchOption, OnErr, slice_range};
+ghost use Rattle.std.specs.Prelude.{◌≡◌, ◌≢◌, ◌≤◌, ℕ, List, Option, None, Ok, Some, Err, false, IfOk, IfErr, IfSome, MatchOption, IfNone, OnErr, slice_range};
 ghost use Rattle.std.specs.Bool.{OnTrue};
 ghost use Rattle.std.specs.Io.{ReadsAtMost};
 ghost use Rattle.std.specs.Io.KnownBytes.{prepend_known, Keeps, IsAtEnd, ReadConsumes};
@@ -108,7 +108,11 @@ impl<R: Read> Source<R> {
     ) -> Result<Piece, Stop>
         ensures piece { IfOk result (λ piece. IsPiece piece self.old line.old.items line.new.items self.new) }
         ensures within { IsWithin line.old.items → IsWithin line.new.items }
+        ensures ends { result ≡ Ok Piece.Nothing → IsAtEnd self.new }
         ensures long { result ≡ Err Stop.LineTooLong → Overflows self.old line.old.items }
+        ensures overflows { result ≡ Err Stop.LineTooLong → Overflows self.new line.new.items }
+        ensures left { OnErr result (Keeps self.old self.new) }
+        ensures line { OnErr result (line.new.items ≡ line.old.items) }
         ensures output { Keeps (W.contents output.old) (W.contents output.new) }
     {
         if self.start == self.end {
@@ -137,6 +141,7 @@ impl<R: Read> Source<R> {
 // the newline, and whether there was one. `None` if the line would be too long.
 fn take_piece(bytes: &[u8], line: &mut LineBytes) -> Option<(usize, bool)>
     ensures piece { MatchOption result (IsTooMuch bytes.now line.old.items) (λ t. IsFront bytes.now line.old.items line.new.items t.0 t.1) }
+    ensures kept { IfNone result (line.new.items ≡ line.old.items) }
     ensures within { IsWithin line.old.items → IsWithin line.new.items }
 {
     let newline = memchr(b'\n', bytes);

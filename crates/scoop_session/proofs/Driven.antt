@@ -9,9 +9,10 @@ use Rattle.scoop_client.specs.declared.command.Command.TheVariants.{Reserve as D
 use Rattle.scoop_client.specs.declared.phase.Phase.TheVariants.{Idle}
 use Rattle.scoop_client.specs.State.{phase_of}
 use Rattle.scoop_driver.specs.declared.error.DriverError.{DriverError}
+use Rattle.scoop_driver.specs.declared.error.DriverError.TheVariants.{ConditionFailed, Interrupted}
 use Rattle.scoop_driver.specs.State.{Seen}
 use Rattle.scoop_driver.specs.Calls.{Called, Queried}
-use Rattle.scoop_driver.specs.Waiting.{WaitsWith}
+use Rattle.scoop_driver.specs.Waiting.{WaitsUpTo}
 use Rattle.scoop_driver.specs.Wishes.{Wish as Waited}
 use Rattle.scoop_driver.proofs.StepLists.{goes_nothing, goes_on}
 use Rattle.scoop_system.specs.declared.line.ClientLine.{ClientLine}
@@ -20,7 +21,9 @@ use Rattle.scoop_texts.specs.declared.reply.Reply.{Reply}
 use Rattle.scoop_texts.specs.declared.reply.Reply.TheVariants.{Reserved, Logged, Answered, Ended, Noted, EndedAt, GivenUp}
 use Rattle.scoop_session.specs.declared.wish.Wish.{Wish}
 use Rattle.scoop_session.specs.Obeying.{BeganAndGaveUp, CallDoes, Does, DoesInside, DoesOutside, Drives, EndDoes, GaveUp, GiveUpDoes, GivesUp, Obeys, QueryDoes, ReserveDoes}
-use Rattle.scoop_session.specs.Obeying.{RunsBlock, TakesTurnsOnly, TryDoes, WhenDoes}
+use Rattle.scoop_session.specs.Obeying.{FailsTrying, RunsBlock, StopsTrying, TakesTurnsOnly, TriesOut, TryDoes, WhenDoes, tried_as}
+use Rattle.scoop_session.specs.Obeying.FailsTrying.{tried, refused, left, kept}
+use Rattle.scoop_session.specs.Obeying.StopsTrying.{between, locking}
 
 pub drives_nothing : (s : Seen) → Drives s s
 drives_nothing s = ([], goes_nothing s)
@@ -69,10 +72,10 @@ drives_gave_up (Ok done) s t gave = drives_given s t gave
 drives_gave_up (Err e) s t drives = drives
 
 -- a wait for a condition, unless a handler of it is outside its block
-pub drives_waited : (outside : Option HandlerId) (w : Waited) (turns tries : ℕ) (r : Result ℕ DriverError) (answers : List Answer) (s t : Seen)
-    → ((h : HandlerId) → outside ≡ Some h → t ≡ s) → (outside ≡ None → WaitsWith w turns tries r answers s t) → Drives s t
-drives_waited None w turns tries r answers s t stays waits = let waited = waits refl in (waited.0, waited.1.goes)
-drives_waited (Some h) w turns tries r answers s t stays waits = drives_same s t (stays h refl)
+pub drives_waited : (Stopped : Type 0) (outside : Option HandlerId) (w : Waited) (turns tries : ℕ) (r : Result ℕ DriverError) (answers : List Answer) (s t : Seen)
+    → ((h : HandlerId) → outside ≡ Some h → t ≡ s) → (outside ≡ None → WaitsUpTo Stopped w turns tries r answers s t) → Drives s t
+drives_waited Stopped None w turns tries r answers s t stays waits = let waited = (waits refl).waits in (waited.0, waited.1.goes)
+drives_waited Stopped (Some h) w turns tries r answers s t stays waits = drives_same s t (stays h refl)
 
 -- ---- outside a block that waits for its condition
 
@@ -135,10 +138,25 @@ drives_outside (line.ReserveWhen hs conditions tries) turns o s t does = drives_
 
 -- ---- inside such a block
 
+drives_out : (w : Waited) (tries : ℕ) (r : Result ℕ DriverError) (answers : List Answer) (s t : Seen) → TriesOut w tries r answers s t → Drives s t
+drives_out w tries r answers s t (xs, goes, gives) = (xs, goes)
+
+drives_stopped : (w : Waited) (tries : ℕ) (s t : Seen) → StopsTrying w tries s t → Drives s t
+drives_stopped w tries s t (between {failed} below out) = drives_out w failed (Err (ConditionFailed failed)) [] s t out
+drives_stopped w tries s t (locking {begun} out gave) =
+    drives_both s begun t (drives_out w tries (Err Interrupted) [] s begun out) (drives_given begun t gave)
+
+drives_failed : (w : Waited) (tries : ℕ) (e : DriverError) (answers : List Answer) (s t : Seen) → FailsTrying w tries e answers s t → Drives s t
+drives_failed w tries e answers s t (tried out) = drives_out w tries (Err e) answers s t out
+drives_failed w tries e answers s t (refused memory same) = drives_same s t same
+drives_failed w tries e answers s t (left is stops) = drives_stopped w tries s t stops
+drives_failed w tries e answers s t (kept {begun} out drives) =
+    drives_both s begun t (drives_out w tries (Err Interrupted) [] s begun out) drives
+
 drives_tries : (w : Wish) (o : Result Reply DriverError) (answers : List Answer) (s t : Seen) → TryDoes w o answers s t → Drives s t
 drives_tries w (Ok (EndedAt tried)) answers s t (xs, goes, gives) = (xs, goes)
-drives_tries w (Err e) answers s t (inl (xs, goes, gives)) = (xs, goes)
-drives_tries w (Err e) answers s t (inr (memory, same)) = drives_same s t same
+drives_tries w (Ok GivenUp) answers s t stops = drives_stopped (tried_as w) w.tries s t stops
+drives_tries w (Err e) answers s t fails = drives_failed (tried_as w) w.tries e answers s t fails
 drives_tries w (Ok reply) answers s t does = absurd does
 
 drives_inside : (l : ClientLine) (w : Wish) (o : Result Reply DriverError) (answers : List Answer) (s t : Seen) → DoesInside l w o answers s t → Drives s t

@@ -500,16 +500,23 @@ impl<'j, L: Link, J: Write + Drop> Session<'j, L, J> {
         };
         self.answers.clear();
         match error {
-            DriverError::ConditionFailed(tried) if tried < wish.tries() => {
-                self.stop_wish(wish, interrupt)
+            DriverError::ConditionFailed(tried) => {
+                if tried < wish.tries() {
+                    self.stop_wish(wish, interrupt)
+                } else {
+                    Err(error)
+                }
             }
-            DriverError::Interrupted if self.driver.phase() == Phase::Locking => {
+            DriverError::Interrupted => {
+                if self.driver.phase() != Phase::Locking {
+                    return Err(error);
+                }
                 match self.give_up(self.turns, &mut Patient::new(interrupt)) {
                     Ok(()) => self.stop_wish(wish, interrupt),
                     Err(error) => Err(error),
                 }
             }
-            error => Err(error),
+            DriverError::Client(_) | DriverError::TurnsOver | DriverError::LinkFault => Err(error),
         }
     }
 
