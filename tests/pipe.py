@@ -9,14 +9,12 @@ import time
 import systems
 from bank import Bank
 from clients import node
-from leaving import BOTH, accounts
+from leaving import BOTH, SOON, accounts
 from replay import Block, Entry
 from storm import Client, Storm
 from systems import LOCK, LOG, PATIENCE, TOP, Ended, Skipped, System, holds, run, same, test, until
 
 HERE = os.path.join(TOP, "tests")
-# Seconds in which a client ends that isn't waited for: two times 500 polls, on a loaded machine.
-SOON = 30
 # The purse of the Python package's page, and what `pipe_program` pays with.
 with open(os.path.join(TOP, "clients", "python", "README.md")) as _file:
     PURSE = re.search(r"```toml\n(.*?)```", _file.read(), re.S)[1]
