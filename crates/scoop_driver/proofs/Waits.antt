@@ -24,10 +24,10 @@ use Rattle.scoop_driver.specs.declared.error.DriverError.TheVariants.{Client, Tu
 use Rattle.scoop_driver.specs.declared.step.Step.{Step}
 use Rattle.scoop_driver.specs.Steps.{walk, commands_by, faults_in, turns_in}
 use Rattle.scoop_driver.specs.State.{Seen, Goes}
-use Rattle.scoop_driver.specs.Calls.{GivesCommands, TakesTurns, TellsFault, Does, Called, Queried, IsAnswered, RunsNext}
-use Rattle.scoop_driver.specs.Wishes.{Wish, call_of, calls_in_block, command_of, handler_of, holds, logged, queries, remainder, test_command, wish_for}
+use Rattle.scoop_driver.specs.Calls.{TakesTurns, TellsFault, Does, Called, Queried, IsAnswered, RunsNext}
+use Rattle.scoop_driver.specs.Wishes.{Wish, call_of, calls_in_block, command_of, handler_of, holds, logged, queries, test_command, wish_for}
 use Rattle.scoop_driver.specs.Waiting.{Tested, Done, StoppedIn, BrokeOff, BreaksOff, Tried, Failures, Waits, WaitsUpTo, WaitsWith, WaitGives, answers_of}
-use Rattle.scoop_driver.specs.Waiting.{Asks, AsksAll, Keeps, LoggedBody, LoggedEntry, Logs, FollowsIf, AnsweredThen, CalledThen, Pauses, PausesAfter, PausesFor}
+use Rattle.scoop_driver.specs.Waiting.{Asks, AsksAll, Keeps, LoggedBody, LoggedEntry, Logs, FollowsIf, Pauses, PausesAfter, PausesFor}
 use Rattle.scoop_driver.proofs.StepLists.{goes_nothing, goes_on, commands_by-append, faults_in-append, turns_in-append}
 use Rattle.scoop_driver.proofs.Calling.{faults_as, faults_on}
 

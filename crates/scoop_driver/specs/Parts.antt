@@ -11,7 +11,6 @@ use Rattle.scoop_client.specs.Commands as client
 use Rattle.scoop_driver.specs.declared.error.DriverError.{DriverError}
 use Rattle.scoop_driver.specs.declared.error.DriverError.TheVariants.{Client, TurnsOver, LinkFault, ConditionFailed, Interrupted}
 use Rattle.scoop_client.specs.declared.command.Command.{Command}
-use Rattle.scoop_client.specs.declared.command.Command.TheVariants.{Reserve, Call, Query, End, GiveUp}
 use Rattle.scoop_driver.specs.declared.step.Step.{Step}
 use Rattle.scoop_driver.specs.declared.step.Step.TheVariants.{Gave}
 use Rattle.scoop_driver.specs.Steps.{noted, notes_by, turns_in}

@@ -8,7 +8,7 @@ use Rattle.scoop_driver.proofs.driver.Driver.attempt.Goals as goal
 
 pub log_all-requires : goal.log_all-requires
 log_all-requires g c =
-    room_for (wish_for c.args.block.now.handlers.now c.args.block.now.condition.now (map g.E.AsEntry.entry c.args.block.now.body.now)) c.in-Ok-ask_all.held _ _ c.logged.ensures c.requires
+    room_for (wish_for c.args.block.now.handlers.now c.args.block.now.condition.now (map g.E.AsEntry.entry c.args.block.now.body.now)) c.in-Ok.held _ _ c.logged.ensures c.requires
 
 pub returns-in-Ok-false-clause-does : goal.returns-in-Ok-false-clause-does
 returns-in-Ok-false-clause-does g c =
@@ -43,25 +43,25 @@ returns-in-Err-ask_all-clause-does g c =
 pub returns-in-Err-log_all-clause-does : goal.returns-in-Err-log_all-clause-does
 returns-in-Err-log_all-clause-does g c =
     let w = wish_for c.args.block.now.handlers.now c.args.block.now.condition.now (map g.E.AsEntry.entry c.args.block.now.body.now) in
-    let turns = c.in-Ok-ask_all.ensures.turns ∙ c.in-Ok-true.ensures.turns in
-    block_broke_body w c.in-Ok-ask_all.held _ _ c.in-Err-log_all.error _ _ _
-    (tested w c.in-Ok-ask_all.held _ _ _ _ (reserved _ _ _ _ _ c.in-Ok-true.ensures.does) (c.in-Ok-true.ensures.runs (ap Ok c.in-Ok-true.field-0-test)) (rw c.in-Ok-true.ensures.turns at c.in-Ok-ask_all.ensures.does))
+    let turns = c.in-Ok.ensures.turns ∙ c.in-Ok-true.ensures.turns in
+    block_broke_body w c.in-Ok.held _ _ c.in-Err-log_all.error _ _ _
+    (tested w c.in-Ok.held _ _ _ _ (reserved _ _ _ _ _ c.in-Ok-true.ensures.does) (c.in-Ok-true.ensures.runs (ap Ok c.in-Ok-true.field-0-test)) (rw c.in-Ok-true.ensures.turns at c.in-Ok.ensures.does))
     (logged_as _ _ _ _ _ _ _ c.logged.ensures (rw turns at c.in-Err-log_all.ensures.does))
 
 pub returns-in-Ok-end_unless-clause-does : goal.returns-in-Ok-end_unless-clause-does
 returns-in-Ok-end_unless-clause-does g c =
     let w = wish_for c.args.block.now.handlers.now c.args.block.now.condition.now (map g.E.AsEntry.entry c.args.block.now.body.now) in
-    let turns = c.in-Ok-ask_all.ensures.turns ∙ c.in-Ok-true.ensures.turns in
+    let turns = c.in-Ok.ensures.turns ∙ c.in-Ok-true.ensures.turns in
     let later = c.in-Ok-log_all.ensures.turns ∙ turns in
-    block_done w c.in-Ok-ask_all.held _ _ _ _ _ _
-    (tested w c.in-Ok-ask_all.held _ _ _ _ (reserved _ _ _ _ _ c.in-Ok-true.ensures.does) (c.in-Ok-true.ensures.runs (ap Ok c.in-Ok-true.field-0-test)) (rw c.in-Ok-true.ensures.turns at c.in-Ok-ask_all.ensures.does))
+    block_done w c.in-Ok.held _ _ _ _ _ _
+    (tested w c.in-Ok.held _ _ _ _ (reserved _ _ _ _ _ c.in-Ok-true.ensures.does) (c.in-Ok-true.ensures.runs (ap Ok c.in-Ok-true.field-0-test)) (rw c.in-Ok-true.ensures.turns at c.in-Ok.ensures.does))
     (logged_as _ _ _ _ _ _ _ c.logged.ensures (rw turns at c.in-Ok-log_all.ensures.does)) (rw later at c.in-Ok-end_unless.ensures.does) c.in-Ok-end_unless.ensures.ends
 
 pub returns-in-Err-end_unless-clause-does : goal.returns-in-Err-end_unless-clause-does
 returns-in-Err-end_unless-clause-does g c =
     let w = wish_for c.args.block.now.handlers.now c.args.block.now.condition.now (map g.E.AsEntry.entry c.args.block.now.body.now) in
-    let turns = c.in-Ok-ask_all.ensures.turns ∙ c.in-Ok-true.ensures.turns in
+    let turns = c.in-Ok.ensures.turns ∙ c.in-Ok-true.ensures.turns in
     let later = c.in-Ok-log_all.ensures.turns ∙ turns in
-    block_broke_ending w c.in-Ok-ask_all.held _ _ _ c.in-Err-end_unless.error _ _ _ _
-    (tested w c.in-Ok-ask_all.held _ _ _ _ (reserved _ _ _ _ _ c.in-Ok-true.ensures.does) (c.in-Ok-true.ensures.runs (ap Ok c.in-Ok-true.field-0-test)) (rw c.in-Ok-true.ensures.turns at c.in-Ok-ask_all.ensures.does))
+    block_broke_ending w c.in-Ok.held _ _ _ c.in-Err-end_unless.error _ _ _ _
+    (tested w c.in-Ok.held _ _ _ _ (reserved _ _ _ _ _ c.in-Ok-true.ensures.does) (c.in-Ok-true.ensures.runs (ap Ok c.in-Ok-true.field-0-test)) (rw c.in-Ok-true.ensures.turns at c.in-Ok.ensures.does))
     (logged_as _ _ _ _ _ _ _ c.logged.ensures (rw turns at c.in-Ok-log_all.ensures.does)) (rw later at c.in-Err-end_unless.ensures.does)

@@ -1,4 +1,4 @@
-use Rattle.std.proofs.Common.{◌∙◌, refl, sym}
+use Rattle.std.proofs.Common.{sym}
 use Rattle.scoop_driver.specs.Wishes.{wish}
 use Rattle.scoop_driver.proofs.Calling.{not_interrupted, not_stopped_so}
 use Rattle.scoop_driver.proofs.Waits.{no_queries, waits_calls, waits_whole}

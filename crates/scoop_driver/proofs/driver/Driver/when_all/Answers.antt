@@ -1,9 +1,9 @@
-use Rattle.std.proofs.Common.{◌≡◌, ◌∙◌, ap, sym, map, Err, None, IfSome}
+use Rattle.std.proofs.Common.{◌≡◌, ◌∙◌, ap, sym, Err, None, IfSome}
 use Rattle.std.proofs.lemmas.List.{map-id}
 use Rattle.scoop_client.specs.declared.error.ClientError.TheVariants.{NotReserved}
 use Rattle.scoop_driver.specs.declared.error.DriverError.TheVariants.{Client}
 use Rattle.scoop_driver.specs.Calls.{Interrupted}
-use Rattle.scoop_driver.specs.Wishes.{Wish, first_outside, queries}
+use Rattle.scoop_driver.specs.Wishes.{first_outside, queries}
 use Rattle.scoop_driver.specs.Waiting.{PausesFor, WaitsUpTo}
 use Rattle.scoop_driver.proofs.Waits.{as_given}
 use Rattle.scoop_driver.proofs.driver.Driver.when_all.Goals as goal
