@@ -7,12 +7,12 @@ use scoop_message::OutOfMemory;
 use scoop_node_command::{Host, HostKeeper, HostLink, NodeRun, Task};
 use scoop_opening::{node_end, report_plainly};
 use scoop_report::{Hints, Status, hint, report};
-use scoop_runtime::{Ending, RuntimeError, Tables};
+use scoop_runtime::{Ending, Objects, RuntimeError, Tables};
 use std::alloc::Global;
 use std::io::{Stderr, Write};
 use std::sync::Wait;
 use std::thread;
-use std::thread::Threads;
+use std::thread::{JoinHandle, Scope, Threads};
 use std::time::Clock;
 
 // A host over a store K, before it runs.
@@ -115,18 +115,11 @@ where
         let mut running = Vec::new(alloc);
         let each = nodes.into_iter();
         for node in each {
-            match scope.spawn(move || told(
-                node.run(alloc, threads, output, output, ending),
-                output,
-            )) {
-                Ok(handle) => {
-                    let _kept = running.push(Some(handle));
-                }
-                Err(_) => {
-                    report_no_thread(rt);
-                    let _kept = running.push(None);
-                }
+            let started = start(scope, alloc, threads, node, output, ending);
+            if started.is_none() {
+                report_no_thread(rt);
             }
+            let _kept = running.push(started);
         }
         let gave = task.run();
         ending.ask();
@@ -139,6 +132,28 @@ where
         }
         (ends, gave)
     })
+}
+
+// Starts the thread of a node, if the operating system has one more. In a function of its own, where the search for `Send` has few
+// facts to look at.
+fn start<'s, X, O, K, L, T>(
+    scope: &Scope<'s, X>,
+    alloc: Global,
+    threads: &'s T,
+    node: NodeRun<'s, O, K, L>,
+    output: Stderr,
+    ending: &'s Ending,
+) -> Option<JoinHandle<Result<K, RuntimeError>>>
+where
+    O: Objects + Sync + 's,
+    K: Keeper<Global> + Send + 's,
+    L: Link + Send + 's,
+    T: Threads + Wait + Clock + Sync + 's,
+{
+    match scope.spawn(move || told(node.run(alloc, threads, output, output, ending), output)) {
+        Ok(handle) => Some(handle),
+        Err(_) => None,
+    }
 }
 
 // Says if a node has ended early.
