@@ -333,13 +333,13 @@ fn run_parties<T: Threads + Wait + Clock + Net + Sync>(
         client: parties.client,
         names: parties.names,
     };
-    let left = run_over_stores(rt, threads, &here, hosts.as_slice(), ports, stores);
+    let left = run_over_all(rt, threads, &here, hosts.as_slice(), ports, stores);
     let Left { ran, ended, stores } = left;
     closed(rt, parties, ran, ended, stores)
 }
 
 // Runs the nodes and the client over their stores.
-fn run_over_stores<'r, S, T>(
+fn run_over_all<'r, S, T>(
     rt: &'r HostRuntime,
     threads: &'r T,
     parties: &Parties<'r, '_, '_>,
@@ -352,11 +352,6 @@ where
     T: Threads + Wait + Clock + Net + Sync,
 {
     let store = stores.pop().unwrap_or(OpenStore::Memory);
-    let fate = Fate::new();
-    let keepers = match keepers_over(rt, hosts, stores, &fate) {
-        Ok(keepers) => keepers,
-        Err(status) => return nothing_left(rt, status),
-    };
     let Ports {
         nodes: links,
         client: link,
@@ -368,8 +363,30 @@ where
         link,
         store,
     };
+    run_over_stores(rt, threads, hosts, links, stores, client)
+}
+
+// Runs the nodes over their stores, beside this task.
+fn run_over_stores<'r, S, C, T>(
+    rt: &'r HostRuntime,
+    threads: &'r T,
+    hosts: &'r [Host<'_, '_, '_, Tables>],
+    links: Vec<UdpLink>,
+    stores: Vec<OpenStore<'r, S>>,
+    client: C,
+) -> Left<S>
+where
+    S: Alter + Drop + Send,
+    C: Task<ClientEnd<S>>,
+    T: Threads + Wait + Clock + Sync,
+{
+    let fate = Fate::new();
+    let keepers = match keepers_over(rt, hosts, stores, &fate) {
+        Ok(keepers) => keepers,
+        Err(status) => return nothing_left(rt, status),
+    };
     match run_hosts(rt, threads, hosts, links, keepers, client) {
-        Ok(ran) => gather(rt, parties, ran),
+        Ok(ran) => gather(rt, ran),
         Err(status) => nothing_left(rt, status),
     }
 }
@@ -423,35 +440,28 @@ impl<'a, 's, 'o, 'r, S: Alter + Drop, T: Net> Task<ClientEnd<S>> for Beside<'a, 
             journal: None,
         };
         let names = parties.node_names();
-        run_over(
-            rt,
-            parties.client,
-            papers,
-            link,
-            store,
-            &mut Input { net, names },
-        )
+        let input = &mut Input { net, names };
+        let (ran, store) = run_over(rt, parties.client, papers, link, store, input);
+        match ran {
+            Ok(()) => (Ok(()), store),
+            Err(end) => (Err(parties.client.report(rt, end)), store),
+        }
     }
 }
 
-// How the client of an `up` ended, and its store if it is in a file.
-type ClientEnd<S> = (Result<(), End>, Option<Store<S>>);
+// How the client of an `up` ended, as it was reported, and its store if it is in a file.
+type ClientEnd<S> = (Result<(), Status>, Option<Store<S>>);
 
-// What is left when all have ended. Reports a client that ended early.
+// What is left when all have ended.
 fn gather<S: Alter + Drop + Send>(
     rt: &HostRuntime,
-    parties: &Parties<'_, '_, '_>,
     ran: Ran<NodeKeeper<'_, '_, S>, ClientEnd<S>>,
 ) -> Left<S> {
     let Ran {
-        gave: (gave, client),
+        gave: (ran, client),
         ended,
         keepers,
     } = ran;
-    let ran = match gave {
-        Ok(()) => Ok(()),
-        Err(end) => Err(parties.client.report(rt, end)),
-    };
     let mut stores = Vec::new(rt.alloc());
     for keeper in keepers {
         let store = match keeper {
