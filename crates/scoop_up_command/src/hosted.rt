@@ -47,6 +47,12 @@ impl<'r, K: Keeper<Global> + Send, L: Link> Hosted<'r, K, L> {
         }
         self.ended = Some(ended);
     }
+
+    // How the node ended, if it ran.
+    fn into_ended(self) -> Option<Result<K, RuntimeError>> {
+        let Hosted { ended, .. } = self;
+        ended
+    }
 }
 
 // A host over a store K, as its thread has it.
@@ -90,7 +96,7 @@ where
         keepers: Vec::new(rt.alloc()),
     };
     for (host, node) in hosts.iter().zip(nodes) {
-        let keeper = match node.ended {
+        let keeper = match node.into_ended() {
             Some(Ok(keeper)) => Some(keeper.into_inner()),
             Some(Err(error)) => {
                 let end = node_end(host.name(), error);
