@@ -1,6 +1,6 @@
 //! A keeper that fails.
 
-ghost use Rattle.std.specs.Prelude.{◌≡◌, ◌+◌, ◌≢◌, ◌⊎◌, Some, IsTrue, IsFalse, false, IfSome, IfOk, IfErr, OnOk, OnErr};
+ghost use Rattle.std.specs.Prelude.{◌≡◌, ◌+◌, ◌≢◌, ◌⊎◌, Some, IsTrue, IsFalse, IfSome, IfOk, IfErr, OnOk, OnErr};
 ghost use Rattle.scoop_keeper.specs.Failing.{failing};
 
 use crate::keeper::{Keeper, KeeperError};
@@ -9,13 +9,11 @@ use scoop_message::{ClientId, HandlerId};
 use std::alloc::Allocator;
 use std::marker::Model;
 
-/// A keeper that passes on a number of calls, and refuses every later one. A commit with no put since the last one has nothing
-/// to do: it is passed on, and isn't counted.
+/// A keeper that passes on a number of calls, and refuses every later one.
 #[derive(Drop)]
 pub struct FailingKeeper<K> {
     keeper: K,
     left: u64,
-    has_put: bool,
 }
 
 impl<K> Model for FailingKeeper<K> {
@@ -23,18 +21,17 @@ impl<K> Model for FailingKeeper<K> {
 
     ghost Value = { FailingRecord K };
 
-    ghost view = { λ f. failing f.keeper f.left f.has_put };
+    ghost view = { λ f. failing f.keeper f.left };
 }
 
 impl<K: Drop> FailingKeeper<K> {
     /// A keeper that passes on `calls` calls, and returns `Refused` from every later one.
     pub fn new(keeper: K, calls: u64) -> FailingKeeper<K>
-        ensures { result ≡ failing keeper calls false }
+        ensures { result ≡ failing keeper calls }
     {
         FailingKeeper {
             keeper,
             left: calls,
-            has_put: false,
         }
     }
 
@@ -50,7 +47,6 @@ impl<K: Drop> FailingKeeper<K> {
         ensures passes { IsTrue result → self.old.left ≡ self.new.left + 1 }
         ensures refuses { IsFalse result → (self.old.left ≡ 0) × (self.new ≡ self.old) }
         ensures keeper { self.new.keeper ≡ self.old.keeper }
-        ensures put { self.new.has_put ≡ self.old.has_put }
     {
         if self.left == 0 {
             return false;
@@ -79,18 +75,13 @@ impl<A: Allocator, K: Keeper<A>> Keeper<A> for FailingKeeper<K> {
         ensures refused { K.is_honest self.new.keeper → OnErr result (Stays (K.handlers self.old.keeper) (K.handlers self.new.keeper)) }
         ensures lasts { K.is_honest self.new.keeper
             → Lasts (K.handlers self.old.keeper) (K.handlers self.new.keeper) (K.outlasting self.old.keeper) (K.outlasting self.new.keeper) }
-        ensures marks { OnOk result (IsTrue self.new.has_put) }
         ensures named { IfErr result IsPutError }
         ensures honest { K.is_honest self.new.keeper → K.is_honest self.old.keeper }
     {
         if !self.passes() {
             return Err(KeeperError::Refused);
         }
-        let put = self.keeper.put_handler(state);
-        if put.is_ok() {
-            self.has_put = true;
-        }
-        put
+        self.keeper.put_handler(state)
     }
 
     fn load_handler(&mut self, handler: HandlerId) -> Result<Option<HandlerState<A>>, KeeperError>
@@ -101,9 +92,9 @@ impl<A: Allocator, K: Keeper<A>> Keeper<A> for FailingKeeper<K> {
         ensures bad { K.is_honest self.new.keeper → result ≡ Err (KeeperError.BadImage handler) → IsTheOne (K.handlers self.old.keeper handler.0) Damaged }
         ensures named { IfErr result (λ e. IsPutError e ⊎ (e ≡ KeeperError.BadImage handler)) }
         ensures handlers { K.is_honest self.new.keeper → Stays (K.handlers self.old.keeper) (K.handlers self.new.keeper) }
-        ensures incarnations { K.is_honest self.new.keeper → IsSame (K.incarnations self.old.keeper) (K.incarnations self.new.keeper) }
         ensures lasts { K.is_honest self.new.keeper
             → Lasts (K.handlers self.old.keeper) (K.handlers self.new.keeper) (K.outlasting self.old.keeper) (K.outlasting self.new.keeper) }
+        ensures incarnations { K.is_honest self.new.keeper → IsSame (K.incarnations self.old.keeper) (K.incarnations self.new.keeper) }
         ensures honest { K.is_honest self.new.keeper → K.is_honest self.old.keeper }
     {
         if !self.passes() {
@@ -133,10 +124,8 @@ impl<A: Allocator, K: Keeper<A>> Keeper<A> for FailingKeeper<K> {
     }
 
     fn commit(&mut self) -> Result<(), KeeperError>
-        ensures idle { IsFalse self.old.has_put → self.new.left ≡ self.old.left }
-        ensures passes { IsTrue self.old.has_put → self.old.left ≢ 0 → self.old.left ≡ self.new.left + 1 }
-        ensures refuses { IsTrue self.old.has_put → self.old.left ≡ 0 → (result ≡ Err KeeperError.Refused) × (self.new ≡ self.old) }
-        ensures marks { OnOk result (IsFalse self.new.has_put) }
+        ensures passes { self.old.left ≢ 0 → self.old.left ≡ self.new.left + 1 }
+        ensures refuses { self.old.left ≡ 0 → (result ≡ Err KeeperError.Refused) × (self.new ≡ self.old) }
         ensures outlasts { K.is_honest self.new.keeper → OnOk result (Stays (K.handlers self.new.keeper) (K.outlasting self.new.keeper)) }
         ensures refused { K.is_honest self.new.keeper → OnErr result (Stays (K.outlasting self.old.keeper) (K.outlasting self.new.keeper)) }
         ensures handlers { K.is_honest self.new.keeper → Stays (K.handlers self.old.keeper) (K.handlers self.new.keeper) }
@@ -144,13 +133,9 @@ impl<A: Allocator, K: Keeper<A>> Keeper<A> for FailingKeeper<K> {
         ensures named { IfErr result IsPutError }
         ensures honest { K.is_honest self.new.keeper → K.is_honest self.old.keeper }
     {
-        if self.has_put && !self.passes() {
+        if !self.passes() {
             return Err(KeeperError::Refused);
         }
-        let done = self.keeper.commit();
-        if done.is_ok() {
-            self.has_put = false;
-        }
-        done
+        self.keeper.commit()
     }
 }
