@@ -318,10 +318,6 @@ impl<E: Etcd> Keeper<Global> for EtcdStore<E> {
         ensures keys { self.new.keys ≡ self.old.keys }
         ensures taken { self.old.fault ≡ Some StoreFault.TakenOver → (result ≡ Err KeeperError.Refused) × (self.new ≡ self.old) }
         ensures stays { E.is_alone self.new.etcd → SameKeys (E.contents self.old.etcd) (E.contents self.new.etcd) }
-        ensures lasts { E.is_honest self.new.etcd × E.is_alone self.new.etcd
-            → Lasts (Over self.old.pending (handlers_in self.old.keys.name (E.contents self.old.etcd)))
-            (Over self.new.pending (handlers_in self.new.keys.name (E.contents self.new.etcd)))
-            (handlers_in self.old.keys.name (E.contents self.old.etcd)) (handlers_in self.new.keys.name (E.contents self.new.etcd)) }
         ensures honest { E.is_honest self.new.etcd × E.is_alone self.new.etcd → E.is_honest self.old.etcd × E.is_alone self.old.etcd }
     {
         self.begin()?;
@@ -357,10 +353,8 @@ impl<E: Etcd> Keeper<Global> for EtcdStore<E> {
         ensures handlers { E.is_honest self.new.etcd × E.is_alone self.new.etcd
             → Stays (Over self.old.pending (handlers_in self.old.keys.name (E.contents self.old.etcd)))
             (Over self.new.pending (handlers_in self.new.keys.name (E.contents self.new.etcd))) }
-        ensures lasts { E.is_honest self.new.etcd × E.is_alone self.new.etcd
-            → Lasts (Over self.old.pending (handlers_in self.old.keys.name (E.contents self.old.etcd)))
-            (Over self.new.pending (handlers_in self.new.keys.name (E.contents self.new.etcd)))
-            (handlers_in self.old.keys.name (E.contents self.old.etcd)) (handlers_in self.new.keys.name (E.contents self.new.etcd)) }
+        ensures outlasting { E.is_honest self.new.etcd × E.is_alone self.new.etcd
+            → Stays (handlers_in self.old.keys.name (E.contents self.old.etcd)) (handlers_in self.new.keys.name (E.contents self.new.etcd)) }
         ensures pending { self.new.pending ≡ self.old.pending }
         ensures keys { self.new.keys ≡ self.old.keys }
         ensures taken { self.old.fault ≡ Some StoreFault.TakenOver → (result ≡ Err KeeperError.Refused) × (self.new ≡ self.old) }

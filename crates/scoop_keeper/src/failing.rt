@@ -92,8 +92,7 @@ impl<A: Allocator, K: Keeper<A>> Keeper<A> for FailingKeeper<K> {
         ensures bad { K.is_honest self.new.keeper → result ≡ Err (KeeperError.BadImage handler) → IsTheOne (K.handlers self.old.keeper handler.0) Damaged }
         ensures named { IfErr result (λ e. IsPutError e ⊎ (e ≡ KeeperError.BadImage handler)) }
         ensures handlers { K.is_honest self.new.keeper → Stays (K.handlers self.old.keeper) (K.handlers self.new.keeper) }
-        ensures lasts { K.is_honest self.new.keeper
-            → Lasts (K.handlers self.old.keeper) (K.handlers self.new.keeper) (K.outlasting self.old.keeper) (K.outlasting self.new.keeper) }
+        ensures outlasting { K.is_honest self.new.keeper → Stays (K.outlasting self.old.keeper) (K.outlasting self.new.keeper) }
         ensures incarnations { K.is_honest self.new.keeper → IsSame (K.incarnations self.old.keeper) (K.incarnations self.new.keeper) }
         ensures honest { K.is_honest self.new.keeper → K.is_honest self.old.keeper }
     {
@@ -113,8 +112,7 @@ impl<A: Allocator, K: Keeper<A>> Keeper<A> for FailingKeeper<K> {
         ensures refused { K.is_honest self.new.keeper → OnErr result (IsSame (K.incarnations self.old.keeper) (K.incarnations self.new.keeper)) }
         ensures named { IfErr result (λ e. IsPutError e ⊎ (e ≡ KeeperError.IncarnationsSpent)) }
         ensures handlers { K.is_honest self.new.keeper → Stays (K.handlers self.old.keeper) (K.handlers self.new.keeper) }
-        ensures lasts { K.is_honest self.new.keeper
-            → Lasts (K.handlers self.old.keeper) (K.handlers self.new.keeper) (K.outlasting self.old.keeper) (K.outlasting self.new.keeper) }
+        ensures outlasting { K.is_honest self.new.keeper → Stays (K.outlasting self.old.keeper) (K.outlasting self.new.keeper) }
         ensures honest { K.is_honest self.new.keeper → K.is_honest self.old.keeper }
     {
         if !self.passes() {

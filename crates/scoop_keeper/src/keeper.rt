@@ -101,7 +101,7 @@ pub trait Keeper<A: Allocator>: Drop {
         ensures bad { is_honest self.new → result ≡ Err (KeeperError.BadImage handler) → IsTheOne (handlers self.old handler.0) Damaged }
         ensures named { IfErr result (λ e. IsPutError e ⊎ (e ≡ KeeperError.BadImage handler)) }
         ensures handlers { is_honest self.new → Stays (handlers self.old) (handlers self.new) }
-        ensures lasts { is_honest self.new → Lasts (handlers self.old) (handlers self.new) (outlasting self.old) (outlasting self.new) }
+        ensures outlasting { is_honest self.new → Stays (outlasting self.old) (outlasting self.new) }
         ensures incarnations { is_honest self.new → IsSame (incarnations self.old) (incarnations self.new) }
         ensures honest { is_honest self.new → is_honest self.old }
         ensures gives { load_gives self.old handler result self.new };
@@ -116,7 +116,7 @@ pub trait Keeper<A: Allocator>: Drop {
         ensures refused { is_honest self.new → OnErr result (IsSame (incarnations self.old) (incarnations self.new)) }
         ensures named { IfErr result (λ e. IsPutError e ⊎ (e ≡ KeeperError.IncarnationsSpent)) }
         ensures handlers { is_honest self.new → Stays (handlers self.old) (handlers self.new) }
-        ensures lasts { is_honest self.new → Lasts (handlers self.old) (handlers self.new) (outlasting self.old) (outlasting self.new) }
+        ensures outlasting { is_honest self.new → Stays (outlasting self.old) (outlasting self.new) }
         ensures honest { is_honest self.new → is_honest self.old }
         ensures gives { next_gives self.old client result self.new };
 
@@ -139,7 +139,7 @@ pub trait Keeper<A: Allocator>: Drop {
     /// Refused with nothing stored: `OutOfMemory`, `Refused`.
     fn note_heard(&mut self, _message: &Message, _heard: &Heard) -> Result<(), KeeperError>
         ensures handlers { is_honest self.new → Stays (handlers self.old) (handlers self.new) }
-        ensures lasts { is_honest self.new → Lasts (handlers self.old) (handlers self.new) (outlasting self.old) (outlasting self.new) }
+        ensures outlasting { is_honest self.new → Stays (outlasting self.old) (outlasting self.new) }
         ensures incarnations { is_honest self.new → IsSame (incarnations self.old) (incarnations self.new) }
         ensures named { IfErr result IsPutError }
         ensures honest { is_honest self.new → is_honest self.old }
@@ -152,7 +152,7 @@ pub trait Keeper<A: Allocator>: Drop {
     /// Refused with nothing stored: `OutOfMemory`, `Refused`.
     fn note_finished(&mut self, _handler: HandlerId) -> Result<(), KeeperError>
         ensures handlers { is_honest self.new → Stays (handlers self.old) (handlers self.new) }
-        ensures lasts { is_honest self.new → Lasts (handlers self.old) (handlers self.new) (outlasting self.old) (outlasting self.new) }
+        ensures outlasting { is_honest self.new → Stays (outlasting self.old) (outlasting self.new) }
         ensures incarnations { is_honest self.new → IsSame (incarnations self.old) (incarnations self.new) }
         ensures named { IfErr result IsPutError }
         ensures honest { is_honest self.new → is_honest self.old }

@@ -1,7 +1,7 @@
 //! A keeper with observers over it.
 
 ghost use Rattle.std.specs.Prelude.{◌≡◌, ◌⊎◌, true, Err, IfErr, IsSome, OnOk, OnErr, if◌then◌else◌};
-ghost use Rattle.scoop_keeper.specs.Keeper.{IsPutError, IsSame, Lasts, Stays};
+ghost use Rattle.scoop_keeper.specs.Keeper.{IsPutError, IsSame, Stays};
 ghost use Rattle.scoop_keeper.specs.Storing.{leaves};
 ghost use Rattle.scoop_journal.specs.declared.line.Line.TheVariants.{Hear};
 ghost use Rattle.scoop_journal.specs.Journal.{ended};
@@ -137,8 +137,7 @@ impl<'a, K: SharedKeeper<Global>, O: Watcher, W: Write + Drop> Keeper<Global>
         ensures kept { OnErr result (OfJournal (λ old new. Untouched old new
             ⊎ ((result ≡ Err KeeperError.Refused) × (new.lines.has_failed ≡ true))) self.old.journal self.new.journal) }
         ensures handlers { K.is_honest self.new.keeper → Stays (K.handlers self.old.keeper) (K.handlers self.new.keeper) }
-        ensures lasts { K.is_honest self.new.keeper
-            → Lasts (K.handlers self.old.keeper) (K.handlers self.new.keeper) (K.outlasting self.old.keeper) (K.outlasting self.new.keeper) }
+        ensures outlasting { K.is_honest self.new.keeper → Stays (K.outlasting self.old.keeper) (K.outlasting self.new.keeper) }
         ensures incarnations { K.is_honest self.new.keeper → IsSame (K.incarnations self.old.keeper) (K.incarnations self.new.keeper) }
         ensures named { IfErr result IsPutError }
         ensures honest { K.is_honest self.new.keeper → K.is_honest self.old.keeper }
@@ -162,8 +161,7 @@ impl<'a, K: SharedKeeper<Global>, O: Watcher, W: Write + Drop> Keeper<Global>
         ensures kept { OnErr result (OfJournal (λ old new. Untouched old new
             ⊎ ((result ≡ Err KeeperError.Refused) × (new.lines.has_failed ≡ true))) self.old.journal self.new.journal) }
         ensures handlers { K.is_honest self.new.keeper → Stays (K.handlers self.old.keeper) (K.handlers self.new.keeper) }
-        ensures lasts { K.is_honest self.new.keeper
-            → Lasts (K.handlers self.old.keeper) (K.handlers self.new.keeper) (K.outlasting self.old.keeper) (K.outlasting self.new.keeper) }
+        ensures outlasting { K.is_honest self.new.keeper → Stays (K.outlasting self.old.keeper) (K.outlasting self.new.keeper) }
         ensures incarnations { K.is_honest self.new.keeper → IsSame (K.incarnations self.old.keeper) (K.incarnations self.new.keeper) }
         ensures named { IfErr result IsPutError }
         ensures honest { K.is_honest self.new.keeper → K.is_honest self.old.keeper }

@@ -101,7 +101,7 @@ pub(crate) fn hear_under<K: Keeper<Global>, W: Write + Drop>(
     ensures kept { OnErr result (OfJournal (λ old new. Untouched old new
         ⊎ ((result ≡ Err KeeperError.Refused) × (new.lines.has_failed ≡ true))) journal.old journal.new) }
     ensures handlers { K.is_honest keeper.new → Stays (K.handlers keeper.old) (K.handlers keeper.new) }
-    ensures lasts { K.is_honest keeper.new → Lasts (K.handlers keeper.old) (K.handlers keeper.new) (K.outlasting keeper.old) (K.outlasting keeper.new) }
+    ensures outlasting { K.is_honest keeper.new → Stays (K.outlasting keeper.old) (K.outlasting keeper.new) }
     ensures incarnations { K.is_honest keeper.new → IsSame (K.incarnations keeper.old) (K.incarnations keeper.new) }
     ensures named { IfErr result IsPutError }
     ensures honest { K.is_honest keeper.new → K.is_honest keeper.old }
@@ -123,7 +123,7 @@ pub(crate) fn finish_under<K: Keeper<Global>, W: Write + Drop>(
     ensures kept { OnErr result (OfJournal (λ old new. Untouched old new
         ⊎ ((result ≡ Err KeeperError.Refused) × (new.lines.has_failed ≡ true))) journal.old journal.new) }
     ensures handlers { K.is_honest keeper.new → Stays (K.handlers keeper.old) (K.handlers keeper.new) }
-    ensures lasts { K.is_honest keeper.new → Lasts (K.handlers keeper.old) (K.handlers keeper.new) (K.outlasting keeper.old) (K.outlasting keeper.new) }
+    ensures outlasting { K.is_honest keeper.new → Stays (K.outlasting keeper.old) (K.outlasting keeper.new) }
     ensures incarnations { K.is_honest keeper.new → IsSame (K.incarnations keeper.old) (K.incarnations keeper.new) }
     ensures named { IfErr result IsPutError }
     ensures honest { K.is_honest keeper.new → K.is_honest keeper.old }

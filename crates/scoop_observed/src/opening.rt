@@ -1,7 +1,7 @@
 //! The first lines of a node's life.
 
 ghost use Rattle.std.specs.Prelude.{◌≡◌, IfErr};
-ghost use Rattle.scoop_keeper.specs.Keeper.{IsPutError, IsSame, Lasts, Stays};
+ghost use Rattle.scoop_keeper.specs.Keeper.{IsPutError, IsSame, Stays};
 
 use hex::encode;
 use scoop_handler::HandlerState;
@@ -43,7 +43,7 @@ pub(crate) fn gather_opening<K: Keeper<Global>, W: Write + Drop>(
 ) -> Result<(), KeeperError>
     ensures named { IfErr result IsPutError }
     ensures handlers { K.is_honest keeper.new → Stays (K.handlers keeper.old) (K.handlers keeper.new) }
-    ensures lasts { K.is_honest keeper.new → Lasts (K.handlers keeper.old) (K.handlers keeper.new) (K.outlasting keeper.old) (K.outlasting keeper.new) }
+    ensures outlasting { K.is_honest keeper.new → Stays (K.outlasting keeper.old) (K.outlasting keeper.new) }
     ensures incarnations { K.is_honest keeper.new → IsSame (K.incarnations keeper.old) (K.incarnations keeper.new) }
     ensures honest { K.is_honest keeper.new → K.is_honest keeper.old }
     ensures writer { journal.new.writer ≡ journal.old.writer }
@@ -64,7 +64,7 @@ fn gather_states<K: Keeper<Global>, W: Write + Drop>(
 ) -> Result<(), KeeperError>
     ensures named { IfErr result IsPutError }
     ensures handlers { K.is_honest keeper.new → Stays (K.handlers keeper.old) (K.handlers keeper.new) }
-    ensures lasts { K.is_honest keeper.new → Lasts (K.handlers keeper.old) (K.handlers keeper.new) (K.outlasting keeper.old) (K.outlasting keeper.new) }
+    ensures outlasting { K.is_honest keeper.new → Stays (K.outlasting keeper.old) (K.outlasting keeper.new) }
     ensures incarnations { K.is_honest keeper.new → IsSame (K.incarnations keeper.old) (K.incarnations keeper.new) }
     ensures honest { K.is_honest keeper.new → K.is_honest keeper.old }
     ensures writer { journal.new.writer ≡ journal.old.writer }
@@ -88,7 +88,7 @@ fn gather_handler<K: Keeper<Global>, W: Write + Drop>(
 ) -> Result<(), KeeperError>
     ensures named { IfErr result IsPutError }
     ensures handlers { K.is_honest keeper.new → Stays (K.handlers keeper.old) (K.handlers keeper.new) }
-    ensures lasts { K.is_honest keeper.new → Lasts (K.handlers keeper.old) (K.handlers keeper.new) (K.outlasting keeper.old) (K.outlasting keeper.new) }
+    ensures outlasting { K.is_honest keeper.new → Stays (K.outlasting keeper.old) (K.outlasting keeper.new) }
     ensures incarnations { K.is_honest keeper.new → IsSame (K.incarnations keeper.old) (K.incarnations keeper.new) }
     ensures honest { K.is_honest keeper.new → K.is_honest keeper.old }
     ensures writer { journal.new.writer ≡ journal.old.writer }

@@ -135,9 +135,6 @@ impl<S: Alter + Drop> Keeper<Global> for GatheringStore<S> {
         ensures named { IfErr result (λ e. IsPutError e ⊎ (e ≡ KeeperError.BadImage handler)) }
         ensures pending { self.new.pending ≡ self.old.pending }
         ensures same { IsSound (seen S.Store self.new.store) → (seen S.Store self.new.store).now ≡ (seen S.Store self.old.store).now }
-        ensures lasts { IsSound (seen S.Store self.new.store) → Lasts (Over self.old.pending (handlers_in (seen S.Store self.old.store).now))
-            (Over self.new.pending (handlers_in (seen S.Store self.new.store).now))
-            (handlers_in (seen S.Store self.old.store).now) (handlers_in (seen S.Store self.new.store).now) }
         ensures honest { IsSound (seen S.Store self.new.store) → IsSound (seen S.Store self.old.store) }
         ensures survives { Survives (seen S.Store self.old.store) (seen S.Store self.new.store) (λ _. ⊥) }
     {
@@ -160,9 +157,8 @@ impl<S: Alter + Drop> Keeper<Global> for GatheringStore<S> {
         ensures handlers { IsSound (seen S.Store self.new.store)
             → Stays (Over self.old.pending (handlers_in (seen S.Store self.old.store).now))
             (Over self.new.pending (handlers_in (seen S.Store self.new.store).now)) }
-        ensures lasts { IsSound (seen S.Store self.new.store) → Lasts (Over self.old.pending (handlers_in (seen S.Store self.old.store).now))
-            (Over self.new.pending (handlers_in (seen S.Store self.new.store).now))
-            (handlers_in (seen S.Store self.old.store).now) (handlers_in (seen S.Store self.new.store).now) }
+        ensures outlasting { IsSound (seen S.Store self.new.store)
+            → Stays (handlers_in (seen S.Store self.old.store).now) (handlers_in (seen S.Store self.new.store).now) }
         ensures pending { self.new.pending ≡ self.old.pending }
         ensures honest { IsSound (seen S.Store self.new.store) → IsSound (seen S.Store self.old.store) }
         ensures survives { Survives (seen S.Store self.old.store) (seen S.Store self.new.store) (λ trees. (db : Database)

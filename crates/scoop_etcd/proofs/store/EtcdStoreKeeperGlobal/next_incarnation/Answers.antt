@@ -1,5 +1,5 @@
 use Rattle.std.proofs.Common.{◌∙◌, subst, arith}
-use Rattle.scoop_keeper.specs.Keeper.{Sets, Stays, as_it_was}
+use Rattle.scoop_keeper.specs.Keeper.{Sets, Stays}
 use Rattle.scoop_record.specs.Gathering.{Over}
 use Rattle.scoop_etcd.specs.Incarnation.{incs_in}
 use Rattle.scoop_etcd.specs.States.{handlers_in}
@@ -20,9 +20,9 @@ returns-in-Ok-Some-clause-handlers g c sound =
     (c.self.view_is ∙ c.in_ok-begin.ensures.ok.0)
     (over_stays c.self.inside.pending.items _ _ (advance_states _ _ _ _ _ (rw c.in-Ok-Some.field-0-is at (c.in-Ok-Some.ensures.advances sound.0)) sound.1))
 
-pub returns-in-Ok-Some-clause-lasts : goal.returns-in-Ok-Some-clause-lasts
-returns-in-Ok-Some-clause-lasts g c sound =
-    as_it_was (subst (λ r. Stays (handlers_in r.keys.name (g.E.Etcd.contents r.etcd))
+pub returns-in-Ok-Some-clause-outlasting : goal.returns-in-Ok-Some-clause-outlasting
+returns-in-Ok-Some-clause-outlasting g c sound =
+    subst (λ r. Stays (handlers_in r.keys.name (g.E.Etcd.contents r.etcd))
     (handlers_in c.self.inside.keys.name.items (g.E.Etcd.contents c.advance.new.etcd)))
     (c.self.view_is ∙ c.in_ok-begin.ensures.ok.0)
-    (advance_states _ _ _ _ _ (rw c.in-Ok-Some.field-0-is at (c.in-Ok-Some.ensures.advances sound.0)) sound.1))
+    (advance_states _ _ _ _ _ (rw c.in-Ok-Some.field-0-is at (c.in-Ok-Some.ensures.advances sound.0)) sound.1)
