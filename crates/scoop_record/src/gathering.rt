@@ -93,7 +93,7 @@ impl<S: Alter + Drop> Keeper<Global> for GatheringStore<S> {
     ghost use Rattle.sqlite.specs.State.{Survives};
     ghost use Rattle.sqlite.specs.Effect.{Database};
     ghost use Rattle.scoop_keeper.specs.declared.keeper.KeeperError.{KeeperError};
-    ghost use Rattle.scoop_keeper.specs.Keeper.{Damaged, Keeps, Lasts, Stays, IsSame, IsTheOne, Sets, IsPutError, next_of, last_incarnation, stored_of};
+    ghost use Rattle.scoop_keeper.specs.Keeper.{Damaged, Keeps, Stays, IsSame, IsTheOne, Sets, IsPutError, next_of, last_incarnation, stored_of};
     ghost use Rattle.scoop_record.specs.Store.{handlers_in, incs_in, IsSound, IsOpenOnOk, Advances, SavesAll};
     ghost use Rattle.scoop_record.specs.Gathering.{Over};
 
@@ -118,9 +118,6 @@ impl<S: Alter + Drop> Keeper<Global> for GatheringStore<S> {
         ensures named { IfErr result (λ e. e ≡ KeeperError.OutOfMemory) }
         ensures stored { OnOk result (Keeps (Over self.old.pending (handlers_in (seen S.Store self.old.store).now))
             (Over self.new.pending (handlers_in (seen S.Store self.new.store).now)) state.now) }
-        ensures lasts { Lasts (Over self.old.pending (handlers_in (seen S.Store self.old.store).now))
-            (Over self.new.pending (handlers_in (seen S.Store self.new.store).now))
-            (handlers_in (seen S.Store self.old.store).now) (handlers_in (seen S.Store self.new.store).now) }
     {
         gather(&mut self.pending, state)?;
         Ok(())
