@@ -13,7 +13,7 @@ use scoop_message::ClientId;
 use scoop_observed::{NodeJournal, ObservedKeeper, Observers};
 use scoop_opening::{
     End, OpenStore, check_choice, client_keeper, fated_end, note_owner, open_client, open_journal,
-    read_system, read_text, report_end, report_fault, report_plainly, store_in_client, store_name,
+    read_system, read_text, report_fault, report_plainly, store_in_client, store_name,
     with_journal,
 };
 use scoop_pacing::{SlowNotes, SystemTimes};
@@ -72,17 +72,22 @@ fn run_in<T: Net>(
     system: &System,
 ) -> Result<(), Status> {
     if options.only_cuts {
-        let config = ClientConfig::read(rt, options, system, false)?;
-        return run_task(rt, net, &config, &mut Cut);
+        return run_task(rt, net, options, system, false, &mut Cut);
     }
     let Some(path) = options.lines else {
-        let config = ClientConfig::read(rt, options, system, rt.stdin().is_terminal())?;
-        return run_task(rt, net, &config, &mut Input { net, names: &[] });
+        let is_typed = rt.stdin().is_terminal();
+        return run_task(
+            rt,
+            net,
+            options,
+            system,
+            is_typed,
+            &mut Input { net, names: &[] },
+        );
     };
     let text = read_text(rt, path)?;
     check_lines(rt, options, system, path, &text)?;
-    let config = ClientConfig::read(rt, options, system, false)?;
-    run_task(rt, net, &config, &mut Script { text: &text })
+    run_task(rt, net, options, system, false, &mut Script { text: &text })
 }
 
 /// Runs a program as the client of the options. With `only_cuts` it cuts the block of a run that was killed, and the program
@@ -94,11 +99,10 @@ pub fn run_own_client<T: Net, G: ClientProgram>(
     program: &mut G,
 ) -> Result<(), Status> {
     let system = system_of(rt, options)?;
-    let config = ClientConfig::read(rt, options, &system, false)?;
     if options.only_cuts {
-        run_task(rt, net, &config, &mut Cut)
+        run_task(rt, net, options, &system, false, &mut Cut)
     } else {
-        run_task(rt, net, &config, &mut Program { program })
+        run_task(rt, net, options, &system, false, &mut Program { program })
     }
 }
 
@@ -119,16 +123,21 @@ fn check_lines(
     }
 }
 
-// Runs the client for this task, and reports why it ends early.
+// Runs the client for this task, and reports why it ends early. A user may type its lines.
 fn run_task<T: Net, C: ClientTask>(
     rt: &HostRuntime,
     net: &T,
-    config: &ClientConfig<'_>,
+    options: &ClientOptions<'_>,
+    system: &System,
+    is_typed: bool,
     task: &mut C,
 ) -> Result<(), Status> {
-    match run_journaled(rt, net, config, task) {
-        Ok(()) => Ok(()),
-        Err(end) => Err(report_end(rt, &config.party(), end)),
+    match ClientConfig::read(rt, options, system, is_typed) {
+        Ok(config) => match run_journaled(rt, net, &config, task) {
+            Ok(()) => Ok(()),
+            Err(end) => Err(config.report(rt, end)),
+        },
+        Err(status) => Err(status),
     }
 }
 
@@ -136,7 +145,7 @@ fn run_task<T: Net, C: ClientTask>(
 fn run_journaled<T: Net, C: ClientTask>(
     rt: &HostRuntime,
     net: &T,
-    config: &ClientConfig<'_>,
+    config: &ClientConfig<'_, '_>,
     task: &mut C,
 ) -> Result<(), End> {
     let journal = open_journal(rt, config.journal, config.owner())?;
@@ -149,21 +158,19 @@ fn run_journaled<T: Net, C: ClientTask>(
 fn run_at<T: Net, C: ClientTask>(
     rt: &HostRuntime,
     net: &T,
-    config: &ClientConfig<'_>,
+    config: &ClientConfig<'_, '_>,
     journal: Option<&JournalFile>,
     task: &mut C,
 ) -> Result<(), End> {
     let link = client_link(rt, net, config)?;
     let name = store_name(rt.alloc(), config.store)?;
-    let asking = Asking {
-        config,
+    let papers = Papers {
         name: name.as_ref(),
         journal,
-        link,
     };
     let client = config.plan.place().client;
     let (ran, store) = match open_client(rt, config.store, config.after, client) {
-        Ok(store) => run_over(rt, asking, store, task),
+        Ok(store) => run_over(rt, config, papers, link, store, task),
         Err(end) => return Err(end),
     };
     closed(ran, store)
@@ -183,7 +190,7 @@ fn closed(ran: Result<(), End>, store: Option<FiledStore>) -> Result<(), End> {
 pub fn client_link<'r, T: Net>(
     rt: &'r HostRuntime,
     net: &T,
-    config: &ClientConfig<'_>,
+    config: &ClientConfig<'_, '_>,
 ) -> Result<AskingLink<'r>, End> {
     let (system, place) = (config.plan.system(), config.plan.place());
     let link = open_client_link(net, rt.alloc(), system, &place)?;
@@ -201,30 +208,25 @@ fn slow_notes(rt: &HostRuntime) -> SlowNotes<Stderr, SystemTimes<'_, HostRuntime
     SlowNotes::new(rt.stderr(), SystemTimes::new(rt))
 }
 
-/// A client with its link, before it runs.
-#[derive(Drop)]
-pub struct Asking<'a, 'r> {
-    pub config: &'a ClientConfig<'a>,
+/// Where a client writes besides its store.
+#[derive(Clone, Copy)]
+pub struct Papers<'a> {
     /// The name of its store, if that is a file.
     pub name: Option<&'a StoreName>,
     pub journal: Option<&'a JournalFile>,
-    pub link: AskingLink<'r>,
 }
 
-/// Runs the client over its store, which knows its owner from then on, and returns it if it is in a file. The text beside it gets
-/// the client's incarnation.
+/// Runs the client over this link and its store, which knows its owner from then on, and returns the store if it is in a file. The
+/// text beside it gets the client's incarnation.
 pub fn run_over<S: Alter + Drop, C: ClientTask>(
     rt: &HostRuntime,
-    asking: Asking<'_, '_>,
+    config: &ClientConfig<'_, '_>,
+    papers: Papers<'_>,
+    mut link: AskingLink<'_>,
     store: OpenStore<'_, S>,
     task: &mut C,
 ) -> (Result<(), End>, Option<Store<S>>) {
-    let Asking {
-        config,
-        name,
-        journal,
-        mut link,
-    } = asking;
+    let Papers { name, journal } = papers;
     note_owner(rt, config.store, config.plan.system(), config.owner());
     let fate = Fate::new();
     let keeper = client_keeper(rt.alloc(), store, &fate);

@@ -13,27 +13,26 @@
 
 use crate::programs::Asker;
 use crate::text_lines::TextLines;
-use scoop_demo::read_message;
 use scoop_driver::NoPause;
 use scoop_frame::encode;
 use scoop_journal::Journal;
 use scoop_keeper::MemoryKeeper;
 use scoop_lines::is;
 use scoop_link::{Datagram, TapeLink};
-use scoop_message::limits::BUFFER_LEN;
 use scoop_message::ClientId;
+use scoop_message::limits::BUFFER_LEN;
 use scoop_row_player::Bad;
 use scoop_row_player::answers::{has, tells, without_last};
-use scoop_row_player::words::{after_space, first_three, last, long, number, read_text};
+use scoop_row_player::words::{first_three, last, long, number, read_text};
+use scoop_rows_parts::printing::message;
 use scoop_runtime::{
     Caller, ClientPlan, ClientProgram, ClientRecord, Console, ProgramRun, Progress, RuntimeError,
     client_cut, client_run, program_run,
 };
 use scoop_system::System;
 use std::alloc::Global;
-use std::io;
 use std::io::{Error, ErrorKind, Write};
-use std::mem;
+use std::{io, mem};
 
 // Datagrams that a client can send in one session, which repeats each one at each turn.
 const ROOM: usize = 2_048;
@@ -189,11 +188,10 @@ impl Sessions {
             journal: Some(Journal::new(alloc, &mut self.written)),
         };
         let run = ProgramRun {
-            program: &mut asker,
             pause: NoPause,
             notes: &mut self.notes,
         };
-        let end = program_run(alloc, plan, &mut record, &mut link, run);
+        let end = program_run(alloc, plan, &mut record, &mut link, &mut asker, run);
         let ClientRecord { store, .. } = record;
         self.keeper = store;
         asker.tells_balance(answer)?;
@@ -246,14 +244,7 @@ impl Sessions {
             store: mem::replace(&mut self.keeper, MemoryKeeper::new(alloc)),
             journal: Some(Journal::new(alloc, &mut self.written)),
         };
-        let ended = client_cut(
-            alloc,
-            plan,
-            &mut record,
-            &mut link,
-            answer,
-            &mut self.notes,
-        );
+        let ended = client_cut(alloc, plan, &mut record, &mut link, answer, &mut self.notes);
         let ClientRecord { store, .. } = record;
         self.keeper = store;
         ends(ended, answer)
@@ -281,9 +272,7 @@ fn tape_of(alloc: Global, heard: &[Datagram]) -> Result<TapeLink, Bad> {
 
 // The frame of a message.
 fn datagram_of(alloc: Global, line: &[u8]) -> Result<Datagram, Bad> {
-    let Ok((version, message)) = read_message(alloc, after_space(line)) else {
-        return Err(Bad::Words);
-    };
+    let (version, message) = message(alloc, line)?;
     let mut buffer = [0; BUFFER_LEN];
     let len = encode(version, &message, &mut buffer);
     Ok(Datagram::of(&buffer[..len]))

@@ -46,11 +46,8 @@ impl Systems {
     // Reads the file, and answers its faults.
     fn reads(&mut self, answer: &mut Vec<u8>) -> Result<(), Bad> {
         let text = text_of(self.text.as_slice())?;
-        keeps(
-            &mut self.system,
-            System::read(*answer.allocator(), text),
-            answer,
-        )
+        let system = System::read(*answer.allocator(), text);
+        keeps(&mut self.system, system, answer)
     }
 
     // The same without the lines that say where a fault is.
@@ -106,9 +103,7 @@ fn serves(line: &[u8], answer: &mut Vec<u8>) -> Result<(), Bad> {
     let [executors, history, turns] = numbers.as_slice() else {
         return Err(Bad::Words);
     };
-    let Ok(executors) = u32::try_from(*executors) else {
-        return Err(Bad::Number);
-    };
+    let executors = u32::try_from(*executors).map_err(|_| Bad::Number)?;
     told(Serving::new(executors, *history as usize, *turns), answer)
 }
 

@@ -30,7 +30,6 @@
 mod arguments;
 
 pub use arguments::{report_command_line, report_memory, words};
-use clap::ArgMatches;
 use scoop_client_command::run_own_client;
 use scoop_command_line::{client_options, node_options, parse_client, parse_node};
 use scoop_node_command::serve_node;
@@ -49,29 +48,13 @@ pub fn start_node<T: Threads + Wait + Clock + Net + Sync, O: Objects + Sync>(
     threads: &T,
     objects: O,
 ) -> ExitCode {
-    code(node(rt, threads, objects))
-}
-
-fn node<T: Threads + Wait + Clock + Net + Sync, O: Objects + Sync>(
-    rt: &HostRuntime,
-    threads: &T,
-    objects: O,
-) -> Result<(), Status> {
-    let words = words(rt)?;
-    match parse_node(rt.alloc(), words.as_slice()) {
-        Ok(matches) => serve(rt, threads, &matches, objects),
-        Err(error) => Err(report_command_line(rt, &error)),
+    match words(rt) {
+        Ok(words) => match parse_node(rt.alloc(), words.as_slice()) {
+            Ok(matches) => code(serve_node(rt, threads, &node_options(&matches), objects)),
+            Err(error) => code(Err(report_command_line(rt, &error))),
+        },
+        Err(status) => code(Err(status)),
     }
-}
-
-// The matches are borrowed, so that no early return has to drop them.
-fn serve<T: Threads + Wait + Clock + Net + Sync, O: Objects + Sync>(
-    rt: &HostRuntime,
-    threads: &T,
-    matches: &ArgMatches<'_>,
-    objects: O,
-) -> Result<(), Status> {
-    serve_node(rt, threads, &node_options(matches), objects)
 }
 
 /// Runs this program as the client of the program's words, and returns the program's status. The second handle, which is the
@@ -81,28 +64,13 @@ pub fn start_client<T: Net, G: ClientProgram>(
     net: &T,
     program: &mut G,
 ) -> ExitCode {
-    code(client(rt, net, program))
-}
-
-fn client<T: Net, G: ClientProgram>(
-    rt: &HostRuntime,
-    net: &T,
-    program: &mut G,
-) -> Result<(), Status> {
-    let words = words(rt)?;
-    match parse_client(rt.alloc(), words.as_slice()) {
-        Ok(matches) => run(rt, net, &matches, program),
-        Err(error) => Err(report_command_line(rt, &error)),
+    match words(rt) {
+        Ok(words) => match parse_client(rt.alloc(), words.as_slice()) {
+            Ok(matches) => code(run_own_client(rt, net, &client_options(&matches), program)),
+            Err(error) => code(Err(report_command_line(rt, &error))),
+        },
+        Err(status) => code(Err(status)),
     }
-}
-
-fn run<T: Net, G: ClientProgram>(
-    rt: &HostRuntime,
-    net: &T,
-    matches: &ArgMatches<'_>,
-    program: &mut G,
-) -> Result<(), Status> {
-    run_own_client(rt, net, &client_options(matches), program)
 }
 
 fn code(ended: Result<(), Status>) -> ExitCode {
