@@ -2,20 +2,23 @@
 
 use crate::name::Name;
 use crate::phrase::{Form, Phrase, Shown};
-use std::error::Error;
 use std::{fmt, mem};
+use thiserror::Error;
 
 /// Faults of one file that are reported, at most.
 pub const MAX_FAULTS: usize = 20;
 
 /// Why a text is no system. Printed after the file's name.
-#[derive(Drop)]
+#[derive(Drop, Error)]
 pub enum SystemError {
     /// The text isn't TOML.
+    #[error("{0}")]
     Toml(TomlFault),
     /// The text is TOML, and describes no system.
+    #[error("{0}")]
     Faults(Faults),
     /// A growth of memory was refused.
+    #[error("out of memory")]
     OutOfMemory,
 }
 
@@ -103,23 +106,11 @@ impl Fault {
     }
 }
 
-impl fmt::Display for SystemError {
-    fn fmt<W: fmt::Write>(&self, f: &mut fmt::Formatter<W>) -> fmt::Result {
-        match self {
-            SystemError::Toml(fault) => write!(f, "{fault}"),
-            SystemError::Faults(faults) => write!(f, "{faults}"),
-            SystemError::OutOfMemory => f.write_str("out of memory"),
-        }
-    }
-}
-
 impl fmt::Debug for SystemError {
     fn fmt<W: fmt::Write>(&self, f: &mut fmt::Formatter<W>) -> fmt::Result {
         write!(f, "{self}")
     }
 }
-
-impl Error for SystemError {}
 
 impl fmt::Display for TomlFault {
     // TOML's own faults have TOML's texts.

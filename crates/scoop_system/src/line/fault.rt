@@ -2,11 +2,11 @@
 
 use crate::shown_word::ShownWord;
 use scoop_message::HandlerId;
-use std::error::Error;
 use std::fmt;
+use thiserror::Error;
 
 /// The fault of a line. Printed in words, as `not a number "stock"`.
-#[derive(Clone, Copy)]
+#[derive(Clone, Copy, Error)]
 pub enum LineFault {
     /// The first word is unknown.
     UnknownLine(ShownWord),
@@ -75,5 +75,3 @@ impl fmt::Debug for LineFault {
         write!(f, "{self}")
     }
 }
-
-impl Error for LineFault {}
