@@ -58,7 +58,13 @@ handler_sound : (classes : List NamedClass) (nodes : List NodePlace) (before : L
     → IsSound classes nodes h
 handler_sound classes nodes before h new =
     let class = class_known classes h.class (length h.words) new.words.all in
-    record { class = class.table; found = class.found; words = record { some = new.words.some; few = new.words.few }; same = class.words; stands = sym (found_any (λ (n : NodePlace). n.number == h.node) nodes) ∙ new.node }
+    record {
+      class = class.table;
+      found = class.found;
+      words = record { some = new.words.some; few = new.words.few };
+      same = class.words;
+      stands = sym (found_any (λ (n : NodePlace). n.number == h.node) nodes) ∙ new.node;
+    }
 
 -- ---- as they are placed
 

@@ -14,7 +14,8 @@ pub fn journals_are_a_world()
         → Weaves post (trails_of nodes clients) turns → IsExplained nodes clients turns }
 {}
 
-/// A world may open with the handlers and clients of a well-formed system, as every system is that was read, if it has a handler.
+/// A world may open with the handlers and clients of a well-formed system that has a handler. What `System::read` returns is
+/// well-formed.
 pub fn systems_may_run()
     ensures { (s : Plan) → IsWellFormed s → 1 ≤ length s.handlers → MayRun s }
 {}

@@ -29,10 +29,10 @@ pub fn programs_are_a_world<K: Keeper<Global>, J: Keeper<Global>>()
         → AreAWorld nodes clients }
 {}
 
-/// The same for the nodes and clients of a well-formed system that has a handler. `System::read` ensures that a system which
-/// it read is well-formed. Then a world may open with them. A node runs by its plan, as `NodePlan::of` ensures it, so it has the handlers that the file places on it, each with
-/// its class. A client knows the handlers that it uses, by its own contract. A client's keeper had no incarnation of it before
-/// its first run. A node without handlers is left out.
+/// The same for the nodes and clients of a well-formed system that has a handler. What `System::read` returns is well-formed.
+/// A world may open with them. A node runs by its plan, as `NodePlan::of` ensures it, so it has the handlers that the file
+/// places on it, each with its class. A client knows the handlers that it uses, by its own contract. A client's keeper had no
+/// incarnation of it before its first run. A node without handlers is left out.
 pub fn systems_are_a_world<K: Keeper<Global>, J: Keeper<Global>>()
     ensures { (s : Plan) (nodes : List (NodeRuns K.handlers K.is_honest)) (clients : List (ClientRuns J.incarnations J.is_honest))
         → IsWellFormed s → 1 ≤ length s.handlers → AreOf s nodes clients → AreAWorld nodes clients }

@@ -47,7 +47,9 @@ none_any test xs none = sym (found_any test xs) ∙ ap is_some none
 any_apart : {A : Type 0} (key : A → ℕ) (xs : List A) → EachAfter (λ before x. list_any (λ y. key y == key x) before ≡ false) xs → Apart (map key xs)
 any_apart key [] each = tt
 any_apart {A} key (z ∷ xs) each =
-    let both : (i : ℕ) (x : A) → slice_get xs i ≡ Some x → _ = λ i x is. neither (key z == key x) _ (each (suc i) x is) in
+    let others : List A → A → Bool = λ before x. list_any (λ y. key y == key x) before in
+    let both : (i : ℕ) (x : A) → slice_get xs i ≡ Some x → ((key z == key x) ≡ false) × (others (take i xs) x ≡ false) =
+    λ i x is. neither (key z == key x) (others (take i xs) x) (each (suc i) x is) in
     (not_of key (key z) xs (λ i x is. (both i x is).0), any_apart key xs (λ i x is. (both i x is).1))
 
 -- keys that are new after those before them
@@ -65,7 +67,8 @@ few_from : {A : Type 0} (P : List A → A → Type 0) (limit n : ℕ) (xs : List
 few_from P limit n [] within room each = omega arith
 few_from {A} P limit n (z ∷ xs) within room each =
     let here = room [] z (each 0 z refl) in
-    let later : (before : List A) (x : A) → P (z ∷ before) x → (n + 1) + length before < limit = λ before x is. let more = room (z ∷ before) x is in omega arith in
+    let later : (before : List A) (x : A) → P (z ∷ before) x → (n + 1) + length before < limit =
+    λ before x is. let more = room (z ∷ before) x is in omega arith in
     let rest = few_from (λ before x. P (z ∷ before) x) limit (n + 1) xs (omega arith) later (λ i x is. each (suc i) x is) in
     omega arith
 
@@ -73,7 +76,8 @@ few_from {A} P limit n (z ∷ xs) within room each =
 pub each_few : {A : Type 0} (P : List A → A → Type 0) (limit : ℕ) (xs : List A) → ((before : List A) (x : A) → P before x → length before < limit) → EachAfter P xs
     → length xs ≤ limit
 each_few {A} P limit xs room each =
-    let from : (before : List A) (x : A) → P before x → 0 + length before < limit = λ before x is. let less = room before x is in omega arith in
+    let from : (before : List A) (x : A) → P before x → 0 + length before < limit =
+    λ before x is. let less = room before x is in omega arith in
     let all = few_from P limit 0 xs (omega arith) from each in
     omega arith
 

@@ -50,8 +50,8 @@ kept_all {A} {F} Q R more {kept} {fault} {xs} {x} {new} keeps all right = at kep
 pub operations_none : AreOperations [] []
 operations_none = record { numbers = refl; each = each_none IsNewOperation }
 
-pub operations_more : (rows : List OpRow) (row : OpRow) (os : List OwnOperation) (o : OwnOperation) → AreOperations rows os → o.number ≡ row.op → IsNewOperation os o
-    → AreOperations (rows ++ row ∷ []) (os ++ o ∷ [])
+pub operations_more : (rows : List OpRow) (row : OpRow) (os : List OwnOperation) (o : OwnOperation) → AreOperations rows os → o.number ≡ row.op
+    → IsNewOperation os o → AreOperations (rows ++ row ∷ []) (os ++ o ∷ [])
 operations_more rows row os o are same new =
     record {
       numbers =

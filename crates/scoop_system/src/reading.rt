@@ -79,15 +79,7 @@ fn read_parts(found: &mut Found<'_>) -> Result<System, OutOfMemory>
 }
 
 // Fills empty lists. They are borrowed, so that no early return has to drop them.
-#[tactic(
-    auto,
-    using(
-        crate::proofs::WellFormedLemmas::classes_none,
-        crate::proofs::WellFormedLemmas::nodes_none,
-        crate::proofs::WellFormedLemmas::handlers_none,
-        crate::proofs::WellFormedLemmas::clients_none
-    )
-)]
+#[tactic(auto, using(crate::proofs::WellFormedLemmas::classes_none, crate::proofs::WellFormedLemmas::nodes_none, crate::proofs::WellFormedLemmas::handlers_none, crate::proofs::WellFormedLemmas::clients_none))]
 fn read_lists(
     found: &mut Found<'_>,
     classes: &mut Vec<OwnClass>,
@@ -144,6 +136,8 @@ fn life_at(table: &Value) -> Result<Option<u32>, Phrase> {
     if table.get("life").is_none() {
         return Ok(None);
     }
-    let life = number_at(table, Key::Life, 1, u64::from(u32::MAX))?;
-    Ok(Some(life as u32))
+    match number_at(table, Key::Life, 1, u64::from(u32::MAX)) {
+        Ok(life) => Ok(Some(life as u32)),
+        Err(wrong) => Err(wrong),
+    }
 }

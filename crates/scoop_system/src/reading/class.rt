@@ -91,7 +91,8 @@ fn read_operations(
             name,
         };
         let wrong = operation_fault(operations.as_slice(), &operation, row.writes.as_slice());
-        if found.keep(&item, wrong, operation, operations)? {
+        let kept = found.keep(&item, wrong, operation, operations)?;
+        if kept {
             rows.push(row)?;
         }
     }

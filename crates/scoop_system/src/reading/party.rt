@@ -75,9 +75,12 @@ fn addresses_at(table: &Value) -> Result<NodeAddresses, Phrase> {
 
 // The status address of a node, if it has one.
 fn status_at(table: &Value) -> Result<Option<SocketAddr>, Phrase> {
-    match table.get("status") {
-        Some(value) => Ok(Some(address_of(value, Key::Status)?)),
-        None => Ok(None),
+    let Some(value) = table.get("status") else {
+        return Ok(None);
+    };
+    match address_of(value, Key::Status) {
+        Ok(address) => Ok(Some(address)),
+        Err(wrong) => Err(wrong),
     }
 }
 

@@ -6,7 +6,8 @@ use Rattle.scoop_system.proofs.check.addresses_fault.Goals as goal
 
 pub loop-place-preserved : goal.loop-place-preserved
 loop-place-preserved c =
-    each_taken (IsNewAddress c.args.nodes.now) c.args.addresses.now c.loop-place.place (V4 (record { ip = record { octets = [] }; port = 0 })) c.loop-place-test.true c.loop-place.invariant
+    each_taken (IsNewAddress c.args.nodes.now) c.args.addresses.now c.loop-place.place (V4 (record { ip = record { octets = [] }; port = 0 }))
+    c.loop-place-test.true c.loop-place.invariant
     (record { free = search rules; once = search rules })
 
 pub returns : goal.returns

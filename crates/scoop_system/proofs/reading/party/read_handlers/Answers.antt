@@ -4,4 +4,7 @@ use Rattle.scoop_system.proofs.reading.party.read_handlers.Goals as goal
 
 pub loop-before-preserved : goal.loop-before-preserved
 loop-before-preserved c =
-    kept_all (AreHandlers c.args.classes.now c.args.nodes.now) (IsNewHandler c.args.classes.now c.args.nodes.now) (handlers_more c.args.classes.now c.args.nodes.now) c.in_ok-keep.ensures c.loop-before.invariant (rw c.as_slice.ensures.value at c.handler_fault-wrong.ensures)
+    let classes = c.args.classes.now in
+    let nodes = c.args.nodes.now in
+    kept_all (AreHandlers classes nodes) (IsNewHandler classes nodes) (handlers_more classes nodes) c.in_ok-keep.ensures c.loop-before.invariant
+    (rw c.as_slice.ensures.value at c.handler_fault-wrong.ensures)
