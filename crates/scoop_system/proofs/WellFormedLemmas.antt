@@ -61,6 +61,26 @@ operations_more rows row os o are same new =
       each = each_more IsNewOperation os o are.each new;
     }
 
+-- a row that is added with its operation
+pub operations_kept : {F : Type 0} {rows added : List OpRow} (row : OpRow) {os new : List OwnOperation} {o : OwnOperation} {kept : Bool} {fault : Option F}
+    → AreOperations rows os → Keeps kept fault os o new → kept ≡ true → added ≡ rows ++ row ∷ [] → o.number ≡ row.op → IfNone fault (IsNewOperation os o)
+    → AreOperations added new
+operations_kept {F} {rows} {added} row {os} {new} {o} {kept} {fault} all keeps is more same right = at kept keeps.none keeps.list is
+  where
+    at : (b : Bool) → (b ≡ true → fault ≡ None) → new ≡ cond b (os ++ o ∷ []) os → b ≡ true → AreOperations added new
+    at true none list so =
+        let one : AreOperations (rows ++ row ∷ []) (os ++ o ∷ []) = operations_more rows row os o all same (none_is fault (none refl) right) in
+        subst (λ rs. AreOperations rs new) (sym more) (subst (AreOperations (rows ++ row ∷ [])) (sym list) one)
+    at false none list so = absurd (cc)
+
+pub operations_left : {F : Type 0} {rows left : List OpRow} {os new : List OwnOperation} {o : OwnOperation} {kept : Bool} {fault : Option F}
+    → AreOperations rows os → Keeps kept fault os o new → kept ≡ false → left ≡ rows → AreOperations left new
+operations_left {F} {rows} {left} {os} {new} {o} {kept} {fault} all keeps is same = at kept keeps.list is
+  where
+    at : (b : Bool) → new ≡ cond b (os ++ o ∷ []) os → b ≡ false → AreOperations left new
+    at true list so = absurd (cc)
+    at false list so = subst (λ rs. AreOperations rs new) (sym same) (subst (AreOperations rows) (sym list) all)
+
 pub classes_none : AreClasses []
 classes_none = record { each = each_none IsNewClass }
 

@@ -91,8 +91,7 @@ fn read_operations(
             name,
         };
         let wrong = operation_fault(operations.as_slice(), &operation, row.writes.as_slice());
-        let kept = found.keep(&item, wrong, operation, operations)?;
-        if kept {
+        if found.keep(&item, wrong, operation, operations)? {
             rows.push(row)?;
         }
     }
