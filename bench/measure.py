@@ -1,9 +1,12 @@
 #!/usr/bin/env python3
 """Measures the program by itself: python3 bench/measure.py [--program PATH] [--rounds N] [--scale F] [--work NAME ..]
+[--beside PATH]
 
 Makes its inputs from fixed seeds, runs the program on each in turn for several rounds, and prints a row for each: the
 lines or events of the input, the least and the median time for one of them, the processor time and the peak of memory.
 On a machine that others use too, trust the least times. --keep FOLDER leaves the inputs, --store adds a run over a file.
+--beside runs another program in turn with this one, compares their output, and prints its time by this one's, by the least
+and the median times: above 1, this one is faster.
 """
 import argparse
 import os
@@ -158,12 +161,37 @@ def row(name, units, runs):
         min(cpu for _, cpu, _ in runs) / units * 1e9, max(peak for _, _, peak in runs) / 1024), flush=True)
 
 
+def beside(given, program, other, rounds):
+    """Runs of both programs in turn, the first one changing. Ends where their outputs differ."""
+    runs = [[], []]
+    for number in range(rounds):
+        for which in (0, 1) if number % 2 else (1, 0):
+            runs[which].append(run((program, other)[which], given, given.arguments))
+    outputs = {output(it, given) for it in (program, other)}
+    if len(outputs) > 1:
+        sys.exit('%s: the programs print other lines' % given.name)
+    return runs
+
+
+def output(program, given):
+    with open(given.path) as lines:
+        return subprocess.run([program] + given.arguments, stdin=lines, capture_output=True, check=True).stdout
+
+
+def compare(name, ours, others):
+    walls = [[wall for wall, _, _ in runs] for runs in (ours, others)]
+    print('| %s, other by this | | %.3f | %.3f | %.3f | |' % (
+        name, min(walls[1]) / min(walls[0]), statistics.median(walls[1]) / statistics.median(walls[0]),
+        min(cpu for _, cpu, _ in others) / min(cpu for _, cpu, _ in ours)), flush=True)
+
+
 def main():
     parser = argparse.ArgumentParser(description=__doc__, formatter_class=argparse.RawDescriptionHelpFormatter)
     parser.add_argument('--program', default=os.path.join(TOP, 'crates', 'scoop', 'out', 'scoop'))
     parser.add_argument('--rounds', type=int, default=5)
     parser.add_argument('--scale', type=float, default=1.0)
     parser.add_argument('--work', nargs='*', default=['locks', 'blocks', 'odd', 'world'])
+    parser.add_argument('--beside')
     parser.add_argument('--keep')
     parser.add_argument('--store', action='store_true')
     options = parser.parse_args()
@@ -176,7 +204,12 @@ def main():
         for name in options.work:
             make, count, arguments = kinds[name]
             given = Input(name, arguments, make(int(count * options.scale), random.Random(name)), folder)
-            row(name, given.units, [run(options.program, given, arguments) for _ in range(options.rounds)])
+            if options.beside:
+                ours, others = beside(given, options.program, options.beside, options.rounds)
+                row(name, given.units, ours)
+                compare(name, ours, others)
+            else:
+                row(name, given.units, [run(options.program, given, arguments) for _ in range(options.rounds)])
         if options.store:
             given = Input('stored', ACCOUNT, blocks(int(5_000 * options.scale), random.Random('stored')), folder)
             runs = []

@@ -33,6 +33,7 @@ use scoop_system::{HandlerPlace, System};
 use scoop_weaver::{NoWeave, Post, Trail, weave_trails};
 use std::alloc::Global;
 use std::marker::Model;
+use std::mem;
 
 /// The bytes of a journal.
 #[derive(Clone, Copy)]
@@ -189,7 +190,7 @@ fn read_node(
     placed: &[Placed],
     bytes: &[u8],
     post: &mut Post,
-    pages: &mut Pages<'_>,
+    pages: &mut Pages,
 ) -> Result<Trail, Trouble>
     requires { 1 ≤ length placed.now }
     ensures grows { OnOk result (Grows post.old post.new) }
@@ -213,7 +214,7 @@ fn tell_node(
     number: u32,
     bytes: &[u8],
     post: &mut Post,
-    pages: &mut Pages<'_>,
+    pages: &mut Pages,
 ) -> Result<Trail, Trouble>
     ensures grows { OnOk result (Grows post.old post.new) }
     ensures told { IfOk result (TellsNodeOf system.now number bytes.now post.new) }
@@ -235,7 +236,7 @@ fn read_client(
     known: &[HandlerId],
     bytes: &[u8],
     post: &mut Post,
-    pages: &mut Pages<'_>,
+    pages: &mut Pages,
 ) -> Result<Trail, Trouble>
     requires some { 1 ≤ joined.now.batch }
     requires limit { joined.now.batch ≤ MAX_ENTRIES }
@@ -260,7 +261,7 @@ fn tell_client(
     known: &[HandlerId],
     bytes: &[u8],
     post: &mut Post,
-    pages: &mut Pages<'_>,
+    pages: &mut Pages,
 ) -> Result<Trail, Trouble>
     ensures grows { OnOk result (Grows post.old post.new) }
     ensures told { IfOk result (TellsClientOf (joining known.now joined.now.id joined.now.batch) bytes.now post.new) }
@@ -283,7 +284,7 @@ fn tell_named(
     id: ClientId,
     bytes: &[u8],
     post: &mut Post,
-    pages: &mut Pages<'_>,
+    pages: &mut Pages,
 ) -> Result<Trail, Trouble>
     ensures grows { OnOk result (Grows post.old post.new) }
     ensures told { IfOk result (λ trail. IfSome (client_named system.now.clients id)
@@ -308,7 +309,7 @@ fn tell_party(
     member: &Member,
     bytes: &[u8],
     post: &mut Post,
-    pages: &mut Pages<'_>,
+    pages: &mut Pages,
 ) -> Result<Trail, Trouble>
     ensures grows { OnOk result (Grows post.old post.new) }
     ensures told { IfOk result (λ trail. TellsPartyOf system.now bytes.now post.new trail member.now.party) }
@@ -333,16 +334,16 @@ fn tell(
     ensures trails { replayed.new.trails.items ≡ replayed.old.trails.items }
     ensures stops { IfErr result (IsStop system.now bytes.now member.now.party) }
 {
-    let mut remarks = Remarks::new(alloc, replayed.has_chart);
-    let mut tale = Tale::new(alloc, member.party, member.journal);
     let mut pages = Pages {
-        tale: &mut tale,
-        blocks: &mut replayed.blocks,
-        remarks: &mut remarks,
+        tale: Tale::new(alloc, member.party, member.journal),
+        blocks: mem::replace(&mut replayed.blocks, Blocks::new(alloc)),
+        remarks: Remarks::new(alloc, replayed.has_chart),
     };
-    match tell_party(alloc, system, member, bytes, &mut replayed.post, &mut pages) {
-        Ok(trail) => Ok((tale, trail, remarks)),
-        Err(trouble) => Err(placed(trouble, member.party, &tale)),
+    let told = tell_party(alloc, system, member, bytes, &mut replayed.post, &mut pages);
+    replayed.blocks = pages.blocks;
+    match told {
+        Ok(trail) => Ok((pages.tale, trail, pages.remarks)),
+        Err(trouble) => Err(placed(trouble, member.party, &pages.tale)),
     }
 }
 

@@ -61,7 +61,7 @@ fn last_turn(
     alloc: Global,
     replay: &mut ClientReplay,
     post: &mut Post,
-    pages: &mut Pages<'_>,
+    pages: &mut Pages,
 ) -> Result<(), Trouble>
     ensures grows { OnOk result (Grows post.old post.new) }
     ensures turned { OnOk result (StepsOn supposed replay.old replay.new post.old post.new) }
@@ -81,7 +81,7 @@ fn go_on(
     batch: u8,
     replay: &mut ClientReplay,
     post: &mut Post,
-    pages: &mut Pages<'_>,
+    pages: &mut Pages,
 ) -> Result<(), Trouble>
     ensures grows { OnOk result (Grows post.old post.new) }
     ensures told { (last : ℕ) (bytes rest : List ℕ) (first : ClientValue) (sent : List Told)
@@ -126,7 +126,7 @@ fn begin_life(
     inc: u32,
     replay: &mut ClientReplay,
     post: &mut Post,
-    pages: &mut Pages<'_>,
+    pages: &mut Pages,
 ) -> Result<(), Trouble>
     ensures grows { OnOk result (Grows post.old post.new) }
     ensures told { (last : ℕ) (bytes rest : List ℕ) (first : ClientValue) (sent : List Told)
@@ -154,7 +154,7 @@ fn give(
     command: &Command,
     replay: &mut ClientReplay,
     post: &mut Post,
-    pages: &mut Pages<'_>,
+    pages: &mut Pages,
 ) -> Result<(), ReplayError>
     ensures grows { OnOk result (Grows post.old post.new) }
     ensures steps { OnOk result (StepsOn (Gave command.now) replay.old replay.new post.old post.new) }
@@ -198,7 +198,7 @@ fn take(
     line: &Line<'_>,
     replay: &mut ClientReplay,
     post: &mut Post,
-    pages: &mut Pages<'_>,
+    pages: &mut Pages,
 ) -> Result<(), Trouble>
     ensures grows { OnOk result (Grows post.old post.new) }
     ensures steps { OnOk result (StepsBy line.now replay.old replay.new post.old post.new) }
@@ -234,7 +234,7 @@ fn take_line(
     line: &Line<'_>,
     replay: &mut ClientReplay,
     post: &mut Post,
-    pages: &mut Pages<'_>,
+    pages: &mut Pages,
 ) -> Result<u32, Trouble>
     ensures grows { OnOk result (Grows post.old post.new) }
     ensures told { (bytes rest : List ℕ) (first : ClientValue) (sent : List Told)
@@ -274,7 +274,7 @@ pub(crate) fn replay_client(
     bytes: &[u8],
     replay: &mut ClientReplay,
     post: &mut Post,
-    pages: &mut Pages<'_>,
+    pages: &mut Pages,
 ) -> Result<(), Trouble>
     ensures grows { OnOk result (Grows post.old post.new) }
     ensures told { OnOk result (ClientRead joined.now.id joined.now.batch bytes.now replay.old replay.new post.old post.new) }

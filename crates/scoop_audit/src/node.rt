@@ -38,7 +38,7 @@ fn unmade(node: u32, number: u64, error: ReplayError, reply: &Option<Message>) -
 }
 
 // Notes the effect of a message on a handler.
-fn note_heard(place: usize, note: &Note, pages: &mut Pages<'_>) -> Result<(), OutOfMemory> {
+fn note_heard(place: usize, note: &Note, pages: &mut Pages) -> Result<(), OutOfMemory> {
     match note {
         Note::Opened(block) => pages.blocks.opened(pages.tale.party(), place, *block),
         _ => Ok(()),
@@ -50,7 +50,7 @@ fn note_ran(
     place: usize,
     handler: HandlerId,
     ran: &Ran,
-    pages: &mut Pages<'_>,
+    pages: &mut Pages,
 ) -> Result<(), OutOfMemory> {
     pages.blocks.ran(handler, ran)?;
     pages
@@ -64,7 +64,7 @@ fn hear(
     reply: &Option<Message>,
     node: &mut NodeReplay,
     post: &mut Post,
-    pages: &mut Pages<'_>,
+    pages: &mut Pages,
 ) -> Result<(), ReplayError>
     ensures grows { OnOk result (Grows post.old post.new) }
     ensures number { OnOk result (node.new.number ≡ node.old.number) }
@@ -86,7 +86,7 @@ fn begin(
     handler: HandlerId,
     node: &mut NodeReplay,
     post: &mut Post,
-    pages: &mut Pages<'_>,
+    pages: &mut Pages,
 ) -> Result<(), ReplayError>
     ensures grows { OnOk result (Grows post.old post.new) }
     ensures number { OnOk result (node.new.number ≡ node.old.number) }
@@ -108,7 +108,7 @@ fn finish(
     handler: HandlerId,
     node: &mut NodeReplay,
     post: &mut Post,
-    pages: &mut Pages<'_>,
+    pages: &mut Pages,
 ) -> Result<(), ReplayError>
     ensures grows { OnOk result (Grows post.old post.new) }
     ensures number { OnOk result (node.new.number ≡ node.old.number) }
@@ -131,7 +131,7 @@ fn enter(
     line: &Line<'_>,
     node: &mut NodeReplay,
     post: &mut Post,
-    pages: &mut Pages<'_>,
+    pages: &mut Pages,
 ) -> Result<(), Trouble>
     ensures grows { OnOk result (Grows post.old post.new) }
     ensures number { OnOk result (node.new.number ≡ node.old.number) }
@@ -233,7 +233,7 @@ fn reopen(
     alloc: Global,
     node: &mut NodeReplay,
     post: &mut Post,
-    pages: &mut Pages<'_>,
+    pages: &mut Pages,
 ) -> Result<(), Trouble>
     ensures grows { OnOk result (Grows post.old post.new) }
     ensures number { OnOk result (node.new.number ≡ node.old.number) }
@@ -254,7 +254,7 @@ fn begin_life(
     cursor: &mut Cursor<'_>,
     node: &mut NodeReplay,
     post: &mut Post,
-    pages: &mut Pages<'_>,
+    pages: &mut Pages,
 ) -> Result<(), Trouble>
     ensures grows { OnOk result (Grows post.old post.new) }
     ensures begins { OnOk result (BeginsLife number cursor.old.rest.now cursor.new.rest.now node.old node.new post.old post.new) }
@@ -320,7 +320,7 @@ fn leave_out(
     cursor: &mut Cursor<'_>,
     node: &mut NodeReplay,
     post: &mut Post,
-    pages: &mut Pages<'_>,
+    pages: &mut Pages,
 ) -> Result<(), Trouble>
     requires { TellsEntry line.now }
     ensures grows { OnOk result (Grows post.old post.new) }
@@ -331,7 +331,7 @@ fn leave_out(
         → IfErr result (λ t. NodeUpTo bytes (ended line.now ++ cursor.old.rest.now) first node.old sent post.old → IfWrong (NodeStops bytes first sent) t) }
     ensures shorter { OnOk result (length cursor.new.rest.now ≤ length cursor.old.rest.now) }
 {
-    match pass_over(cursor, pages.tale) {
+    match pass_over(cursor, &mut pages.tale) {
         Ok(()) => {}
         Err(trouble) => return Err(trouble),
     }
@@ -349,7 +349,7 @@ fn take_entry(
     cursor: &mut Cursor<'_>,
     node: &mut NodeReplay,
     post: &mut Post,
-    pages: &mut Pages<'_>,
+    pages: &mut Pages,
 ) -> Result<(), Trouble>
     requires { TellsEntry line.now }
     ensures grows { OnOk result (Grows post.old post.new) }
@@ -376,7 +376,7 @@ fn take(
     cursor: &mut Cursor<'_>,
     node: &mut NodeReplay,
     post: &mut Post,
-    pages: &mut Pages<'_>,
+    pages: &mut Pages,
 ) -> Result<(), Trouble>
     ensures grows { OnOk result (Grows post.old post.new) }
     ensures told { (bytes : List ℕ) (first : NodeValue) (sent : List Told)
@@ -408,7 +408,7 @@ pub(crate) fn replay_node(
     bytes: &[u8],
     node: &mut NodeReplay,
     post: &mut Post,
-    pages: &mut Pages<'_>,
+    pages: &mut Pages,
 ) -> Result<(), Trouble>
     ensures grows { OnOk result (Grows post.old post.new) }
     ensures told { OnOk result (NodeRead bytes.now node.old node.new post.old post.new) }

@@ -6,8 +6,8 @@ use crate::remarks::Remarks;
 
 /// The party's lives, the blocks, and what a chart needs.
 #[derive(Drop)]
-pub(crate) struct Pages<'p> {
-    pub(crate) tale: &'p mut Tale,
-    pub(crate) blocks: &'p mut Blocks,
-    pub(crate) remarks: &'p mut Remarks,
+pub(crate) struct Pages {
+    pub(crate) tale: Tale,
+    pub(crate) blocks: Blocks,
+    pub(crate) remarks: Remarks,
 }

@@ -14,7 +14,7 @@ use scoop_message::ClientId;
 use scoop_observed::{NodeJournal, ObservedKeeper, Observers};
 use scoop_opening::{
     End, OpenStore, check_choice, client_keeper, fated_end, note_owner, open_client, open_journal,
-    read_system, read_text, report_end, report_fault, report_plainly, store_in_client, store_name,
+    read_system, read_text, report_fault, report_plainly, store_in_client, store_name,
     with_journal,
 };
 use scoop_pacing::{SlowNotes, SystemTimes};
@@ -76,23 +76,20 @@ fn run_in<T: Net>(
     system: &System,
 ) -> Result<(), Status> {
     match options.lines {
-        LinesChoice::None => {
-            let config = ClientConfig::read(rt, options, system, ClientMode::Script)?;
-            run_task(rt, net, &config, &mut Cut)
-        }
+        LinesChoice::None => run_task(rt, net, options, system, ClientMode::Script, &mut Cut),
         LinesChoice::Input => {
-            let config = ClientConfig::read(rt, options, system, input_mode(rt))?;
-            run_task(rt, net, &config, &mut Input { net, names: &[] })
+            let mode = input_mode(rt);
+            run_task(rt, net, options, system, mode, &mut Input { net, names: &[] })
         }
         LinesChoice::Pipe => {
-            let config = ClientConfig::read(rt, options, system, ClientMode::Piped)?;
-            run_task(rt, net, &config, &mut Input { net, names: &[] })
+            let mode = ClientMode::Piped;
+            run_task(rt, net, options, system, mode, &mut Input { net, names: &[] })
         }
         LinesChoice::File(path) => {
             let text = read_text(rt, path)?;
             check_lines(rt, options, system, path, &text)?;
-            let config = ClientConfig::read(rt, options, system, ClientMode::Script)?;
-            run_task(rt, net, &config, &mut Script { text: &text })
+            let mode = ClientMode::Script;
+            run_task(rt, net, options, system, mode, &mut Script { text: &text })
         }
     }
 }
@@ -115,10 +112,10 @@ pub fn run_own_client<T: Net, G: ClientProgram>(
     program: &mut G,
 ) -> Result<(), Status> {
     let system = system_of(rt, options)?;
-    let config = ClientConfig::read(rt, options, &system, ClientMode::Script)?;
+    let mode = ClientMode::Script;
     match options.lines {
-        LinesChoice::None => run_task(rt, net, &config, &mut Cut),
-        _ => run_task(rt, net, &config, &mut Program { program }),
+        LinesChoice::None => run_task(rt, net, options, &system, mode, &mut Cut),
+        _ => run_task(rt, net, options, &system, mode, &mut Program { program }),
     }
 }
 
@@ -154,20 +151,24 @@ fn is_replied(error: RuntimeError) -> bool {
     )
 }
 
-// Runs the client for this task, and reports why it ends early.
+// Runs the client for this task, whose lines come so, and reports why it ends early.
 fn run_task<T: Net, C: ClientTask>(
     rt: &HostRuntime,
     net: &T,
-    config: &ClientConfig<'_>,
+    options: &ClientOptions<'_>,
+    system: &System,
+    mode: ClientMode,
     task: &mut C,
 ) -> Result<(), Status> {
-    match run_journaled(rt, net, config, task) {
-        Ok(()) => Ok(()),
-        Err(End::Lines(stop))
-            if config.plan.mode() == ClientMode::Piped && is_replied(stop.error) => {
-            Err(Status(stop.error.status()))
-        }
-        Err(end) => Err(report_end(rt, &config.party(), end)),
+    match ClientConfig::read(rt, options, system, mode) {
+        Ok(config) => match run_journaled(rt, net, &config, task) {
+            Ok(()) => Ok(()),
+            Err(End::Lines(stop)) if mode == ClientMode::Piped && is_replied(stop.error) => {
+                Err(Status(stop.error.status()))
+            }
+            Err(end) => Err(config.report(rt, end)),
+        },
+        Err(status) => Err(status),
     }
 }
 
@@ -175,7 +176,7 @@ fn run_task<T: Net, C: ClientTask>(
 fn run_journaled<T: Net, C: ClientTask>(
     rt: &HostRuntime,
     net: &T,
-    config: &ClientConfig<'_>,
+    config: &ClientConfig<'_, '_>,
     task: &mut C,
 ) -> Result<(), End> {
     let journal = open_journal(rt, config.journal, config.owner())?;
@@ -188,21 +189,19 @@ fn run_journaled<T: Net, C: ClientTask>(
 fn run_at<T: Net, C: ClientTask>(
     rt: &HostRuntime,
     net: &T,
-    config: &ClientConfig<'_>,
+    config: &ClientConfig<'_, '_>,
     journal: Option<&JournalFile>,
     task: &mut C,
 ) -> Result<(), End> {
     let link = client_link(rt, net, config)?;
     let name = store_name(rt.alloc(), config.store)?;
-    let asking = Asking {
-        config,
+    let papers = Papers {
         name: name.as_ref(),
         journal,
-        link,
     };
     let client = config.plan.place().client;
     let (ran, store) = match open_client(rt, config.store, config.after, client) {
-        Ok(store) => run_over(rt, asking, store, task),
+        Ok(store) => run_over(rt, config, papers, link, store, task),
         Err(end) => return Err(end),
     };
     closed(ran, store)
@@ -222,7 +221,7 @@ fn closed(ran: Result<(), End>, store: Option<FiledStore>) -> Result<(), End> {
 pub fn client_link<'r, T: Net>(
     rt: &'r HostRuntime,
     net: &T,
-    config: &ClientConfig<'_>,
+    config: &ClientConfig<'_, '_>,
 ) -> Result<AskingLink<'r>, End> {
     let (system, place) = (config.plan.system(), config.plan.place());
     let link = open_client_link(net, rt.alloc(), system, &place)?;
@@ -240,30 +239,25 @@ fn slow_notes(rt: &HostRuntime) -> SlowNotes<Stderr, SystemTimes<'_, HostRuntime
     SlowNotes::new(rt.stderr(), SystemTimes::new(rt))
 }
 
-/// A client with its link, before it runs.
-#[derive(Drop)]
-pub struct Asking<'a, 'r> {
-    pub config: &'a ClientConfig<'a>,
+/// Where a client writes besides its store.
+#[derive(Clone, Copy)]
+pub struct Papers<'a> {
     /// The name of its store, if that is a file.
     pub name: Option<&'a StoreName>,
     pub journal: Option<&'a JournalFile>,
-    pub link: AskingLink<'r>,
 }
 
-/// Runs the client over its store, which knows its owner from then on, and returns it if it is in a file. The text beside it gets
-/// the client's incarnation.
+/// Runs the client over this link and its store, which knows its owner from then on, and returns the store if it is in a file. The
+/// text beside it gets the client's incarnation.
 pub fn run_over<S: Alter + Drop, C: ClientTask>(
     rt: &HostRuntime,
-    asking: Asking<'_, '_>,
+    config: &ClientConfig<'_, '_>,
+    papers: Papers<'_>,
+    mut link: AskingLink<'_>,
     store: OpenStore<'_, S>,
     task: &mut C,
 ) -> (Result<(), End>, Option<Store<S>>) {
-    let Asking {
-        config,
-        name,
-        journal,
-        mut link,
-    } = asking;
+    let Papers { name, journal } = papers;
     note_owner(rt, config.store, config.plan.system(), config.owner());
     let fate = Fate::new();
     let keeper = client_keeper(rt.alloc(), store, &fate);

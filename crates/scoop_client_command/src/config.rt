@@ -3,36 +3,36 @@
 use scoop_command_line::{ClientOptions, JournalChoice, StoreChoice};
 use scoop_journal::Owner;
 use scoop_message::ClientId;
-use scoop_opening::{Party, check_owner, read_key, report_fault, report_range};
+use scoop_opening::{End, Party, check_owner, read_key, report_end, report_fault, report_range};
 use scoop_report::Status;
 use scoop_runtime::{ClientMode, ClientPlan, FileFault};
 use scoop_seal::Key;
 use scoop_system::System;
 
-/// All that is said of a client. It is read once.
+/// All that is said of a client, by its system and its command line. It is read once.
 #[derive(Clone, Copy)]
-pub struct ClientConfig<'a> {
+pub struct ClientConfig<'s, 'o> {
     /// Its place and its settings.
-    pub plan: ClientPlan<'a>,
+    pub plan: ClientPlan<'s>,
     /// Its store.
-    pub store: StoreChoice<'a>,
+    pub store: StoreChoice<'o>,
     /// The last incarnation of a lost store, above which a new one begins.
     pub after: Option<u32>,
     /// Its journal.
-    pub journal: JournalChoice<'a>,
+    pub journal: JournalChoice<'o>,
     /// The key that seals its datagrams.
     pub key: Option<Key>,
 }
 
-impl<'a> ClientConfig<'a> {
+impl<'s, 'o> ClientConfig<'s, 'o> {
     /// The client of these options in this system, and where its lines come from. Reports what is wrong: the number of a client
     /// that the file lacks, a number out of its range, the key, a store of another owner.
     pub(crate) fn read(
         rt: &HostRuntime,
-        options: &ClientOptions<'a>,
-        system: &'a System,
+        options: &ClientOptions<'o>,
+        system: &'s System,
         mode: ClientMode,
-    ) -> Result<ClientConfig<'a>, Status> {
+    ) -> Result<ClientConfig<'s, 'o>, Status> {
         let client = ClientId(options.number);
         let Some(place) = system.client(client) else {
             return Err(report_fault(
@@ -58,14 +58,15 @@ impl<'a> ClientConfig<'a> {
         })
     }
 
-    /// What a report of its end may name.
-    pub fn party(&self) -> Party<'a> {
-        Party {
+    /// Reports why the client ends early.
+    pub fn report(&self, rt: &HostRuntime, end: End) -> Status {
+        let party = Party {
             system: self.plan.system(),
             address: self.plan.place().address,
             store: self.store.path(),
             journal: self.journal.path,
-        }
+        };
+        report_end(rt, &party, end)
     }
 
     /// The client as the owner of its store and its journal.

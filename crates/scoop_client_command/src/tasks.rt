@@ -103,11 +103,10 @@ impl<'g, G: ClientProgram> ClientTask for Program<'g, G> {
         link: &mut L,
     ) -> Result<(), End> {
         let run = ProgramRun {
-            program: self.program,
             pause: Backoff::new(rt, plan.place().client),
             notes: rt.stderr(),
         };
-        let end = program_run(rt.alloc(), plan, record, link, run);
+        let end = program_run(rt.alloc(), plan, record, link, self.program, run);
         match (end.ended, end.unended) {
             (Err(error), _) => Err(End::Runtime(error)),
             (Ok(()), Unended::Nothing) => Ok(()),

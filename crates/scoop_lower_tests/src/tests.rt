@@ -1,7 +1,6 @@
 //! Links over UDP, of this machine.
 
 mod lines;
-mod turning;
 
 use scoop_free_ports::free_ports;
 use scoop_link::{Addresses, Link, LinkFault, OpenLinkError, Party, Peers, UdpLink};

@@ -4,24 +4,26 @@ use jiff::Timestamp;
 use scoop_command_line::{JournalChoice, LogChoice, NodeOptions, StoreChoice};
 use scoop_journal::Owner;
 use scoop_opening::{
-    End, OpenStore, Party, check_owner, open_node, read_key, report_fault, report_range,
+    End, OpenStore, Party, check_owner, open_node, read_key, report_end, report_fault, report_range,
 };
 use scoop_report::{Hints, Status, hint, report};
 use scoop_runtime::{FileFault, Serving};
 use scoop_seal::Key;
-use scoop_status::About;
 use scoop_system::{NodePlace, System};
 use scoop_watch::{LogLevel, Settings};
 use sqlite::{File, FileStore};
 use std::net::SocketAddr;
 
-/// All that is said of a node. It is read once.
+/// All that is said of a node, by its system and its command line. It is read once.
 #[derive(Clone, Copy)]
-pub struct NodeConfig<'a> {
-    pub(crate) about: About<'a>,
+pub struct NodeConfig<'s, 'o> {
+    pub(crate) system: &'s System,
+    pub(crate) place: NodePlace,
+    /// When it began.
+    pub(crate) started: Timestamp,
     pub(crate) serving: Serving,
-    pub(crate) store: StoreChoice<'a>,
-    pub(crate) journal: JournalChoice<'a>,
+    pub(crate) store: StoreChoice<'o>,
+    pub(crate) journal: JournalChoice<'o>,
     pub(crate) key: Option<Key>,
     pub(crate) log: LogLevel,
     /// The address of its status, if it has one.
@@ -30,27 +32,22 @@ pub struct NodeConfig<'a> {
     pub(crate) may_lack_page: bool,
 }
 
-impl<'a> NodeConfig<'a> {
+impl<'s, 'o> NodeConfig<'s, 'o> {
     /// The node of these options in this system, with these settings. Reports what is wrong: the number of a node that the file
     /// lacks, its key, a store of another owner, the clock, the address of its status.
     pub(crate) fn read(
         rt: &HostRuntime,
-        options: &NodeOptions<'a>,
+        options: &NodeOptions<'o>,
         serving: Serving,
-        system: &'a System,
-    ) -> Result<NodeConfig<'a>, Status> {
+        system: &'s System,
+    ) -> Result<NodeConfig<'s, 'o>, Status> {
         let place = place_of(rt, options, system)?;
         let key = read_key(rt, options.key, system)?;
         check_owner(rt, options.store, system, Owner::Node(options.number))?;
-        let about = About {
+        Ok(NodeConfig {
             system,
             place,
-            store: options.store.path(),
-            is_sealed: key.is_some(),
             started: now(rt)?,
-        };
-        Ok(NodeConfig {
-            about,
             serving,
             store: options.store,
             journal: options.journal,
@@ -64,20 +61,15 @@ impl<'a> NodeConfig<'a> {
     /// The node at this place of the system, over this store, without a key, a journal, a log and a status.
     pub fn plain(
         rt: &HostRuntime,
-        system: &'a System,
+        system: &'s System,
         place: NodePlace,
         serving: Serving,
-        store: StoreChoice<'a>,
-    ) -> Result<NodeConfig<'a>, Status> {
-        let about = About {
+        store: StoreChoice<'o>,
+    ) -> Result<NodeConfig<'s, 'o>, Status> {
+        Ok(NodeConfig {
             system,
             place,
-            store: store.path(),
-            is_sealed: false,
             started: now(rt)?,
-        };
-        Ok(NodeConfig {
-            about,
             serving: continued(serving, store),
             store,
             journal: JournalChoice {
@@ -92,25 +84,35 @@ impl<'a> NodeConfig<'a> {
     }
 
     /// The same node at this place.
-    pub(crate) fn at(&self, place: NodePlace) -> NodeConfig<'a> {
-        let mut config = *self;
-        config.about.place = place;
-        config
+    pub(crate) fn at(&self, place: NodePlace) -> NodeConfig<'s, 'o> {
+        NodeConfig {
+            system: self.system,
+            place,
+            started: self.started,
+            serving: self.serving,
+            store: self.store,
+            journal: self.journal,
+            key: self.key,
+            log: self.log,
+            status: self.status,
+            may_lack_page: self.may_lack_page,
+        }
     }
 
     /// Opens its store. An old one in an etcd is taken over.
     pub fn open<'r>(&self, rt: &'r HostRuntime) -> Result<OpenStore<'r, FileStore<File>>, End> {
-        open_node(rt, self.store, self.about.system, self.about.place.number)
+        open_node(rt, self.store, self.system, self.place.number)
     }
 
-    /// What a report of its end may name.
-    pub fn party(&self) -> Party<'a> {
-        Party {
-            system: self.about.system,
-            address: self.about.place.address,
+    /// Reports why the node ends early.
+    pub fn report(&self, rt: &HostRuntime, end: End) -> Status {
+        let party = Party {
+            system: self.system,
+            address: self.place.address,
             store: self.store.path(),
             journal: self.journal.path,
-        }
+        };
+        report_end(rt, &party, end)
     }
 
     /// The extent of its watch. States are copied only if there is a status that shows them.

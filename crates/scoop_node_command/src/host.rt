@@ -5,7 +5,7 @@ use scoop_errors::PartyError;
 use scoop_files::{Named, StoreName};
 use scoop_journal::JournalFile;
 use scoop_keeper::{Keeper, SharedKeeper};
-use scoop_link::UdpLink;
+use scoop_link::{Link, UdpLink};
 use scoop_links::PatientLink;
 use scoop_message::{ClientId, HandlerId, OutOfMemory};
 use scoop_node_link::NodeLink;
@@ -33,35 +33,36 @@ pub trait Task<R>: Drop {
 
 /// A node that stands at its place. Threads share it: one runs it, and one may show it.
 #[derive(Drop)]
-pub struct Host<'a, O: Objects> {
-    config: NodeConfig<'a>,
+pub struct Host<'s, 'o, 'p, O: Objects> {
+    config: NodeConfig<'s, 'o>,
     plan: NodePlan<O>,
     watch: Watch,
-    journal: Option<&'a JournalFile>,
+    journal: Option<&'p JournalFile>,
     // The name of its store, if that is a file.
-    name: Option<&'a StoreName>,
+    name: Option<&'p StoreName>,
 }
 
-impl<'a, O: Objects> Host<'a, O> {
+impl<'s, 'o, 'p, O: Objects> Host<'s, 'o, 'p, O> {
     /// The node at the first of its addresses that is free on this machine, with its port. These make its objects. Warns of one
     /// without a key that other machines can reach.
     pub fn open<T: Net>(
         rt: &HostRuntime,
         net: &T,
-        config: &NodeConfig<'a>,
+        config: &NodeConfig<'s, 'o>,
         objects: O,
-        journal: Option<&'a JournalFile>,
-        name: Option<&'a StoreName>,
-    ) -> Result<(Host<'a, O>, UdpLink), End> {
+        journal: Option<&'p JournalFile>,
+        name: Option<&'p StoreName>,
+    ) -> Result<(Host<'s, 'o, 'p, O>, UdpLink), End> {
         let alloc = rt.alloc();
-        let system = config.about.system;
-        let (link, place) = open_node_link(net, alloc, system, &config.about.place)?;
+        let system = config.system;
+        let (link, place) = open_node_link(net, alloc, system, &config.place)?;
         warn_unsealed(rt, config, place.address);
-        let config = config.at(place);
+        let plan = NodePlan::of(alloc, system, &place, config.serving)?.with(objects);
+        let watch = Watch::new(alloc, config.settings())?;
         let host = Host {
-            config,
-            plan: NodePlan::of(alloc, system, &place, config.serving)?.with(objects),
-            watch: Watch::new(alloc, config.settings())?,
+            config: config.at(place),
+            plan,
+            watch,
             journal,
             name,
         };
@@ -69,7 +70,7 @@ impl<'a, O: Objects> Host<'a, O> {
     }
 
     /// What is said of it, at its place.
-    pub fn config(&self) -> &NodeConfig<'a> {
+    pub fn config(&self) -> &NodeConfig<'s, 'o> {
         &self.config
     }
 
@@ -79,125 +80,66 @@ impl<'a, O: Objects> Host<'a, O> {
     }
 
     /// The name of its store, if that is a file.
-    pub fn name(&self) -> Option<&'a StoreName> {
+    pub fn name(&self) -> Option<&'p StoreName> {
         self.name
     }
 
     /// Prepares this keeper of the node's store: an old one is refused if it is older than the text beside it says, and a note says
     /// how far it goes.
     pub fn go_on<K: Keeper<Global>>(&self, rt: &HostRuntime, keeper: &mut K) -> Result<(), Status> {
-        let about = &self.config.about;
-        go_on(
-            rt,
-            self.config.store,
-            about.system,
-            about.place.number,
-            keeper,
-        )
+        let config = &self.config;
+        go_on(rt, config.store, config.system, config.place.number, keeper)
     }
 
-    /// Runs the node over this link and this keeper until its turns are over or it is asked to end, lets its watch end, and
-    /// returns the keeper. Its lines go to this output, and notes of failed calls to standard error.
-    pub fn run<K, W, T>(
-        &self,
-        rt: &HostRuntime,
-        threads: &T,
+    /// The node over this link and this keeper of its store, before it runs.
+    pub fn prepare<'r, K: SharedKeeper<Global>, T: Wait + Clock>(
+        &'r self,
+        rt: &'r HostRuntime,
+        threads: &'r T,
         link: UdpLink,
         keeper: K,
-        output: W,
-        ending: &Ending,
-    ) -> Result<K, RuntimeError>
-    where
-        K: SharedKeeper<Global> + Send,
-        W: Write + Drop,
-        T: Threads + Wait + Clock + Sync,
-        O: Sync,
-    {
-        let ended = match self.surroundings(rt, threads, link, output) {
-            Ok(
-                Surroundings {
-                    mut link,
-                    mut lines,
-                    observers,
-                },
-            ) => {
-                let keeper = ObservedKeeper::new(keeper, observers);
-                let mut around = Around {
-                    lines: &mut lines,
-                    ending,
-                };
-                match node_run(
-                    threads,
-                    rt.alloc(),
-                    &self.plan,
-                    keeper,
-                    &mut link,
-                    &mut around,
-                ) {
-                    Ok(keeper) => Ok(keeper.into_inner()),
-                    Err(error) => Err(error),
-                }
-            }
-            Err(error) => Err(RuntimeError::from(error)),
-        };
-        self.watch.end();
-        ended
-    }
-
-    // What the node runs in.
-    fn surroundings<'s, W: Write + Drop, T: Wait + Clock>(
-        &'s self,
-        rt: &'s HostRuntime,
-        threads: &'s T,
-        link: UdpLink,
-        output: W,
-    ) -> Result<Surroundings<'s, W, T>, OutOfMemory> {
+    ) -> Result<HostRun<'r, O, K, T>, OutOfMemory> {
         let link = self.hear(rt, threads, link)?;
         let observers = self.observers(rt, threads)?;
-        let output = match BufWriter::new(rt.alloc(), output) {
-            Ok(output) => output,
-            Err(_) => return Err(OutOfMemory),
-        };
-        Ok(Surroundings {
+        Ok(NodeRun {
+            plan: &self.plan,
+            watch: &self.watch,
+            keeper: ObservedKeeper::new(keeper, observers),
             link,
-            lines: WatchedOutput::new(output, threads, &self.watch),
-            observers,
         })
     }
 
-    // The link of the node: it is sealed, hears the clients of the file alone, holds its replies back until a commit if it stores
-    // or writes anything, and tolerates failed calls.
-    fn hear<'t, T: Clock>(
-        &self,
+    // The link of the node over this one: it is sealed, hears the clients of the file alone, and holds its replies back until a
+    // commit if it stores or writes anything.
+    fn hear<'r, T: Clock>(
+        &'r self,
         rt: &HostRuntime,
-        threads: &'t T,
+        threads: &'r T,
         link: UdpLink,
-    ) -> Result<HostLink<'_, 't, T>, OutOfMemory> {
+    ) -> Result<HostLink<'r, T>, OutOfMemory> {
         let alloc = rt.alloc();
-        let clients = clients_of(alloc, self.config.about.system)?;
-        let link = NodeLink::new(
+        let clients = clients_of(alloc, self.config.system)?;
+        NodeLink::new(
             alloc,
             SealedLink::new(link, self.config.key),
             SystemTimes::new(threads),
             &clients,
             self.watch.counts(),
             self.config.holds(),
-        )?;
-        let notes = SlowNotes::new(rt.stderr(), SystemTimes::new(threads));
-        Ok(PatientLink::new(link, "node", notes))
+        )
     }
 
     // Who observes the keeper of the node: the name of its file, its counts, its journal, and its watch.
-    fn observers<'s, T: Wait>(
-        &'s self,
-        rt: &'s HostRuntime,
-        threads: &'s T,
-    ) -> Result<Observers<'s, Watched<'s, T>, &'s JournalFile>, OutOfMemory> {
+    fn observers<'r, T: Wait>(
+        &'r self,
+        rt: &'r HostRuntime,
+        threads: &'r T,
+    ) -> Result<Observers<'r, Watched<'r, T>, &'r JournalFile>, OutOfMemory> {
         let alloc = rt.alloc();
         let journal = match self.journal {
             Some(file) => {
                 let handlers = copy_of(alloc, self.plan.handlers())?;
-                let number = self.config.about.place.number;
+                let number = self.config.place.number;
                 Some(NodeJournal::new(alloc, file, number, handlers))
             }
             None => None,
@@ -215,19 +157,76 @@ impl<'a, O: Objects> Host<'a, O> {
     }
 }
 
-// What a node runs in: its link, where its lines go, and who observes its keeper.
+/// A node before it runs.
 #[derive(Drop)]
-struct Surroundings<'s, W: Write + Drop, T: Wait + Clock> {
-    link: HostLink<'s, 's, T>,
-    lines: WatchedOutput<'s, BufWriter<W>, T>,
-    observers: Observers<'s, Watched<'s, T>, &'s JournalFile>,
+pub struct NodeRun<'r, O: Objects, K: Drop, L: Drop> {
+    plan: &'r NodePlan<O>,
+    watch: &'r Watch,
+    keeper: K,
+    link: L,
 }
 
-// The link of a node that runs.
-type HostLink<'a, 't, T> = PatientLink<
-    NodeLink<'a, UdpLink, SystemTimes<'t, T>>,
-    SlowNotes<Stderr, SystemTimes<'t, T>>,
->;
+impl<'r, O, K, L> NodeRun<'r, O, K, L>
+where
+    O: Objects + Sync,
+    K: Keeper<Global> + Send,
+    L: Link,
+{
+    /// Runs the node until its turns are over or it is asked to end, lets its watch end, and returns the keeper. Its lines go to
+    /// this output, and notes of failed calls, which it tolerates, to these notes.
+    pub fn run<T: Threads + Wait + Clock + Sync, W: Write + Drop>(
+        self,
+        alloc: Global,
+        threads: &T,
+        output: W,
+        notes: Stderr,
+        ending: &Ending,
+    ) -> Result<K, RuntimeError> {
+        let watch = self.watch;
+        let ended = match BufWriter::new(alloc, output) {
+            Ok(output) => {
+                let lines = WatchedOutput::new(output, threads, watch);
+                let notes = SlowNotes::new(notes, SystemTimes::new(threads));
+                self.run_noted(alloc, threads, lines, notes, ending)
+            }
+            Err(_) => Err(RuntimeError::from(OutOfMemory)),
+        };
+        watch.end();
+        ended
+    }
+
+    // Runs the node with these lines and notes.
+    fn run_noted<T: Threads + Wait + Clock + Sync, W: Write + Drop, E: Write + Drop>(
+        self,
+        alloc: Global,
+        threads: &T,
+        mut lines: W,
+        notes: E,
+        ending: &Ending,
+    ) -> Result<K, RuntimeError> {
+        let NodeRun {
+            plan,
+            keeper,
+            link,
+            ..
+        } = self;
+        let mut link = PatientLink::new(link, "node", notes);
+        let mut around = Around {
+            lines: &mut lines,
+            ending,
+        };
+        node_run(threads, alloc, plan, keeper, &mut link, &mut around)
+    }
+}
+
+/// The run of a host over a store K.
+pub type HostRun<'r, O, K, T> = NodeRun<'r, O, HostKeeper<'r, K, T>, HostLink<'r, T>>;
+
+/// The keeper of a host's store K, with those who observe it.
+pub type HostKeeper<'r, K, T> = ObservedKeeper<'r, K, Watched<'r, T>, &'r JournalFile>;
+
+// The link of a host.
+type HostLink<'r, T> = NodeLink<'r, UdpLink, SystemTimes<'r, T>>;
 
 // The clients that the system's file names.
 fn clients_of(alloc: Global, system: &System) -> Result<Vec<ClientId>, OutOfMemory> {
@@ -247,7 +246,7 @@ fn copy_of(alloc: Global, handlers: &[HandlerId]) -> Result<Vec<HandlerId>, OutO
 }
 
 // Warns of a node without a key that other machines can reach.
-fn warn_unsealed(rt: &HostRuntime, config: &NodeConfig<'_>, address: SocketAddr) {
+fn warn_unsealed(rt: &HostRuntime, config: &NodeConfig<'_, '_>, address: SocketAddr) {
     if config.key.is_some() || address.ip().is_loopback() {
         return;
     }
@@ -264,26 +263,25 @@ fn warn_unsealed(rt: &HostRuntime, config: &NodeConfig<'_>, address: SocketAddr)
     );
 }
 
-/// Runs the node over this keeper in a thread, does the task in this one, and returns the keeper when both have ended.
-pub(crate) fn run_beside<K, O, T, S>(
+/// Runs the node in a thread, does the task in this one, and returns the node's keeper when both have ended.
+pub(crate) fn run_beside<K, L, O, T, S>(
     rt: &HostRuntime,
     threads: &T,
-    host: &Host<'_, O>,
-    link: UdpLink,
-    keeper: K,
+    node: NodeRun<'_, O, K, L>,
     task: S,
 ) -> Result<K, RuntimeError>
 where
-    K: SharedKeeper<Global> + Send,
+    K: Keeper<Global> + Send,
+    L: Link + Send,
     O: Objects + Sync,
     T: Threads + Wait + Clock + Sync,
     S: Task<()>,
 {
+    let (alloc, output, notes) = (rt.alloc(), rt.stdout(), rt.stderr());
     let ending = Ending::new();
     let ending = &ending;
     thread::scope(thread::scope_env(), threads, move |scope| {
-        let running = scope.spawn(move || host.run(rt, threads, link, keeper, rt.stdout(), ending));
-        match running {
+        match scope.spawn(move || node.run(alloc, threads, output, notes, ending)) {
             Ok(running) => {
                 task.run();
                 running.join(threads)

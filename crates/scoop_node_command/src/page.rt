@@ -46,7 +46,7 @@ impl<'a, 's, T: Wait + Clock> Task<()> for Screen<'a, 's, T> {
 /// another machine goes on without.
 pub(crate) fn open_server(
     rt: &HostRuntime,
-    config: &NodeConfig<'_>,
+    config: &NodeConfig<'_, '_>,
 ) -> Result<Option<Server>, End> {
     let Some(address) = config.status else {
         return Ok(None);

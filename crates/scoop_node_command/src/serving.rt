@@ -7,17 +7,21 @@ use scoop_command_line::{NodeOptions, StoreChoice};
 use scoop_etcd_stores::Fate;
 use scoop_files::FiledStore;
 use scoop_journal::Owner;
+use scoop_keeper::SharedKeeper;
 use scoop_link::UdpLink;
+use scoop_message::OutOfMemory;
 use scoop_opening::{
-    End, OpenStore, check_choice, close_store, fated_end, node_end, node_keeper, open_journal,
-    read_system, report_end, store_in_node, store_name, with_journal,
+    End, OpenStore, check_choice, close_store, fated_end, go_on, node_end, node_keeper,
+    open_journal, read_system, store_in_node, store_name, with_journal,
 };
 use scoop_record::Store;
 use scoop_report::{Hints, Status, hint, report};
-use scoop_runtime::Objects;
-use scoop_status::Log;
+use scoop_runtime::{Objects, RuntimeError};
+use scoop_status::{About, Log};
 use scoop_status_server::Server;
+use scoop_system::System;
 use sqlite::{Alter, File, FileStore};
+use std::alloc::Global;
 use std::net::Net;
 use std::sync::Wait;
 use std::thread::Threads;
@@ -34,10 +38,12 @@ pub fn serve_node<T: Threads + Wait + Clock + Net + Sync, O: Objects + Sync>(
     check_choice(rt, options.store)?;
     let serving = serving_of(rt, options)?;
     let system = read_system(rt, options.system)?;
-    let config = NodeConfig::read(rt, options, serving, &system)?;
-    match serve(rt, threads, &config, objects) {
-        Ok(()) => Ok(()),
-        Err(end) => Err(report_end(rt, &config.party(), end)),
+    match NodeConfig::read(rt, options, serving, &system) {
+        Ok(config) => match serve(rt, threads, &config, objects) {
+            Ok(()) => Ok(()),
+            Err(end) => Err(config.report(rt, end)),
+        },
+        Err(status) => Err(status),
     }
 }
 
@@ -63,10 +69,10 @@ fn require_store(rt: &HostRuntime, options: &NodeOptions<'_>) -> Result<(), Stat
 fn serve<T: Threads + Wait + Clock + Net + Sync, O: Objects + Sync>(
     rt: &HostRuntime,
     threads: &T,
-    config: &NodeConfig<'_>,
+    config: &NodeConfig<'_, '_>,
     objects: O,
 ) -> Result<(), End> {
-    let journal = open_journal(rt, config.journal, Owner::Node(config.about.place.number))?;
+    let journal = open_journal(rt, config.journal, Owner::Node(config.place.number))?;
     let journal = journal.as_ref();
     let name = store_name(rt.alloc(), config.store)?;
     let ended = match Host::open(rt, threads, config, objects, journal, name.as_ref()) {
@@ -85,7 +91,7 @@ fn serve<T: Threads + Wait + Clock + Net + Sync, O: Objects + Sync>(
 // The server of the node's status, if it has one, and its store.
 fn open_behind<'r, O: Objects>(
     rt: &'r HostRuntime,
-    host: &Host<'_, O>,
+    host: &Host<'_, '_, '_, O>,
 ) -> Result<(Option<Server>, OpenStore<'r, FileStore<File>>), End> {
     let config = host.config();
     let server = open_server(rt, config)?;
@@ -103,7 +109,7 @@ fn open_behind<'r, O: Objects>(
 
 // Closes the store of a node that ended so, if it is in a file.
 fn closed<O: Objects>(
-    host: &Host<'_, O>,
+    host: &Host<'_, '_, '_, O>,
     ended: Result<(), End>,
     store: Option<FiledStore>,
 ) -> Result<(), End> {
@@ -115,10 +121,10 @@ fn closed<O: Objects>(
 
 // Serves the node over its store, and returns it if it is in a file and the node ended in peace. Refuses one that is older than
 // the text beside it says. The node ends if a file loses its name, or another program takes over a store in an etcd.
-fn serve_over<S, T, O>(
-    rt: &HostRuntime,
-    threads: &T,
-    host: &Host<'_, O>,
+fn serve_over<'r, S, T, O>(
+    rt: &'r HostRuntime,
+    threads: &'r T,
+    host: &'r Host<'_, '_, '_, O>,
     link: UdpLink,
     server: Option<Server>,
     store: OpenStore<'_, S>,
@@ -129,22 +135,65 @@ where
     O: Objects + Sync,
 {
     let config = host.config();
-    let about = &config.about;
     let fate = Fate::new();
     let mut keeper = node_keeper(rt.alloc(), store, &fate);
-    if let Err(status) = host.go_on(rt, &mut keeper) {
+    let (choice, system, number) = (config.store, config.system, config.place.number);
+    if let Err(status) = go_on(rt, choice, system, number, &mut keeper) {
         return (Err(End::from(status)), None);
     }
+    match run_shown(rt, threads, host, link, server, keeper) {
+        Ok(keeper) => (Ok(()), store_in_node(keeper)),
+        Err(error) => (Err(fated_end(&fate, node_end(host.name(), error))), None),
+    }
+}
+
+// Runs the node over this keeper while its status and its log show it, and returns the keeper.
+fn run_shown<'r, K, T, O>(
+    rt: &'r HostRuntime,
+    threads: &'r T,
+    host: &'r Host<'_, '_, '_, O>,
+    link: UdpLink,
+    server: Option<Server>,
+    keeper: K,
+) -> Result<K, RuntimeError>
+where
+    K: SharedKeeper<Global> + Send,
+    T: Threads + Wait + Clock + Net + Sync,
+    O: Objects + Sync,
+{
+    let config = host.config();
+    // A copy, which lives no longer than this call, as the system does.
+    let path = copied(rt, config.store.path())?;
+    let about = about(config, config.system, path.as_deref());
+    let node = host.prepare(rt, threads, link, keeper)?;
     let screen = Screen {
         threads,
         alloc: rt.alloc(),
         watch: host.watch(),
-        about,
+        about: &about,
         server,
-        log: Log::new(rt.stderr(), about.place.number, config.log),
+        log: Log::new(rt.stderr(), config.place.number, config.log),
     };
-    match run_beside(rt, threads, host, link, keeper, screen) {
-        Ok(keeper) => (Ok(()), store_in_node(keeper)),
-        Err(error) => (Err(fated_end(&fate, node_end(host.name(), error))), None),
+    match run_beside(rt, threads, node, screen) {
+        Ok(keeper) => Ok(keeper.into_inner()),
+        Err(error) => Err(error),
+    }
+}
+
+// What is known of the node before it runs.
+fn about<'a>(config: &NodeConfig<'_, '_>, system: &'a System, store: Option<&'a str>) -> About<'a> {
+    About {
+        system,
+        place: config.place,
+        store,
+        is_sealed: config.key.is_some(),
+        started: config.started,
+    }
+}
+
+fn copied(rt: &HostRuntime, path: Option<&str>) -> Result<Option<String>, OutOfMemory> {
+    match path {
+        Some(path) => Ok(Some(String::from_str(rt.alloc(), path)?)),
+        None => Ok(None),
     }
 }

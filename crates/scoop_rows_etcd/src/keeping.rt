@@ -4,7 +4,7 @@ use crate::scripted::LentEtcd;
 use crate::telling::tell;
 use scoop_etcd_stores::FatefulKeeper;
 use scoop_handler::{HandlerState, Heard, Note, Reason};
-use scoop_keeper::{Keeper, KeeperError};
+use scoop_keeper::{Keeper, KeeperError, SharedKeeper};
 use scoop_message::{ClientId, HandlerId, Message, Words};
 use scoop_queue::QueueOfQueues;
 use scoop_row_player::Bad;
@@ -18,14 +18,9 @@ const ONE: HandlerId = HandlerId(1);
 fn state(alloc: Global, line: &[u8]) -> Result<HandlerState, Bad> {
     let (handler, line) = first(line)?;
     let handler = HandlerId(number(handler)?);
-    let Ok(words) = Words::of(&[long(last(line)?)?]) else {
-        return Err(Bad::Words);
-    };
+    let words = Words::of(&[long(last(line)?)?]).map_err(|_| Bad::Words)?;
     let queues = QueueOfQueues::new(alloc);
-    match HandlerState::of(alloc, handler, words, None, &[], queues) {
-        Ok(state) => Ok(state),
-        Err(_) => Err(Bad::Memory),
-    }
+    HandlerState::of(alloc, handler, words, None, &[], queues).map_err(|_| Bad::Memory)
 }
 
 /// Adds the word of a state.

@@ -12,7 +12,6 @@ use scoop_message::ClientId;
 use scoop_row_player::Bad;
 use scoop_row_player::words::{after_space, first, first_two, handler, number, text_of};
 use std::fmt::Debug;
-use std::io::Write;
 
 /// The owner at the beginning of a line, and what follows it.
 pub fn read_owner(line: &[u8]) -> Result<(Owner, &[u8]), Bad> {
@@ -29,10 +28,7 @@ fn tell_listed<T: Debug + Drop>(
     answer: &mut Vec<u8>,
 ) -> Result<(), Bad> {
     match found {
-        Ok(listed) => {
-            write!(answer, "{listed:?}")?;
-            Ok(())
-        }
+        Ok(listed) => tell(format_args!("{listed:?}"), answer),
         Err(error) => tell(error, answer),
     }
 }
@@ -61,10 +57,8 @@ fn tell_text(
 fn writes(etcd: &mut LentEtcd<'_>, of: &str, line: &[u8], answer: &mut Vec<u8>) -> Result<(), Bad> {
     let alloc = *answer.allocator();
     let (owner, rest) = read_owner(line)?;
-    let Ok(text) = String::from_utf8(read_bytes(alloc, after_space(rest))?) else {
-        return Err(Bad::Words);
-    };
-    match put_text(alloc, etcd, of, owner, &text) {
+    let text = read_bytes(alloc, after_space(rest))?;
+    match put_text(alloc, etcd, of, owner, text_of(&text)?) {
         Ok(true) => tell("ok", answer),
         Ok(false) => tell("stands", answer),
         Err(error) => tell(error, answer),

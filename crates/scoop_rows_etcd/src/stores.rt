@@ -69,10 +69,10 @@ fn scripts(
         }
         b"range" => return tell_pairs(etcd.range(&read_range(alloc, line)?), answer),
         b"txn" => return tell_outcome(etcd.transact(&read_txn(alloc, line)?), answer),
-        _ => {
-            tell(etcd.transactions, answer)?;
-            return tell(etcd.ranges, answer);
-        }
+        _ => return tell(
+            format_args!("{} {}", etcd.transactions, etcd.ranges),
+            answer,
+        ),
     }
     tell("ok", answer)
 }
@@ -148,10 +148,7 @@ impl Subject for Stores<'_> {
             b"handlers" | b"clients" | b"owners" | b"has" | b"state" | b"text" | b"write" => {
                 looks(&mut LentEtcd(self.etcd), name, line, answer)
             }
-            _ => match &mut self.keeper {
-                Some(keeper) => keeps(keeper, name, line, answer),
-                None => Err(Bad::Words),
-            },
+            _ => keeps(self.keeper.as_mut().ok_or(Bad::Words)?, name, line, answer),
         }
     }
 }

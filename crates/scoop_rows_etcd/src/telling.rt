@@ -58,15 +58,8 @@ pub fn tell_outcome<E: Display + Drop>(
 ) -> Result<(), Bad> {
     match outcome {
         Ok(outcome) => {
-            tell(
-                if outcome.succeeded {
-                    "made"
-                } else {
-                    "not made"
-                },
-                answer,
-            )?;
-            tell(outcome.revision, answer)
+            let not = if outcome.succeeded { "" } else { "not " };
+            tell(format_args!("{not}made {}", outcome.revision), answer)
         }
         Err(error) => tell(error, answer),
     }

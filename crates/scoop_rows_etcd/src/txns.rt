@@ -44,9 +44,7 @@ pub fn read_range(alloc: Global, line: &[u8]) -> Result<Range, Bad> {
 fn add_part(kind: &[u8], key: Vec<u8>, word: &[u8], txn: &mut Txn) -> Result<(), Bad> {
     let alloc = *key.allocator();
     match kind {
-        b"at" => {
-            txn.compares.push(Compare::Revision(key, long(word)?))?;
-        }
+        b"at" => txn.compares.push(Compare::Revision(key, long(word)?))?,
         b"has" => {
             let value = read_bytes(alloc, word)?;
             txn.compares.push(Compare::Value(key, value))?;

@@ -38,10 +38,7 @@ fn json(name: &[u8], line: &[u8], answer: &mut Vec<u8>) -> Result<(), Bad> {
         b"found" => tell_pairs(read_found(alloc, &body), answer),
         b"outcome" => tell_outcome(read_outcome(alloc, &body), answer),
         _ => match read_refusal(alloc, &body) {
-            Ok(refusal) => {
-                tell(refusal.code, answer)?;
-                tell(refusal.message, answer)
-            }
+            Ok(refusal) => tell(format_args!("{} {}", refusal.code, refusal.message), answer),
             Err(fault) => tell(fault, answer),
         },
     }
@@ -82,14 +79,12 @@ fn taken(alloc: Global, front: &[u8], back: &[u8]) -> Result<Response, HttpFault
 fn tell_response(came: Result<Response, HttpFault>, answer: &mut Vec<u8>) -> Result<(), Bad> {
     match came {
         Ok(response) => {
-            tell(response.status, answer)?;
-            tell(response.body.len(), answer)?;
-            let state = if response.keeps_open {
-                "open"
-            } else {
-                "closed"
-            };
-            tell(state, answer)
+            let (status, is_open) = (response.status, response.keeps_open);
+            let state = if is_open { "open" } else { "closed" };
+            tell(
+                format_args!("{status} {} {state}", response.body.len()),
+                answer,
+            )
         }
         Err(fault) => tell_fault(fault, answer),
     }

@@ -2,19 +2,20 @@
 
 ghost use Rattle.std.specs.Prelude.{[], None};
 
-use scoop_link::{
-    Datagram, Link, LinkFault, PacedLink, Party, ScriptLink, SetsAddress, TapeLink,
-};
+use scoop_link::{Datagram, Link, LinkFault, PacedLink, Party, ScriptLink, SetsAddress, TapeLink};
 use scoop_links::{ClientLink, ClientNotes};
 use scoop_message::OutOfMemory;
 use scoop_message::limits::BUFFER_LEN;
+use scoop_node_link::NodeLink;
 use scoop_pacing::Times;
+use scoop_row_player::answers::tells;
+use scoop_row_player::{Bad, Heap};
+use scoop_rows_parts::stand_ins::Paper;
+use scoop_seal::SealedLink;
 use scoop_system::System;
 use std::alloc::Global;
+use std::cell::RefCell;
 use std::net::SocketAddr;
-use scoop_node_link::{AdmittingLink, BudgetLink, HoldingLink, NoReport, RecallingLink};
-use scoop_row_player::Heap;
-use scoop_seal::SealedLink;
 
 // A system with one handler.
 const HANDLER_1: &str = "\
@@ -46,7 +47,7 @@ impl Times for Steps {
 
 pub(crate) type Tape<'a> = TapeLink<Heap<'a>>;
 
-/// A tape that plays to a client's link. It has no addresses.
+/// A tape that plays to a client's link. It has no addresses. A datagram without bytes stands for an empty poll.
 #[derive(Drop)]
 pub(crate) struct Placed<'a> {
     pub(crate) tape: Tape<'a>,
@@ -62,7 +63,10 @@ impl Link for Placed<'_> {
     }
 
     fn receive(&mut self, buffer: &mut [u8; BUFFER_LEN]) -> Result<Option<usize>, LinkFault> {
-        self.tape.receive(buffer)
+        match self.tape.receive(buffer) {
+            Ok(Some(0)) => Ok(None),
+            got => got,
+        }
     }
 
     fn faults(&self) -> u64 {
@@ -83,20 +87,21 @@ impl SetsAddress for Placed<'_> {
 }
 
 /// A client's link to handler 1.
-pub(crate) type Client<'a> = ClientLink<Placed<'a>, Steps, Vec<u8>, Heap<'a>>;
+pub(crate) type Client<'a> = ClientLink<Placed<'a>, Steps, Paper<'a>, Heap<'a>>;
+
+/// A node's link, which takes its memory from A.
+pub(crate) type Node<'a, A> = NodeLink<'a, Tape<'a>, Steps, A>;
 
 /// The link of a case.
 #[derive(Drop)]
 pub(crate) enum Layers<'a> {
-    Nothing,
     Tape(Tape<'a>),
-    Holding(HoldingLink<Tape<'a>>),
     Paced(PacedLink<Tape<'a>, Heap<'a>>),
     Sealed(SealedLink<Tape<'a>>),
-    Admitting(AdmittingLink<Tape<'a>, NoReport>),
-    Budget(BudgetLink<Tape<'a>, Steps, Heap<'a>>),
+    Node(Node<'a, Heap<'a>>),
+    // Its memory is never refused: without memory it loses a datagram, and no call reports that.
+    Holding(Node<'a, Global>),
     Client(Client<'a>),
-    Recalling(RecallingLink<'a, Tape<'a>, Heap<'a>>),
     Pair(ScriptLink<Heap<'a>>, ScriptLink<Heap<'a>>),
 }
 
@@ -105,24 +110,24 @@ impl<'a> Layers<'a> {
     pub(crate) fn tape(&self) -> Option<&Tape<'a>> {
         match self {
             Layers::Tape(tape) => Some(tape),
-            Layers::Holding(link) => Some(link.inner()),
             Layers::Paced(link) => Some(link.inner()),
             Layers::Sealed(link) => Some(link.inner()),
-            Layers::Admitting(link) => Some(link.inner()),
-            Layers::Budget(link) => Some(link.inner()),
+            Layers::Node(link) => Some(link.inner().inner()),
+            Layers::Holding(link) => Some(link.inner().inner()),
             Layers::Client(link) => Some(&link.inner().tape),
-            Layers::Recalling(link) => Some(link.inner()),
-            Layers::Nothing | Layers::Pair(..) => None,
+            Layers::Pair(..) => None,
         }
     }
 
-    /// The number of datagrams that it has refused or dropped.
-    pub(crate) fn refused(&self) -> u64 {
+    /// Writes how many datagrams it has refused.
+    pub(crate) fn put_refused(&self, answer: &mut Vec<u8>) -> Result<(), Bad> {
         match self {
-            Layers::Sealed(link) => link.refused(),
-            Layers::Admitting(link) => link.refused(),
-            Layers::Budget(link) => link.dropped(),
-            _ => 0,
+            Layers::Sealed(link) => tells(link.refused(), answer),
+            Layers::Node(link) => {
+                let (over, strangers) = (link.over_budget(), link.strangers());
+                tells(format_args!("over {over}, strangers {strangers}"), answer)
+            }
+            _ => tells(0u64, answer),
         }
     }
 }
@@ -132,13 +137,14 @@ pub(crate) fn client_of<'a>(
     alloc: Global,
     heap: Heap<'a>,
     tape: Tape<'a>,
+    notes: &'a RefCell<Vec<u8>>,
 ) -> Result<Client<'a>, OutOfMemory> {
     let Ok(system) = System::read(alloc, HANDLER_1) else {
         return Err(OutOfMemory);
     };
     let notes = ClientNotes {
-        waits: Vec::new(alloc),
-        faults: Vec::new(alloc),
+        waits: Paper::of(notes, u64::MAX),
+        faults: Paper::of(notes, u64::MAX),
     };
     ClientLink::new(heap, Placed { tape }, Steps::of(50_000), notes, &system, 0)
 }

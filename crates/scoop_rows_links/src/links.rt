@@ -3,38 +3,41 @@
 //! A case first has the datagrams that will come, by `feed BYTES`, and then makes its link. That is layers over a tape with room
 //! for ROOM sent datagrams, or a pair of ends whose lanes have this room.
 //!
-//! - `tape ROOM`, `recalling ROOM`
-//! - `holding ROOM` and `passing ROOM`: a holding link that holds, and one that doesn't
+//! - `tape ROOM`
 //! - `paced ROOM`: for two parties, with two repeats
 //! - `sealed ROOM NAME LIFE`: with the key of the system of this name (`-`: none) and life; `unsealed ROOM`: a sealed link that has
 //!   no key
-//! - `admitting ROOM`: for clients 7 and 8
-//! - `budget ROOM`: for clients 7 and 8, each look at the clock 400 microseconds after the last one; `halves ROOM`: 500 after it
-//! - `client ROOM`: a client's link to handler 1, each look at the clock 50 milliseconds after the last one
+//! - `node ROOM MICROS`: a node's link for clients 7 and 8, without a key. Each look at its clock comes that many microseconds after
+//!   the last one. `holding ROOM MICROS`: one that holds back what is sent
+//! - `client ROOM`: a client's link to handler 1, each look at the clock 50 milliseconds after the last one. A fed datagram without
+//!   bytes stands for an empty poll
 //! - `pair ROOM DROP DOUBLE FAIL`: an end with this script, and one without
 //!
 //! - `send handler|client N BYTES`, `receive`, `flush` and `faults` are calls of the link.
 //! - `other COMMAND` is a call of the pair's second end. `times N COMMAND` gives the command N times, and answers once if all
 //!   answers are the same.
-//! - `sent I` and `count` ask the tape, `refused` the count of a layer.
-//! - `put H` stores a state of handler H through the keeper that counts, and `stored H` asks whether it has one.
+//! - `sent I` and `count` ask the tape. `refused` answers how many datagrams the seal refused. Of a node's link it answers how many
+//!   were over a budget, and how many strangers sent.
+//! - `notes` answers what a client's link has noted since it was asked last.
+//! - `put H` stores a state of handler H through the keeper of the node, and `stored H` asks whether it has one.
 
+use crate::counted::{Counted, counted};
 use crate::layers::{Layers, Steps, Tape, client_of, tape_of};
 use crate::seals::system_key;
-use scoop_node_link::{AdmittingLink, BudgetLink, NoReport};
 use scoop_handler::HandlerState;
-use scoop_keeper::{Keeper, MemoryKeeper};
+use scoop_keeper::Keeper;
 use scoop_lines::is;
-use scoop_link::{Datagram, HoldingLink, Link, PacedLink, Party, Script, ScriptLink};
+use scoop_link::{Datagram, Link, PacedLink, Party, Script, ScriptLink};
 use scoop_message::limits::BUFFER_LEN;
 use scoop_message::{ClientId, HandlerId, OutOfMemory, Words};
+use scoop_node_link::{NodeCounts, NodeLink};
 use scoop_queue::QueueOfQueues;
-use scoop_node_link::{Changes, CountingKeeper, RecallingLink};
-use scoop_row_player::answers::{put_bytes, tells, told};
+use scoop_row_player::answers::{keeps, put_bytes, tells, told, without_last};
 use scoop_row_player::words::{first, handler, hex_bytes, last, long, number, numbers};
 use scoop_row_player::{Bad, Heap, Subject};
 use scoop_seal::SealedLink;
 use std::alloc::Global;
+use std::cell::RefCell;
 use std::io::Write;
 
 /// More datagrams than a tape sends.
@@ -42,24 +45,31 @@ const MAX_SENT: usize = 1_000;
 
 const CLIENTS: [ClientId; 2] = [ClientId(7), ClientId(8)];
 
-/// The link of a case, what its tape will be fed, and a keeper that counts.
+/// The link of a case, what its tape will be fed, and what goes with it: the counts and the keeper of a node, the notes of a client.
 #[derive(Drop)]
 pub(crate) struct Links<'a> {
     heap: Heap<'a>,
-    changes: &'a Changes,
-    keeper: CountingKeeper<'a, MemoryKeeper>,
+    counts: &'a NodeCounts,
+    notes: &'a RefCell<Vec<u8>>,
+    keeper: Counted<'a>,
     fed: Vec<Datagram>,
-    link: Layers<'a>,
+    link: Option<Layers<'a>>,
 }
 
 impl<'a> Links<'a> {
-    pub(crate) fn new(alloc: Global, heap: Heap<'a>, changes: &'a Changes) -> Links<'a> {
+    pub(crate) fn new(
+        alloc: Global,
+        heap: Heap<'a>,
+        counts: &'a NodeCounts,
+        notes: &'a RefCell<Vec<u8>>,
+    ) -> Links<'a> {
         Links {
             heap,
-            changes,
-            keeper: CountingKeeper::new(MemoryKeeper::new(alloc), changes),
+            counts,
+            notes,
+            keeper: counted(alloc, counts),
             fed: Vec::new(alloc),
-            link: Layers::Nothing,
+            link: None,
         }
     }
 
@@ -68,26 +78,36 @@ impl<'a> Links<'a> {
         let (heap, alloc) = (self.heap, *self.fed.allocator());
         let tape = tape_of(heap, room, self.fed.as_slice())?;
         Ok(match name {
-            b"holding" => Layers::Holding(HoldingLink::new(alloc, tape, true)),
-            b"passing" => Layers::Holding(HoldingLink::new(alloc, tape, false)),
             b"paced" => Layers::Paced(PacedLink::new(heap, tape, 2, 2)?),
-            b"admitting" => {
-                let clients = Vec::from_slice(alloc, &CLIENTS)?;
-                Layers::Admitting(AdmittingLink::new(tape, clients, NoReport))
-            }
-            b"budget" => Layers::Budget(BudgetLink::new(heap, tape, Steps::of(400), &CLIENTS)?),
-            b"client" => Layers::Client(client_of(alloc, heap, tape)?),
-            b"halves" => Layers::Budget(BudgetLink::new(heap, tape, Steps::of(500), &CLIENTS)?),
-            b"recalling" => Layers::Recalling(RecallingLink::new(heap, tape, self.changes)?),
+            b"client" => Layers::Client(client_of(alloc, heap, tape, self.notes)?),
             b"unsealed" => Layers::Sealed(SealedLink::new(tape, None)),
             _ => Layers::Tape(tape),
         })
     }
 
+    // Makes the link of a node over a tape with this room.
+    fn node(&self, name: &[u8], room: usize, clock: Steps) -> Result<Layers<'a>, OutOfMemory> {
+        let tape = tape_of(self.heap, room, self.fed.as_slice())?;
+        let (inner, counts) = (SealedLink::new(tape, None), self.counts);
+        Ok(if is(name, "holding") {
+            let alloc = *self.fed.allocator();
+            Layers::Holding(NodeLink::new(alloc, inner, clock, &CLIENTS, counts, true)?)
+        } else {
+            Layers::Node(NodeLink::new(self.heap, inner, clock, &CLIENTS, counts, false)?)
+        })
+    }
+
+    fn makes_node(&mut self, name: &[u8], line: &[u8], answer: &mut Vec<u8>) -> Result<(), Bad> {
+        let (room, line) = first(line)?;
+        let clock = Steps::of(long(last(line)?)?);
+        let made = self.node(name, number(room)? as usize, clock);
+        keeps(&mut self.link, made, answer)
+    }
+
     fn makes(&mut self, name: &[u8], line: &[u8], answer: &mut Vec<u8>) -> Result<(), Bad> {
         let room = long(last(line)?)?;
         let made = self.layers(name, room as usize);
-        self.takes(made, answer)
+        keeps(&mut self.link, made, answer)
     }
 
     fn seals(&mut self, line: &[u8], answer: &mut Vec<u8>) -> Result<(), Bad> {
@@ -97,7 +117,7 @@ impl<'a> Links<'a> {
             Ok(tape) => Ok(Layers::Sealed(SealedLink::new(tape, Some(key)))),
             Err(error) => Err(error),
         };
-        self.takes(made, answer)
+        keeps(&mut self.link, made, answer)
     }
 
     // Makes two ends, the first one with the script of the line.
@@ -115,21 +135,7 @@ impl<'a> Links<'a> {
             Ok((link, other)) => Ok(Layers::Pair(link, other)),
             Err(error) => Err(error),
         };
-        self.takes(made, answer)
-    }
-
-    fn takes(
-        &mut self,
-        made: Result<Layers<'a>, OutOfMemory>,
-        answer: &mut Vec<u8>,
-    ) -> Result<(), Bad> {
-        match made {
-            Ok(link) => {
-                self.link = link;
-                tells("ok", answer)
-            }
-            Err(error) => tells(error, answer),
-        }
+        keeps(&mut self.link, made, answer)
     }
 
     // The answers of a command that is given several times: one if they are the same.
@@ -150,16 +156,13 @@ impl<'a> Links<'a> {
     }
 
     fn calls(&mut self, name: &[u8], line: &[u8], answer: &mut Vec<u8>) -> Result<(), Bad> {
-        match &mut self.link {
-            Layers::Nothing => Err(Bad::Command),
+        match self.link.as_mut().ok_or(Bad::Command)? {
             Layers::Tape(link) => call(link, name, line, answer),
-            Layers::Holding(link) => call(link, name, line, answer),
             Layers::Paced(link) => call(link, name, line, answer),
             Layers::Sealed(link) => call(link, name, line, answer),
-            Layers::Admitting(link) => call(link, name, line, answer),
-            Layers::Budget(link) => call(link, name, line, answer),
+            Layers::Node(link) => call(link, name, line, answer),
+            Layers::Holding(link) => call(link, name, line, answer),
             Layers::Client(link) => call(link, name, line, answer),
-            Layers::Recalling(link) => call(link, name, line, answer),
             Layers::Pair(link, _) => call(link, name, line, answer),
         }
     }
@@ -167,18 +170,30 @@ impl<'a> Links<'a> {
     fn calls_other(&mut self, command: &[u8], answer: &mut Vec<u8>) -> Result<(), Bad> {
         let (name, line) = first(command)?;
         match &mut self.link {
-            Layers::Pair(_, other) => call(other, name, line, answer),
+            Some(Layers::Pair(_, other)) => call(other, name, line, answer),
             _ => Err(Bad::Command),
         }
     }
 
     // Asks the tape.
     fn asks(&self, name: &[u8], line: &[u8], answer: &mut Vec<u8>) -> Result<(), Bad> {
-        let tape = self.link.tape().ok_or(Bad::Command)?;
+        let link = self.link.as_ref().ok_or(Bad::Command)?;
+        let tape = link.tape().ok_or(Bad::Command)?;
         if is(name, "count") {
             return tells(count_sent(tape), answer);
         }
         put_sent(tape, number(last(line)?)? as usize, answer)
+    }
+
+    // Adds what a client's link has noted, and forgets it.
+    fn tells_notes(&self, answer: &mut Vec<u8>) -> Result<(), Bad> {
+        let Ok(mut notes) = self.notes.try_borrow_mut() else {
+            return Err(Bad::Memory);
+        };
+        answer.extend_from_slice(notes.as_slice())?;
+        without_last(answer);
+        notes.clear();
+        Ok(())
     }
 
     fn stores(&mut self, name: &[u8], handler: HandlerId, answer: &mut Vec<u8>) -> Result<(), Bad> {
@@ -204,20 +219,13 @@ impl<'a> Links<'a> {
             b"send" | b"receive" | b"flush" | b"faults" => self.calls(name, line, answer),
             b"other" => self.calls_other(line, answer),
             b"sent" | b"count" => self.asks(name, line, answer),
-            b"refused" => tells(self.link.refused(), answer),
+            b"refused" => self.link.as_ref().ok_or(Bad::Command)?.put_refused(answer),
+            b"notes" => self.tells_notes(answer),
             b"put" | b"stored" => self.stores(name, handler(line)?, answer),
             b"pair" => self.pairs(line, answer),
             b"sealed" => self.seals(line, answer),
-            b"tape"
-            | b"holding"
-            | b"passing"
-            | b"paced"
-            | b"admitting"
-            | b"budget"
-            | b"client"
-            | b"halves"
-            | b"recalling"
-            | b"unsealed" => self.makes(name, line, answer),
+            b"node" | b"holding" => self.makes_node(name, line, answer),
+            b"tape" | b"paced" | b"client" | b"unsealed" => self.makes(name, line, answer),
             _ => Err(Bad::Command),
         }
     }
@@ -233,8 +241,12 @@ impl Subject for Links<'_> {
     }
 
     fn shows(&self, text: &mut Vec<u8>) -> Result<(), Bad> {
-        write!(text, "{} {}", self.fed.len(), self.link.refused())?;
-        if let Some(tape) = self.link.tape() {
+        write!(text, "{} ", self.fed.len())?;
+        let Some(link) = &self.link else {
+            return Ok(());
+        };
+        link.put_refused(text)?;
+        if let Some(tape) = link.tape() {
             write!(text, " {} {}", tape.to_come(), tape.faults())?;
             for i in 0..count_sent(tape) {
                 put_sent(tape, i, text)?;

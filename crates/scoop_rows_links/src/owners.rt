@@ -8,7 +8,7 @@
 //! - `incarnation` answers the incarnation that the text names, `named N` the text with this one.
 
 use scoop_journal::Owner;
-use scoop_message::{ClientId, HandlerId, OutOfMemory};
+use scoop_message::{ClientId, HandlerId};
 use scoop_owner::{
     Newest, first_missing, first_older, last_incarnation, line_like, note_newest, owner_text,
     text_with_incarnation, updated_text,
@@ -112,8 +112,5 @@ fn owner_of(alloc: Global, text: &str, line: &[u8]) -> Result<String, Bad> {
     let Ok(system) = System::read(alloc, text) else {
         return Err(Bad::Words);
     };
-    match owner_text(alloc, &system, owner) {
-        Ok(text) => Ok(text),
-        Err(OutOfMemory) => Err(Bad::Memory),
-    }
+    Ok(owner_text(alloc, &system, owner)?)
 }

@@ -22,7 +22,6 @@ use scoop_row_player::answers::tells;
 use scoop_rows_parts::handlers::objects;
 use scoop_seal::{Key, SealedLink};
 use std::alloc::Global;
-use std::io::Write;
 use std::net::Net;
 use std::sync::Wait;
 use std::sync::atomic::{AtomicBool, Ordering};
@@ -81,17 +80,12 @@ impl Gate for Held {
 type Forgers = (UdpLink, Sealed);
 
 fn udp<R: Net>(rt: &R, alloc: Global, peers: Peers<'_>) -> Result<UdpLink, Bad> {
-    match UdpLink::open(rt, alloc, peers) {
-        Ok(link) => Ok(link),
-        Err(_) => Err(Bad::Memory),
-    }
+    UdpLink::open(rt, alloc, peers).map_err(|_| Bad::Memory)
 }
 
 // A client that asks a handler over a link.
 fn asking(alloc: Global, id: ClientId, at: HandlerId, link: UdpLink) -> Result<Asking, Bad> {
-    let Ok(client) = Client::begin(alloc, id, 1, &[at]) else {
-        return Err(Bad::Memory);
-    };
+    let client = Client::begin(alloc, id, 1, &[at]).map_err(|_| Bad::Memory)?;
     let link = PacedLink::new(alloc, SealedLink::new(link, Some(Key::new(KEY))), 1, 1)?;
     Ok(Driver::new(client, link, 2_000))
 }
@@ -102,9 +96,7 @@ pub fn holds<R: Threads + Wait + Clock + Net + Sync>(
     answer: &mut Vec<u8>,
 ) -> Result<(), Bad> {
     let alloc = *answer.allocator();
-    let Ok(ports) = free_ports::<R, 5>(rt) else {
-        return Err(Bad::Memory);
-    };
+    let ports = free_ports::<R, 5>(rt).map_err(|_| Bad::Memory)?;
     let [node, seven, eight, bare, other] = ports;
     let table = &[
         (Party::Handler(ONE), node),
@@ -124,8 +116,7 @@ pub fn holds<R: Threads + Wait + Clock + Net + Sync>(
     let other = udp(rt, alloc, Peers { own: other, table })?;
     let forgers = (bare, SealedLink::new(other, Some(Key::new(OTHER_KEY))));
     one_is_held(rt, &mut link, clients, forgers, answer)?;
-    write!(answer, ", {} refused", link.refused())?;
-    Ok(())
+    tells(format_args!(", {} refused", link.refused()), answer)
 }
 
 fn one_is_held<R: Threads + Wait + Clock + Sync>(
@@ -155,13 +146,8 @@ fn one_is_held<R: Threads + Wait + Clock + Sync>(
         return tells(error.cause, answer);
     }
     let none = Answer::Refused;
-    write!(
-        answer,
-        "{end}, {}, {}",
-        seven.unwrap_or(none),
-        eight.unwrap_or(none)
-    )?;
-    Ok(())
+    let (seven, eight) = (seven.unwrap_or(none), eight.unwrap_or(none));
+    tells(format_args!("{end}, {seven}, {eight}"), answer)
 }
 
 // All passes come back. A node of fewer than two isn't served.

@@ -143,16 +143,13 @@ fn acts<R: Threads + Wait + Sync>(
     line: &[u8],
     answer: &mut Vec<u8>,
 ) -> Result<(), Bad> {
-    let Some(node) = &nodes.node else {
-        return Err(Bad::Command);
-    };
+    let node = nodes.node.as_ref().ok_or(Bad::Command)?;
     if name == b"work".as_slice() {
         return both_work(rt, node, nodes.passes.as_mut_slice(), answer);
     }
     let (at, line) = first(line)?;
-    let Some(pass) = nodes.passes.get_mut(number(at)? as usize) else {
-        return Err(Bad::Number);
-    };
+    let place = number(at)? as usize;
+    let pass = nodes.passes.get_mut(place).ok_or(Bad::Number)?;
     match name {
         b"hear" => {
             let (_, heard) = message(nodes.alloc, line)?;
@@ -201,12 +198,8 @@ fn both_work<'a, R: Threads + Wait + Sync>(
     passes: &mut [Pass<Heap<'a>>],
     answer: &mut Vec<u8>,
 ) -> Result<(), Bad> {
-    let Some((first, others)) = passes.split_first_mut() else {
-        return Err(Bad::Words);
-    };
-    let Some(second) = others.first_mut() else {
-        return Err(Bad::Words);
-    };
+    let (first, others) = passes.split_first_mut().ok_or(Bad::Words)?;
+    let second = others.first_mut().ok_or(Bad::Words)?;
     let done = thread::join(
         rt,
         || works(rt, node, first, ONE, ClientId(7)),
@@ -253,9 +246,7 @@ fn closes<R: Wait>(
     line: &[u8],
     answer: &mut Vec<u8>,
 ) -> Result<(), Bad> {
-    let Some(node) = nodes.node.take() else {
-        return Err(Bad::Command);
-    };
+    let node = nodes.node.take().ok_or(Bad::Command)?;
     let given = match last(line) {
         Ok(count) => match opens(
             nodes.alloc,

@@ -47,9 +47,8 @@ struct Painter {
 pub fn paints(answer: &mut Vec<u8>) -> Result<(), Bad> {
     let alloc = *answer.allocator();
     let handlers = objects(alloc, DemoClass::Cell, &[ONE, TWO])?;
-    let Ok(mut cells) = Book::open(alloc, handlers, MemoryKeeper::new(alloc)) else {
-        return Err(Bad::Memory);
-    };
+    let opened = Book::open(alloc, handlers, MemoryKeeper::new(alloc));
+    let mut cells = opened.map_err(|_| Bad::Memory)?;
     let fresh = cells.words(ONE);
     let mut red = make_painter(alloc, ClientId(7), 1)?;
     let mut blue = make_painter(alloc, ClientId(8), 2)?;
@@ -66,12 +65,8 @@ pub fn paints(answer: &mut Vec<u8>) -> Result<(), Bad> {
 
 fn make_painter(alloc: Global, number: ClientId, colour: u64) -> Result<Painter, Bad> {
     let (link, end) = ScriptLink::pair(alloc, LOSSY, LOSSY, ROOM)?;
-    let Ok(client) = Client::begin(alloc, number, 1, &[ONE, TWO]) else {
-        return Err(Bad::Memory);
-    };
-    let Ok(args) = Args::of(&[colour]) else {
-        return Err(Bad::Words);
-    };
+    let client = Client::begin(alloc, number, 1, &[ONE, TWO]).map_err(|_| Bad::Memory)?;
+    let args = Args::of(&[colour]).map_err(|_| Bad::Words)?;
     Ok(Painter {
         driver: Driver::new(client, link, 0),
         end,

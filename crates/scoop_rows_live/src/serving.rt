@@ -1,4 +1,4 @@
-//! A node's loop over a tape.
+//! A node's loop over the link of a node, which takes its datagrams from a tape and hears clients 7 and 8.
 //!
 //! - `feed MESSAGE` adds a message to those that come to the next loop.
 //! - `serve TURNS [room N]` serves the node over a tape with room for N sends, with a thread for each pass but the first.
@@ -10,20 +10,26 @@ use crate::nodes::{Nodes, opens};
 use scoop_errors::PartyError;
 use scoop_frame::encode;
 use scoop_link::TapeLink;
-use scoop_node_link::HoldingLink;
-use scoop_message::HandlerId;
 use scoop_message::limits::{BUFFER_LEN, MAX_HISTORY};
+use scoop_message::{ClientId, HandlerId};
 use scoop_netloop::{Gate, OpenGate, ServeEnd, Stop, serve};
+use scoop_node_link::{NodeCounts, NodeLink};
+use scoop_pacing::SystemTimes;
 use scoop_row_player::Bad;
 use scoop_row_player::answers::tells;
 use scoop_row_player::words::{first, number};
 use scoop_rows_parts::handlers::setting;
 use scoop_rows_parts::printing::{message, put_frame};
+use scoop_seal::SealedLink;
 use std::alloc::Global;
 use std::mem;
 use std::sync::Wait;
 use std::thread::Threads;
 use std::time::Clock;
+
+const CLIENTS: [ClientId; 2] = [ClientId(7), ClientId(8)];
+
+type Link<'c, 'r, R> = NodeLink<'c, TapeLink, SystemTimes<'r, R>>;
 
 /// Lets no handler pass.
 struct Shut;
@@ -53,6 +59,32 @@ fn tape(alloc: Global, fed: &[u8], room: u32) -> Result<TapeLink, Bad> {
     Ok(tape)
 }
 
+// The link of a node over a tape of what was fed.
+fn link_over<'c, 'r, R: Clock>(
+    rt: &'r R,
+    nodes: &Nodes<'_>,
+    line: &[u8],
+    counts: &'c NodeCounts,
+) -> Result<Link<'c, 'r, R>, Bad> {
+    let tape = tape(nodes.alloc, &nodes.fed, setting(line, "room", 8)?)?;
+    let sealed = SealedLink::new(tape, None);
+    let clock = SystemTimes::new(rt);
+    let holds = line.ends_with(b"holding");
+    Ok(NodeLink::new(nodes.alloc, sealed, clock, &CLIENTS, counts, holds)?)
+}
+
+// Adds a line for each datagram that was sent.
+fn put_sent(tape: &TapeLink, answer: &mut Vec<u8>) -> Result<(), Bad> {
+    for place in 0..usize::MAX {
+        let Some((_, bytes)) = tape.sent(place) else {
+            break;
+        };
+        answer.push(b'\n')?;
+        put_frame(bytes, answer)?;
+    }
+    Ok(())
+}
+
 /// Serves the node over a tape of what was fed. If memory is refused to the loop, the node is dropped. An executor's end doesn't
 /// show if the receiver's turns are over first.
 pub fn serves_tape<R: Threads + Wait + Clock + Sync>(
@@ -63,7 +95,8 @@ pub fn serves_tape<R: Threads + Wait + Clock + Sync>(
 ) -> Result<(), Bad> {
     let (turns, line) = first(line)?;
     let turns = u64::from(number(turns)?);
-    let tape = tape(nodes.alloc, &nodes.fed, setting(line, "room", 8)?)?;
+    let counts = NodeCounts::new(nodes.alloc)?;
+    let mut link = link_over(rt, nodes, line, &counts)?;
     let (node, passes) = match nodes.node.take() {
         Some(node) => (node, mem::replace(&mut nodes.passes, Vec::new(nodes.heap))),
         None => match opens(nodes.alloc, nodes.heap, 2, MAX_HISTORY, u32::MAX) {
@@ -74,13 +107,12 @@ pub fn serves_tape<R: Threads + Wait + Clock + Sync>(
     if passes.len() < 2 {
         return Err(Bad::Words);
     }
-    let mut tape = HoldingLink::new(nodes.alloc, tape, line.ends_with(b"holding"));
     let heap = *passes.allocator();
     let stop = Stop::new();
     let (end, passes) = if line.ends_with(b"shut") {
-        serve(rt, heap, &node, &mut tape, passes, &Shut, &stop, turns)
+        serve(rt, heap, &node, &mut link, passes, &Shut, &stop, turns)
     } else {
-        serve(rt, heap, &node, &mut tape, passes, &OpenGate, &stop, turns)
+        serve(rt, heap, &node, &mut link, passes, &OpenGate, &stop, turns)
     };
     tells(PartyError::from(end), answer)?;
     if end == ServeEnd::OutOfMemory {
@@ -89,12 +121,5 @@ pub fn serves_tape<R: Threads + Wait + Clock + Sync>(
     nodes.node = Some(node);
     nodes.passes = passes;
     nodes.fed.clear();
-    for place in 0..usize::MAX {
-        let Some((_, bytes)) = tape.inner().sent(place) else {
-            break;
-        };
-        answer.push(b'\n')?;
-        put_frame(bytes, answer)?;
-    }
-    Ok(())
+    put_sent(link.inner().inner(), answer)
 }

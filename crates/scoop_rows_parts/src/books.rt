@@ -15,17 +15,16 @@ use crate::handlers::{list, numbers, objects, setting};
 use crate::printing::{message, put_frame, put_message, put_moves, put_replied, put_reply};
 use scoop_book::{Book, Event, Reply};
 use scoop_classes::DemoClass;
-use scoop_demo::{MAX_DATAGRAM_LEN, read_datagram};
 use scoop_driver::HandlerList;
 use scoop_handler::{Done, Heard, Ran};
 use scoop_keeper::{FailingKeeper, MemoryKeeper};
-use scoop_lines::{LineBytes, is};
+use scoop_lines::is;
 use scoop_message::Message;
 use scoop_message::limits::BUFFER_LEN;
 use scoop_netloop::{Answered, answer_datagram, run_out};
 use scoop_object::Table;
 use scoop_row_player::answers::{keeps, tells, told};
-use scoop_row_player::words::{first, handler, last, number};
+use scoop_row_player::words::{first, handler, hex_bytes, last, number};
 use scoop_row_player::{Bad, Heap, Subject};
 use scoop_weaver::Party;
 use std::alloc::Global;
@@ -70,16 +69,11 @@ impl<'a> Books<'a> {
     // Opens the handlers over their keeper, or as they stood: over their keeper, or over one that has nothing.
     fn reopens(&mut self, name: &[u8], line: &[u8], answer: &mut Vec<u8>) -> Result<(), Bad> {
         let handlers = objects(self.alloc, DemoClass::Account, self.numbers.as_slice())?;
-        let Some(book) = self.book.take() else {
-            return Err(Bad::Command);
-        };
+        let book = self.book.take().ok_or(Bad::Command)?;
         if is(name, "again") {
             let keeper = FailingKeeper::new(book.into_keeper().into_inner(), calls(line)?);
-            return keeps(
-                &mut self.book,
-                Book::open(self.roomy, handlers, keeper),
-                answer,
-            );
+            let opened = Book::open(self.roomy, handlers, keeper);
+            return keeps(&mut self.book, opened, answer);
         }
         let (mut keeper, stood) = book.into_standing();
         if is(name, "fresh") {
@@ -91,9 +85,7 @@ impl<'a> Books<'a> {
 
     fn acts(&mut self, name: &[u8], line: &[u8], answer: &mut Vec<u8>) -> Result<(), Bad> {
         let (alloc, pass) = (self.alloc, self.pass);
-        let Some(book) = self.book.as_mut() else {
-            return Err(Bad::Command);
-        };
+        let book = self.book.as_mut().ok_or(Bad::Command)?;
         match name {
             b"hear" => {
                 let (_, heard) = message(alloc, line)?;
@@ -173,9 +165,7 @@ fn finishes(
     pass: u32,
     answer: &mut Vec<u8>,
 ) -> Result<(), Bad> {
-    let Some(done) = out.take() else {
-        return Err(Bad::Command);
-    };
+    let done = out.take().ok_or(Bad::Command)?;
     match book.finish(pass, done) {
         Ok(ran) => put_reply(&Reply::Finished(ran), answer),
         Err(error) => {
@@ -191,16 +181,9 @@ fn answers(
     line: &[u8],
     answer: &mut Vec<u8>,
 ) -> Result<(), Bad> {
-    let mut digits = LineBytes::new();
-    if digits.try_extend_from_slice(line).is_err() {
-        return Err(Bad::Words);
-    }
-    let mut buffer = [0; MAX_DATAGRAM_LEN];
-    let Ok(datagram) = read_datagram(&mut digits, &mut buffer) else {
-        return Err(Bad::Number);
-    };
+    let datagram = hex_bytes(*answer.allocator(), line)?;
     let mut out = [0; BUFFER_LEN];
-    match answer_datagram(book, pass, datagram, &mut out) {
+    match answer_datagram(book, pass, &datagram, &mut out) {
         Ok(Answered::Reply(len, note)) => {
             write!(answer, "{note}, ")?;
             put_frame(out.get(..len).unwrap_or(&[]), answer)

@@ -108,9 +108,7 @@ impl<'a> Drivers<'a> {
 
     fn hears(&mut self, line: &[u8], answer: &mut Vec<u8>) -> Result<(), Bad> {
         let (_, heard) = message(self.alloc, line)?;
-        let Some(book) = self.book.as_mut() else {
-            return Err(Bad::Command);
-        };
+        let book = self.book.as_mut().ok_or(Bad::Command)?;
         put_replied(book.step(0, Event::Hear(heard)), answer)
     }
 
@@ -124,18 +122,14 @@ impl<'a> Drivers<'a> {
         let Some(client) = begin(heap, &self.numbers, self.batch) else {
             return tells("out of memory", answer);
         };
-        let Some(book) = self.book.take() else {
-            return Err(Bad::Command);
-        };
+        let book = self.book.take().ok_or(Bad::Command)?;
         let link = Wire::new(LoopLink::new(self.alloc, book, 0), line)?;
         self.driver = Some(Driver::with_diary(client, link, turns, diary));
         tells("ok", answer)
     }
 
     fn acts(&mut self, name: &[u8], line: &[u8], answer: &mut Vec<u8>) -> Result<(), Bad> {
-        let Some(driver) = self.driver.as_mut() else {
-            return Err(Bad::Command);
-        };
+        let driver = self.driver.as_mut().ok_or(Bad::Command)?;
         match name {
             b"turn" => takes_turn(driver, answer)?,
             b"reserve" => {
@@ -151,8 +145,7 @@ impl<'a> Drivers<'a> {
             b"sent" => return put_frame(driver.link().last(), answer),
             b"linked" => {
                 let link = driver.link();
-                write!(answer, "{} {}", link.calls(), link.faults())?;
-                return Ok(());
+                return tells(format_args!("{} {}", link.calls(), link.faults()), answer);
             }
             _ => return Err(Bad::Command),
         }
@@ -160,12 +153,8 @@ impl<'a> Drivers<'a> {
     }
 
     fn tells_traffic(&self, answer: &mut Vec<u8>) -> Result<(), Bad> {
-        let Some(driver) = &self.driver else {
-            return Err(Bad::Command);
-        };
-        let Some(client) = begin(self.alloc, &self.numbers, self.batch) else {
-            return Err(Bad::Memory);
-        };
+        let driver = self.driver.as_ref().ok_or(Bad::Command)?;
+        let client = begin(self.alloc, &self.numbers, self.batch).ok_or(Bad::Memory)?;
         let party = Party::of_client(self.alloc, client, driver.diary().list.steps())?;
         put_moves(&party, answer)
     }
@@ -191,12 +180,8 @@ impl Subject for Drivers<'_> {
         for handler in self.numbers.as_slice() {
             put_message(driver.due(*handler), text)?;
         }
-        write!(
-            text,
-            " {} {}",
-            driver.diary().list.steps().len(),
-            driver.link().calls()
-        )?;
+        let (steps, calls) = (driver.diary().list.steps().len(), driver.link().calls());
+        write!(text, " {steps} {calls}")?;
         put_phase(driver, text)
     }
 }
@@ -211,7 +196,7 @@ fn put_phase(driver: &HeapDriver<'_>, answer: &mut Vec<u8>) -> Result<(), Bad> {
 
 fn takes_turn(driver: &mut HeapDriver<'_>, answer: &mut Vec<u8>) -> Result<(), Bad> {
     match driver.turn() {
-        Ok(Some(note)) => put_note(WorldNote::Client(note), answer),
+        Ok(Some(note)) => put_note(&WorldNote::Client(note), None, answer),
         Ok(None) => tells("none", answer),
         Err(error) => tells(error, answer),
     }
@@ -231,8 +216,7 @@ fn reserves_unless(
     };
     let runs = driver.reserve_unless(handlers.as_slice(), &mut interrupt);
     tells_either(runs, answer)?;
-    write!(answer, " {}", interrupt.asked)?;
-    Ok(())
+    tells(format_args!(" {}", interrupt.asked), answer)
 }
 
 // Logs a query, or a call so often.

@@ -24,9 +24,7 @@ pub fn numbers(line: &[u8]) -> Result<HandlerList, Bad> {
     let mut cells = [HandlerId(0); 4];
     let mut rest = line;
     for place in 0..4usize {
-        let Some((word, behind)) = next_word(rest) else {
-            return list(&cells[..place]);
-        };
+        let (word, behind) = next_word(rest).unwrap_or((&[], &[]));
         let Some(value) = decimal_u32(word) else {
             return list(&cells[..place]);
         };
@@ -38,10 +36,7 @@ pub fn numbers(line: &[u8]) -> Result<HandlerList, Bad> {
 
 /// The list of these handlers.
 pub fn list(handlers: &[HandlerId]) -> Result<HandlerList, Bad> {
-    match HandlerList::of(handlers) {
-        Ok(made) => Ok(made),
-        Err(_) => Err(Bad::Words),
-    }
+    HandlerList::of(handlers).map_err(|_| Bad::Words)
 }
 
 /// The number that follows this word in a line, or the other one if the line lacks the word.
@@ -62,12 +57,8 @@ pub fn setting(line: &[u8], name: &str, missing: u32) -> Result<u32, Bad> {
 
 /// The handler with an object of this class, which has one word.
 pub fn handed(alloc: Global, class: DemoClass, at: HandlerId) -> Result<Handed, Bad> {
-    let Ok(words) = Words::of(&[0]) else {
-        return Err(Bad::Words);
-    };
-    let Ok(object) = Table::new(class.class(alloc)?, words) else {
-        return Err(Bad::Words);
-    };
+    let words = Words::of(&[0]).map_err(|_| Bad::Words)?;
+    let object = Table::new(class.class(alloc)?, words).map_err(|_| Bad::Words)?;
     let class = if at.0 < STRANGE {
         class
     } else {

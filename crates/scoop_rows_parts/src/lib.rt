@@ -1,19 +1,23 @@
-//! Rows about the parts of nodes and clients: books, drivers, orders of moves.
+//! Rows about the parts of nodes and clients: books, drivers, orders of moves, names in frames.
 //!
-//! [`Parts`] has the areas `books`, `drivers` and `weaves`. Each area's module says its commands.
+//! [`Parts`] has the areas `books`, `drivers`, `names` and `weaves`. Each area's module says its commands. The modules [`handlers`],
+//! [`printing`] and [`stand_ins`] serve the other libraries of rows too.
 #![tactic(auto)]
 
 mod books;
 mod diary;
 mod drivers;
 pub mod handlers;
+mod naming;
 pub mod printing;
+pub mod stand_ins;
 mod waiting;
 mod weaves;
 mod wire;
 
 use books::Books;
 use drivers::Drivers;
+use naming::Naming;
 use scoop_refusing::Refusing;
 use scoop_row_player::{Areas, Bad, Play, Sheet};
 use weaves::Weaves;
@@ -29,6 +33,7 @@ impl Areas for Parts {
         match play.area {
             "books" => play.over(&mut Books::new(alloc, heap, &roomy)?, sheet),
             "drivers" => play.over(&mut Drivers::new(alloc, heap, &roomy)?, sheet),
+            "names" => play.over(&mut Naming, sheet),
             "weaves" => play.over(&mut Weaves::new(alloc, heap), sheet),
             _ => Ok(false),
         }

@@ -44,9 +44,9 @@ pub fn put_frame(datagram: &[u8], answer: &mut Vec<u8>) -> Result<(), Bad> {
     Ok(())
 }
 
-/// Adds a note, as `scoop world` prints it.
-pub fn put_note(note: WorldNote, answer: &mut Vec<u8>) -> Result<(), Bad> {
-    print_note(&note, None, answer)?;
+/// Adds what an event did, and the message that it sent, as `scoop world` prints it.
+pub fn put_note(note: &WorldNote, sent: Option<&Message>, answer: &mut Vec<u8>) -> Result<(), Bad> {
+    print_note(note, sent, answer)?;
     let _end_of_line = answer.pop();
     Ok(())
 }
@@ -63,9 +63,11 @@ pub fn put_reply(reply: &Reply, answer: &mut Vec<u8>) -> Result<(), Bad> {
             Ok(())
         }
         Reply::Began(None) => tells("none", answer),
-        Reply::Began(Some((block, number))) => put_note(WorldNote::Began(*block, *number), answer),
+        Reply::Began(Some((block, number))) => {
+            put_note(&WorldNote::Began(*block, *number), None, answer)
+        }
         Reply::Finished(ran) => {
-            put_note(WorldNote::Ran(*ran), answer)?;
+            put_note(&WorldNote::Ran(*ran), None, answer)?;
             answer.write_all(b", ")?;
             put_entry(&ran.entry, answer)?;
             Ok(())

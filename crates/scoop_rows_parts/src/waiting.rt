@@ -35,10 +35,8 @@ impl Pause for Sum {
 }
 
 fn request(op: u16, argument: u64) -> Result<Request, Bad> {
-    match Args::of(&[argument]) {
-        Ok(args) => Ok(Request { op, args }),
-        Err(_) => Err(Bad::Words),
-    }
+    let args = Args::of(&[argument]).map_err(|_| Bad::Words)?;
+    Ok(Request { op, args })
 }
 
 // A part of a condition, from its words.

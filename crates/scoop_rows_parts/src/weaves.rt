@@ -56,9 +56,7 @@ impl<'a> Weaves<'a> {
 
     // The last party's moves come after those of the one before, which began anew.
     fn begins_anew(&mut self, answer: &mut Vec<u8>) -> Result<(), Bad> {
-        let Some(since) = self.parties.pop() else {
-            return Err(Bad::Command);
-        };
+        let since = self.parties.pop().ok_or(Bad::Command)?;
         let begun = match self.parties.last_mut() {
             Some(party) => party.begin_anew(&since).is_ok(),
             None => return Err(Bad::Command),
@@ -86,10 +84,7 @@ impl Subject for Weaves<'_> {
             b"party" => self.makes_party(answer),
             b"anew" => self.begins_anew(answer),
             b"weave" => self.weaves(answer),
-            b"moves" => match self.parties.last() {
-                Some(party) => put_moves(party, answer),
-                None => Err(Bad::Command),
-            },
+            b"moves" => put_moves(self.parties.last().ok_or(Bad::Command)?, answer),
             _ => Err(Bad::Command),
         }
     }

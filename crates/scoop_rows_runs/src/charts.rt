@@ -30,14 +30,11 @@ pub struct Charts {
 
 impl Charts {
     pub fn new(alloc: Global) -> Result<Charts, Bad> {
-        match Chart::new(alloc, &[SEVEN], &[(1, ONE)]) {
-            Ok(chart) => Ok(Charts {
-                chart,
-                transfer: None,
-                drawn: Vec::new(alloc),
-            }),
-            Err(_) => Err(Bad::Memory),
-        }
+        Ok(Charts {
+            chart: Chart::new(alloc, &[SEVEN], &[(1, ONE)]).map_err(|_| Bad::Memory)?,
+            transfer: None,
+            drawn: Vec::new(alloc),
+        })
     }
 
     fn opens(&mut self, line: &[u8], answer: &mut Vec<u8>) -> Result<(), Bad> {

@@ -10,8 +10,7 @@
 ghost use Rattle.std.specs.Prelude.{◌≤◌};
 ghost use Rattle.scoop_message.specs.declared.limits.TheConstants.{MAX_ENTRIES};
 
-use crate::reading::{event_of, message_of};
-use crate::telling::{tells_message, tells_note};
+use crate::reading::event_of;
 use scoop_client::{BeginError, Client};
 use scoop_message::limits::MAX_ENTRIES;
 use scoop_message::{Block, ClientId, HandlerId};
@@ -19,6 +18,7 @@ use scoop_reserve::Reservation;
 use scoop_row_player::answers::{keeps, tells, told};
 use scoop_row_player::words::{first, handler, number, words_in};
 use scoop_row_player::{Bad, Heap, Subject};
+use scoop_rows_parts::printing::{message, put_message, put_note};
 use scoop_world::{Event, WorldNote};
 use std::alloc::Global;
 use std::io::Write;
@@ -64,7 +64,8 @@ impl<'a> Clients<'a> {
 
     fn hears_reply(&mut self, line: &[u8], answer: &mut Vec<u8>) -> Result<(), Bad> {
         let reservation = self.reservation.as_mut().ok_or(Bad::Command)?;
-        let _step = reservation.hear(&message_of(self.alloc, line)?);
+        let (_, heard) = message(self.alloc, line)?;
+        let _step = reservation.hear(&heard);
         tells(reservation.is_open(), answer)
     }
 }
@@ -80,15 +81,12 @@ impl Subject for Clients<'_> {
         }
         let client = self.client.as_mut().ok_or(Bad::Command)?;
         match name {
-            b"due" => tells_message(&client.due(handler(line)?), answer),
+            b"due" => put_message(client.due(handler(line)?), answer),
             b"hear" => {
-                let note = client.hear(&message_of(self.alloc, line)?);
-                tells_note(&WorldNote::Client(note), None, answer)
+                let (_, heard) = message(self.alloc, line)?;
+                put_note(&WorldNote::Client(client.hear(&heard)), None, answer)
             }
-            b"phase" => {
-                write!(answer, "{:?}", client.phase())?;
-                Ok(())
-            }
+            b"phase" => tells(format_args!("{:?}", client.phase()), answer),
             _ => match event_of(command) {
                 Ok(Event::Do(_, command)) => told(client.carry_out(&command), answer),
                 Ok(_) => Err(Bad::Command),
@@ -105,7 +103,7 @@ impl Subject for Clients<'_> {
         let count = client.handlers().len();
         write!(text, "{phase:?} {block:?} {batch} {count}")?;
         for number in 1..=HANDLERS {
-            tells_message(&client.due(HandlerId(number)), text)?;
+            put_message(client.due(HandlerId(number)), text)?;
         }
         Ok(())
     }

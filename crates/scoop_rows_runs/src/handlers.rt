@@ -9,18 +9,17 @@
 //!   `recall` with the object of the waiting job, or else with the one that is named.
 //! - `state CLASS WORD..` keeps a state of these words and of the parts named before by `holder`, `mark` and `queue`.
 
-use crate::reading::{made, message_of};
+use crate::reading::made;
 use crate::states::{Parts, shows_state};
-use crate::telling::{tells_message, tells_note};
 use scoop_handler::{Done, Handler, HandlerState, Job, Ran, StrangerJob};
 use scoop_message::{Entry, HandlerId, Message, Request};
 use scoop_object::{Behaviour, Table};
 use scoop_row_player::answers::{keeps, tells};
 use scoop_row_player::words::first;
 use scoop_row_player::{Bad, Heap, Subject};
+use scoop_rows_parts::printing::{message, put_message, put_note};
 use scoop_world::WorldNote;
 use std::alloc::Global;
-use std::io::Write;
 
 const ONE: HandlerId = HandlerId(1);
 
@@ -71,12 +70,11 @@ impl<'a> Handlers<'a> {
         let _held: Option<(Entry, Request)> = None;
         let handler = self.handler.as_mut().ok_or(Bad::Command)?;
         match name {
-            b"hear" => hears(handler, &message_of(self.alloc, line)?, answer),
-            b"words" => {
-                let words = handler.words();
-                write!(answer, "{:?}", words.as_slice())?;
-                Ok(())
+            b"hear" => {
+                let (_, heard) = message(self.alloc, line)?;
+                hears(handler, &heard, answer)
             }
+            b"words" => tells(format_args!("{:?}", handler.words().as_slice()), answer),
             b"run" => tells_ran(&handler.run(), answer),
             b"begin" => {
                 self.job = handler.begin();
@@ -178,21 +176,21 @@ fn hears(handler: &mut Hearing<'_>, message: &Message, answer: &mut Vec<u8>) -> 
     tells(heard.note, answer)?;
     if heard.reply.is_some() {
         tells("; ", answer)?;
-        tells_message(&heard.reply, answer)?;
+        put_message(heard.reply, answer)?;
     }
     Ok(())
 }
 
 fn tells_ran(ran: &Option<Ran>, answer: &mut Vec<u8>) -> Result<(), Bad> {
     match ran {
-        Some(ran) => tells_note(&WorldNote::Ran(*ran), None, answer),
+        Some(ran) => put_note(&WorldNote::Ran(*ran), None, answer),
         None => tells("none", answer),
     }
 }
 
 fn tells_job(job: &Option<Job<Table>>, answer: &mut Vec<u8>) -> Result<(), Bad> {
     match job {
-        Some(job) => tells_note(&WorldNote::Began(job.block(), job.number()), None, answer),
+        Some(job) => put_note(&WorldNote::Began(job.block(), job.number()), None, answer),
         None => tells("none", answer),
     }
 }

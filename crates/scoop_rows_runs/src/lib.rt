@@ -6,6 +6,7 @@ mod clients;
 mod handlers;
 mod long;
 mod programs;
+mod queues;
 mod reading;
 mod states;
 mod telling;
@@ -15,11 +16,13 @@ use charts::Charts;
 use clients::Clients;
 use handlers::Handlers;
 use programs::Programs;
+use queues::Queues;
 use scoop_refusing::Refusing;
-use scoop_row_player::{Areas, Bad, Play, Sheet, Subject};
+use scoop_row_player::{Areas, Bad, Play, Sheet};
 use worlds::Worlds;
 
-/// The areas `answers`, `charts`, `clients`, `commands`, `framing`, `handlers`, `limits`, `long`, `pairs`, `scripts` and `worlds`.
+/// The areas `answers`, `charts`, `clients`, `commands`, `framing`, `handlers`, `limits`, `long`, `pairs`, `queues`, `scripts` and
+/// `worlds`.
 #[derive(Clone, Copy)]
 pub struct Runs;
 
@@ -30,24 +33,16 @@ impl Areas for Runs {
         let own = Refusing::new(alloc, 0);
         match play.area {
             "answers" | "commands" | "framing" | "scripts" => {
-                played(play, Programs::new(alloc), sheet)
+                play.over(&mut Programs::new(alloc), sheet)
             }
-            "charts" => played(play, Charts::new(alloc)?, sheet),
-            "clients" => played(play, Clients::new(alloc, heap), sheet),
-            "handlers" => played(play, Handlers::new(alloc, heap), sheet),
-            "limits" => played(play, Handlers::new(alloc, &own), sheet),
-            "long" | "pairs" => played(play, Worlds::new(alloc, &own), sheet),
-            "worlds" => played(play, Worlds::new(alloc, heap), sheet),
+            "charts" => play.over(&mut Charts::new(alloc)?, sheet),
+            "clients" => play.over(&mut Clients::new(alloc, heap), sheet),
+            "handlers" => play.over(&mut Handlers::new(alloc, heap), sheet),
+            "limits" => play.over(&mut Handlers::new(alloc, &own), sheet),
+            "long" | "pairs" => play.over(&mut Worlds::new(alloc, &own), sheet),
+            "queues" => play.over(&mut Queues::new(heap), sheet),
+            "worlds" => play.over(&mut Worlds::new(alloc, heap), sheet),
             _ => Ok(false),
         }
     }
-}
-
-// Plays the rows of a case with a subject of its own.
-fn played<S: Subject + Drop>(
-    play: Play<'_>,
-    mut subject: S,
-    sheet: &mut Sheet,
-) -> Result<bool, Bad> {
-    play.over(&mut subject, sheet)
 }

@@ -80,8 +80,7 @@ fn is_right(
     }
     watch.see(world)?;
     if number % 1000 == 0 {
-        let mut whole = Watch::new();
-        return whole.see(world);
+        Watch::new().see(world)?;
     }
     Ok(())
 }

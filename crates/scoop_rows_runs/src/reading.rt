@@ -1,22 +1,10 @@
 //! Words of rows that several areas read, as `scoop frame` and the scripts of `scoop world` have them.
 
-use scoop_demo::{
-    EventLine, LineKind, PlacedLine, line_kind, read_event, read_message, read_placement,
-};
-use scoop_message::Message;
+use scoop_demo::{EventLine, LineKind, PlacedLine, line_kind, read_event, read_placement};
 use scoop_object::{Class, Table};
 use scoop_row_player::Bad;
-use scoop_row_player::words::after_space;
 use scoop_world::{Event, Placement};
 use std::alloc::Global;
-
-/// The message that these words write.
-pub fn message_of(alloc: Global, line: &[u8]) -> Result<Message, Bad> {
-    match read_message(alloc, after_space(line)) {
-        Ok((_, message)) => Ok(message),
-        Err(_) => Err(Bad::Words),
-    }
-}
 
 /// The one event of a script's line.
 pub fn event_of(line: &[u8]) -> Result<Event, Bad> {
@@ -31,24 +19,19 @@ pub fn event_of(line: &[u8]) -> Result<Event, Bad> {
 
 /// A handler with its object, from the words of a script's line: `NODE HANDLER CLASS WORD..`.
 pub fn placement(alloc: Global, words: &[u8]) -> Result<Placement<Table>, Bad> {
-    let Ok(placed) = read_placement(alloc, words) else {
-        return Err(Bad::Words);
-    };
     let PlacedLine {
         node,
         handler,
         class,
         words,
-    } = placed;
-    match Table::new(class.copy()?, words) {
-        Ok(object) => Ok(Placement {
-            node,
-            handler,
-            class,
-            object,
-        }),
-        Err(_) => Err(Bad::Words),
-    }
+    } = read_placement(alloc, words).map_err(|_| Bad::Words)?;
+    let object = Table::new(class.copy()?, words).map_err(|_| Bad::Words)?;
+    Ok(Placement {
+        node,
+        handler,
+        class,
+        object,
+    })
 }
 
 /// A class and an object of it, from the words ` CLASS WORD..` behind a command.

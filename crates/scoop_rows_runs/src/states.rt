@@ -1,12 +1,12 @@
 //! States of handlers: their parts in words, and their text.
 
+use crate::queues::{append, shows_queues};
 use scoop_handler::{HandlerState, Mark, Stage, StateError};
 use scoop_lines::next_word;
-use scoop_message::limits::MAX_PENDING;
 use scoop_message::{Answer, Block, HandlerId, Words};
-use scoop_queue::{Head, QueueOfQueues, QueueState};
-use scoop_row_player::answers::{tells, told};
-use scoop_row_player::words::{block, entries, first_three, last, number, put_entry};
+use scoop_queue::QueueOfQueues;
+use scoop_row_player::answers::tells;
+use scoop_row_player::words::{block, first_three, last, number};
 use scoop_row_player::{Bad, Heap};
 use std::alloc::Global;
 use std::io::Write;
@@ -84,44 +84,6 @@ fn mark(line: &[u8]) -> Result<Mark, Bad> {
         ended: matches!(more, b"ended"),
         kept: matches!(more, b"refused").then_some((1, Answer::Refused)),
     })
-}
-
-// Appends a private queue: its block, the number of its first entry, its state and its entries.
-fn append(
-    queues: &mut QueueOfQueues<Heap<'_>>,
-    line: &[u8],
-    answer: &mut Vec<u8>,
-) -> Result<(), Bad> {
-    let (block_word, first_word, state, line) = first_three(line)?;
-    let state = match state {
-        b"open" => QueueState::Open,
-        b"ended" => QueueState::Ended,
-        b"cut" => QueueState::Cut,
-        _ => return Err(Bad::Words),
-    };
-    let head = Head {
-        block: block(block_word)?,
-        first: number(first_word)?,
-        state,
-    };
-    if next_word(line).is_none() {
-        return told(queues.append(head, &[]), answer);
-    }
-    told(queues.append(head, entries(line)?.as_slice()), answer)
-}
-
-// Adds the private queues with their entries.
-fn shows_queues(queues: &QueueOfQueues<Heap<'_>>, text: &mut Vec<u8>) -> Result<(), Bad> {
-    for i in 0..queues.list_len() {
-        write!(text, "{:?}", queues.head(i))?;
-        for j in 0..MAX_PENDING {
-            let Some(entry) = queues.entry(i, j) else {
-                break;
-            };
-            put_entry(&entry, text)?;
-        }
-    }
-    Ok(())
 }
 
 /// Adds all that can be read of a state.

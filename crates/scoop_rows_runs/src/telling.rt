@@ -1,35 +1,10 @@
 //! Words of answers.
 
-use scoop_demo::{RunError, print_message, print_note};
-use scoop_frame::Version;
-use scoop_message::Message;
+use scoop_demo::RunError;
 use scoop_row_player::Bad;
 use scoop_row_player::answers::tells;
 use scoop_row_player::words::{after_space, text_of};
-use scoop_world::WorldNote;
 use std::io::Write;
-
-/// Adds what an event did, in the words of `scoop world`.
-pub fn tells_note(
-    note: &WorldNote,
-    sent: Option<&Message>,
-    answer: &mut Vec<u8>,
-) -> Result<(), Bad> {
-    print_note(note, sent, answer)?;
-    answer.pop();
-    Ok(())
-}
-
-/// Adds a message in words, or `none`.
-pub fn tells_message(message: &Option<Message>, answer: &mut Vec<u8>) -> Result<(), Bad> {
-    match message {
-        Some(message) => {
-            print_message(Version::One, message, answer)?;
-            Ok(())
-        }
-        None => tells("none", answer),
-    }
-}
 
 /// Adds a line with the error of a run, if it has one.
 pub fn add_error(ended: Result<(), RunError>, text: &mut Vec<u8>) -> Result<(), Bad> {

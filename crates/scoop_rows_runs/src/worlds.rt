@@ -14,7 +14,7 @@ ghost use Rattle.scoop_message.specs.declared.limits.TheConstants.{MAX_ENTRIES};
 
 use crate::long::play_long;
 use crate::reading::{event_of, placement};
-use crate::telling::{behind, tells_note};
+use crate::telling::behind;
 use scoop_demo::{LineKind, line_kind, read_client};
 use scoop_keeper::MemoryKeeper;
 use scoop_lines::{is, two_words};
@@ -23,6 +23,7 @@ use scoop_object::Table;
 use scoop_row_player::answers::{add_line, keeps, tells};
 use scoop_row_player::words::{first, last, number, text_of};
 use scoop_row_player::{Bad, Heap, Subject};
+use scoop_rows_parts::printing::put_note;
 use scoop_world::{
     Command, Placement, World, WorldError, WorldNote, WorldOpenError, same_event, same_note,
 };
@@ -82,9 +83,9 @@ impl<'a> Worlds<'a> {
         let world = self.world.as_mut().ok_or(Bad::Command)?;
         match world.step(event) {
             Ok(WorldNote::Sent(place)) => {
-                tells_note(&WorldNote::Sent(place), world.sent(place), answer)
+                put_note(&WorldNote::Sent(place), world.sent(place), answer)
             }
-            Ok(note) => tells_note(&note, None, answer),
+            Ok(note) => put_note(&note, None, answer),
             Err(WorldError::OutOfMemory) => tells("out of memory", answer),
             Err(error) => tells(error, answer),
         }
@@ -106,10 +107,7 @@ impl<'a> Worlds<'a> {
         if is(name, "both") {
             return match world.run(&[one, other]) {
                 Ok(taken) => tells(taken, answer),
-                Err((taken, error)) => {
-                    write!(answer, "{taken} {error}")?;
-                    Ok(())
-                }
+                Err((taken, error)) => tells(format_args!("{taken} {error}"), answer),
             };
         }
         match (world.step(one), world.step(other)) {

@@ -1,13 +1,13 @@
 //! The areas of stores.
 
 use crate::audits::Audits;
-use crate::folder::{Folder, STORE};
+use crate::folder::{FileFolder, STORE};
 use crate::journals::Journals;
 use crate::keepers::Keepers;
 use crate::stops::Stops;
 use crate::stores::Stores;
 use scoop_files::StoreName;
-use scoop_row_player::{Areas, Bad, Play, Sheet};
+use scoop_row_player::{Areas, Bad, Play, Sheet, Subject};
 use sqlite::Connection;
 use std::cell::RefCell;
 
@@ -42,10 +42,28 @@ fn play_stores(play: Play<'_>, sheet: &mut Sheet) -> Result<bool, Bad> {
 fn play_journals(play: Play<'_>, sheet: &mut Sheet) -> Result<bool, Bad> {
     let text = RefCell::new(Vec::new(sheet.alloc()));
     let told = RefCell::new(Vec::new(sheet.alloc()));
-    play_rows(case, heap, &mut Journals::new(&text, &told), sheet)
+    play.over(&mut Journals::new(&text, &told), sheet)
 }
 
 fn play_folder(rt: &HostRuntime, play: Play<'_>, sheet: &mut Sheet) -> Result<bool, Bad> {
     let name = StoreName::new(sheet.alloc(), STORE)?;
-    play.over(&mut Folder::new(rt, &name), sheet)
+    play_named(rt, &name, play, sheet)
+}
+
+fn play_named<'a>(
+    rt: &'a HostRuntime,
+    name: &'a StoreName,
+    play: Play<'_>,
+    sheet: &mut Sheet,
+) -> Result<bool, Bad> {
+    played(play, FileFolder::new(rt, name), sheet)
+}
+
+// Plays the rows of a case with a subject of its own.
+fn played<S: Subject + Drop>(
+    play: Play<'_>,
+    mut subject: S,
+    sheet: &mut Sheet,
+) -> Result<bool, Bad> {
+    play.over(&mut subject, sheet)
 }

@@ -18,7 +18,6 @@ use scoop_row_player::words::{first, first_two, number, read_text};
 use scoop_row_player::{Bad, Subject};
 use scoop_system::System;
 use std::fs;
-use std::io::Write;
 
 const SYSTEM: &str = "audit-system.toml";
 
@@ -75,10 +74,9 @@ impl Subject for Audits<'_> {
                 }
                 self.journals.push(text)?;
             }
-            b"text" | b"change" => match self.journals.last_mut() {
-                Some(journal) => edits(journal, name, line)?,
-                None => return Err(Bad::Command),
-            },
+            b"text" | b"change" => {
+                edits(self.journals.last_mut().ok_or(Bad::Command)?, name, line)?;
+            }
             b"audit" | b"chart" => return self.audits(name, line, answer),
             _ => return Err(Bad::Command),
         }
@@ -114,15 +112,15 @@ fn tells_error(error: &AuditError, answer: &mut Vec<u8>) -> Result<(), Bad> {
     match error {
         AuditError::OutOfMemory => Err(Bad::Memory),
         AuditError::Fault(place, line, fault) => {
-            write!(answer, "journal {place}: line {line}: {fault}")?;
-            Ok(())
+            tells(
+                format_args!("journal {place}: line {line}: {fault}"),
+                answer,
+            )
         }
         AuditError::Unexplained(found, wrong) => {
             let mut text = String::new(*answer.allocator());
-            match unexplained_text(found, wrong, &mut text) {
-                Ok(()) => tells(text.as_str(), answer),
-                Err(_) => Err(Bad::Memory),
-            }
+            unexplained_text(found, wrong, &mut text).map_err(|_| Bad::Memory)?;
+            tells(text.as_str(), answer)
         }
     }
 }
@@ -132,14 +130,10 @@ fn draws(system: &System, run: &Explained, line: &[u8], answer: &mut Vec<u8>) ->
     let (from, to) = two_words(line).ok_or(Bad::Words)?;
     let (from, to) = (u64::from(number(from)?), u64::from(number(to)?));
     let mut picture = Vec::new(alloc);
-    match chart_of(alloc, system, run, from, to) {
-        Ok(chart) => {
-            chart.draw(&mut picture)?;
-            if !picture.starts_with(b"<svg ") {
-                return tells("no picture", answer);
-            }
-            tells(chart.rows(), answer)
-        }
-        Err(_) => Err(Bad::Memory),
+    let chart = chart_of(alloc, system, run, from, to).map_err(|_| Bad::Memory)?;
+    chart.draw(&mut picture)?;
+    if !picture.starts_with(b"<svg ") {
+        return tells("no picture", answer);
     }
+    tells(chart.rows(), answer)
 }

@@ -57,10 +57,7 @@ fn add_part(word: &[u8], out: &mut Vec<u8>) -> Result<(), Bad> {
         Some(digits) => (long(front)?, digits),
         None => (1, front),
     };
-    let Ok(count) = u8::try_from(count) else {
-        return Err(Bad::Number);
-    };
-    for place in 0..count {
+    for place in 0..u8::try_from(count).map_err(|_| Bad::Number)? {
         add_digits(digits, place + 1, out)?;
     }
     Ok(())
@@ -101,9 +98,6 @@ pub fn put_state<A: Allocator + Copy>(
 ) -> Result<(), Bad> {
     match (image(alloc, state), pending_row(alloc, state)) {
         (Ok(image), Ok(pending)) => put_blobs(&image, &pending, answer),
-        _ => {
-            answer.extend_from_slice(b"out of memory")?;
-            Ok(())
-        }
+        _ => answers::tells("out of memory", answer),
     }
 }

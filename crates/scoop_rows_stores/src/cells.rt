@@ -3,10 +3,10 @@
 use scoop_classes::DemoClass;
 use scoop_demo::{answer_run, open_book};
 use scoop_keeper::Keeper;
-use scoop_message::{HandlerId, Words};
-use scoop_object::{Class, Table};
+use scoop_message::HandlerId;
 use scoop_row_player::Bad;
 use scoop_row_player::answers::tells;
+use scoop_rows_parts::handlers::handed;
 use std::alloc::Global;
 
 const ONE: HandlerId = HandlerId(1);
@@ -18,10 +18,8 @@ pub fn answers<K: Keeper<Global>>(
     answer: &mut Vec<u8>,
 ) -> Result<(), Bad> {
     let alloc = *answer.allocator();
-    let (class, cell) = cell(alloc)?;
-    let Some(keeper) = kept.take() else {
-        return Err(Bad::Command);
-    };
+    let (_, class, cell) = handed(alloc, DemoClass::Cell, ONE)?;
+    let keeper = kept.take().ok_or(Bad::Command)?;
     match open_book(alloc, keeper, ONE, class, cell) {
         Ok(mut book) => {
             let ended = answer_run(&mut book, Some(ONE), line, answer);
@@ -33,17 +31,5 @@ pub fn answers<K: Keeper<Global>>(
             Ok(())
         }
         Err(error) => tells(error, answer),
-    }
-}
-
-// The class, and an object of it that holds 0.
-fn cell(alloc: Global) -> Result<(Class, Table), Bad> {
-    let Ok(words) = Words::of(&[0]) else {
-        return Err(Bad::Memory);
-    };
-    let class = DemoClass::Cell.class(alloc)?;
-    match Table::new(DemoClass::Cell.class(alloc)?, words) {
-        Ok(table) => Ok((class, table)),
-        Err(_) => Err(Bad::Memory),
     }
 }

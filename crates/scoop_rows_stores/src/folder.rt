@@ -12,9 +12,8 @@
 //! - `append SYNC FILE TEXT` opens the journal of node 1 in a file and appends a line. With `syncs` as SYNC it waits for the
 //!   disk. `hold FILE` opens the journal and keeps it open.
 
-use crate::disk::{add_text, files, path};
-use crate::keeping::{keeps, says};
-use crate::paper::{Owning, Paper};
+use crate::disk::files;
+use crate::keeping::keeper_does;
 use scoop_files::{
     FileError, FiledStore, NameWatch, Named, StoreName, adopt_for, close_named, create_after,
     update_marks,
@@ -25,12 +24,15 @@ use scoop_lines::{is, two_words};
 use scoop_message::{ClientId, HandlerId};
 use scoop_observed::{AnyKeeper, ObservedKeeper, Observers};
 use scoop_owner::Newest;
+use scoop_record::Store;
 use scoop_row_player::answers::{keeps, tells, told};
 use scoop_row_player::words::{
     after_space, block, first, first_two, last, long, number, read_text, text_of,
 };
 use scoop_row_player::{Bad, Subject};
+use scoop_rows_parts::stand_ins::Owning;
 use scoop_watch::Unwatched;
+use sqlite::{Alter, File, FileStore};
 use std::alloc::Global;
 use std::time::{Duration, Instant};
 use std::{fs, thread};
@@ -55,24 +57,25 @@ const FILES: [&str; 5] = [
 ];
 
 // A store in a file, or a keeper in memory that stands for one and passes on a number of calls.
-type AnyPlace = AnyKeeper<FiledStore, Owning<FailingKeeper<MemoryKeeper>>>;
+type AnyPlace<S> = AnyKeeper<Store<S>, Owning<FailingKeeper<MemoryKeeper>>>;
 
-type Kept<'a> = ObservedKeeper<'a, AnyPlace, Unwatched, Paper<'a>>;
+// It writes no journal.
+type Kept<'a, S> = ObservedKeeper<'a, AnyPlace<S>, Unwatched, Vec<u8>>;
 
-/// The folder, with what is open there.
+/// The folder, with what is open there. The files' type is named where a store is opened or closed: the prover compares it for long.
 #[derive(Drop)]
-pub struct Folder<'a> {
+pub struct Folder<'a, S: Alter + Drop> {
     rt: &'a HostRuntime,
     name: &'a StoreName,
-    keeper: Option<Kept<'a>>,
+    keeper: Option<Kept<'a, S>>,
     watch: Option<NameWatch<'a>>,
     held: Option<JournalFile>,
     start: Option<Instant>,
 }
 
-impl<'a> Folder<'a> {
+impl<'a, S: Alter + Drop> Folder<'a, S> {
     /// The folder without the files of other cases.
-    pub fn new(rt: &'a HostRuntime, name: &'a StoreName) -> Folder<'a> {
+    pub fn new(rt: &'a HostRuntime, name: &'a StoreName) -> Folder<'a, S> {
         for file in FILES {
             let _gone = fs::remove_file(rt, file);
         }
@@ -90,22 +93,9 @@ impl<'a> Folder<'a> {
         let calls = long(last(line)?)?;
         let keeper = FailingKeeper::new(MemoryKeeper::new(self.rt.alloc()), calls);
         let left = u64::MAX;
-        self.keeper = Some(kept(
-            self.rt,
-            self.name,
-            AnyKeeper::Shared(Owning { keeper, left }),
-        ));
-        says("ok", answer)
-    }
-
-    fn closes(&mut self, answer: &mut Vec<u8>) -> Result<(), Bad> {
-        let Some(kept) = self.keeper.take() else {
-            return Err(Bad::Command);
-        };
-        match kept.into_inner() {
-            AnyKeeper::File(store) => tells_closed(close_named(store, self.name), answer),
-            _ => says("ok", answer),
-        }
+        let keeper = AnyKeeper::Shared(Owning { keeper, left });
+        self.keeper = Some(kept(self.rt, self.name, keeper));
+        tells("ok", answer)
     }
 
     fn gives(&mut self, command: &[u8], answer: &mut Vec<u8>) -> Result<(), Bad> {
@@ -135,10 +125,8 @@ impl<'a> Folder<'a> {
             self.watch = Some(NameWatch::new(self.rt, self.name));
             return tells("ok", answer);
         }
-        match &mut self.watch {
-            Some(watch) => tells(watch.has_name(), answer),
-            None => Err(Bad::Command),
-        }
+        let watch = self.watch.as_mut().ok_or(Bad::Command)?;
+        tells(watch.has_name(), answer)
     }
 
     fn stays(&self, line: &[u8], answer: &mut Vec<u8>) -> Result<(), Bad> {
@@ -153,7 +141,20 @@ impl<'a> Folder<'a> {
     }
 }
 
-impl Subject for Folder<'_> {
+/// The folder of stores in files.
+pub type FileFolder<'a> = Folder<'a, FileStore<File>>;
+
+impl<'a> FileFolder<'a> {
+    fn closes(&mut self, answer: &mut Vec<u8>) -> Result<(), Bad> {
+        let kept = self.keeper.take().ok_or(Bad::Command)?;
+        match kept.into_inner() {
+            AnyKeeper::File(store) => tells_closed(close_named(store, self.name), answer),
+            AnyKeeper::Memory(_) | AnyKeeper::Shared(_) => tells("ok", answer),
+        }
+    }
+}
+
+impl Subject for FileFolder<'_> {
     fn does(&mut self, command: &[u8], answer: &mut Vec<u8>) -> Result<(), Bad> {
         let (name, line) = first(command)?;
         match name {
@@ -189,14 +190,16 @@ fn gives_kept<K: Keeper<Global>>(
     line: &[u8],
     answer: &mut Vec<u8>,
 ) -> Result<(), Bad> {
-    match kept {
-        Some(keeper) => keeper_does(*answer.allocator(), keeper, name, line, answer),
-        None => Err(Bad::Command),
-    }
+    let keeper = kept.as_mut().ok_or(Bad::Command)?;
+    keeper_does(*answer.allocator(), keeper, name, line, answer)
 }
 
 // A keeper that looks after this name.
-fn kept<'a>(rt: &'a HostRuntime, name: &'a StoreName, keeper: AnyPlace) -> Kept<'a> {
+fn kept<'a, S: Alter + Drop>(
+    rt: &'a HostRuntime,
+    name: &'a StoreName,
+    keeper: AnyPlace<S>,
+) -> Kept<'a, S> {
     let observers = Observers {
         name: Some(Named::new(rt, name)),
         counts: None,
@@ -219,13 +222,13 @@ fn keeps_opened<'a>(
     rt: &'a HostRuntime,
     name: &'a StoreName,
     opened: Result<FiledStore, FileError>,
-    keeper: &mut Option<Kept<'a>>,
+    keeper: &mut Option<Kept<'a, FileStore<File>>>,
     answer: &mut Vec<u8>,
 ) -> Result<(), Bad> {
     match opened {
         Ok(store) => {
             *keeper = Some(kept(rt, name, AnyKeeper::File(store)));
-            says("ok", answer)
+            tells("ok", answer)
         }
         Err(error) => tells(error, answer),
     }

@@ -4,7 +4,8 @@
 //! - `twice TEXT` appends a line twice, and answers both results. The writer refuses its first write alone.
 //! - `keep PLACE CALLS WRITES HANDLER IMAGE / ENTRIES` begins a life of node 1 with handler 1. Its keeper has the state of these
 //!   blobs, and the journal takes this number of writes. A keeper in a `file` passes on this number of calls. A `shared` record is
-//!   one that another program may take over: its keeper says this number of times that it owns the record.
+//!   one that another program may take over: its keeper says this number of times that it owns the record. One in `memory` takes
+//!   any number of calls.
 //! - `hear NOTE FRAME FRAME` tells the keeper what a handler heard, its reply, and the note, `Greeted` or `Known`.
 //! - `ran HANDLER` tells it that an entry has run.
 //! - The commands of any keeper.
@@ -12,8 +13,8 @@
 //! - `text` answers what was written, and empties it. `told` does so for what the keeper's watcher was told.
 
 use crate::bytes::read_blobs;
-use crate::keeping::{done, keeps, says};
-use crate::paper::{Owning, Paper, Teller};
+use crate::keeping::{done, keeper_does};
+use crate::paper::Teller;
 use scoop_handler::{Heard, Note};
 use scoop_journal::{Journal, Line, read, write};
 use scoop_keeper::{FailingKeeper, Keeper, MemoryKeeper};
@@ -24,6 +25,7 @@ use scoop_record::read_image;
 use scoop_row_player::answers::{tells, told};
 use scoop_row_player::words::{after_space, first, first_three, handler, long};
 use scoop_row_player::{Bad, Subject};
+use scoop_rows_parts::stand_ins::{Owning, Paper};
 use std::alloc::Global;
 use std::cell::RefCell;
 
@@ -50,22 +52,10 @@ impl<'a> Journals<'a> {
 
     fn begins(&mut self, line: &[u8], answer: &mut Vec<u8>) -> Result<(), Bad> {
         let alloc = *answer.allocator();
-        let (place, line) = first(line)?;
-        let (calls, line) = first(line)?;
-        let (writes, line) = first(line)?;
-        let left = decimal(calls).ok_or(Bad::Number)?;
-        let paper = Paper {
-            text: self.text,
-            left: long(writes)?,
-            recovers: false,
-        };
+        let (place, calls, writes, line) = first_three(line)?;
+        let (calls, paper) = (long(calls)?, Paper::of(self.text, long(writes)?));
         let handlers = Vec::from_slice(alloc, &[HandlerId(1)])?;
-        let keeper = filled(alloc, line)?;
-        let keeper = if is(place, "shared") {
-            AnyKeeper::Shared(Owning { keeper, left })
-        } else {
-            AnyKeeper::File(FailingKeeper::new(keeper, left))
-        };
+        let keeper = placed(filled(alloc, line)?, place, calls)?;
         let observers = Observers {
             name: None,
             counts: None,
@@ -73,7 +63,7 @@ impl<'a> Journals<'a> {
             watcher: Teller { told: self.told },
         };
         self.keeper = Some(ObservedKeeper::new(keeper, observers));
-        says("ok", answer)
+        tells("ok", answer)
     }
 
     fn ends(&mut self, answer: &mut Vec<u8>) -> Result<(), Bad> {
@@ -83,24 +73,24 @@ impl<'a> Journals<'a> {
         tells("ok", answer)
     }
 
-    fn tells(&mut self, name: &[u8], line: &[u8], answer: &mut Vec<u8>) -> Result<(), Bad> {
-        match &mut self.keeper {
-            Some(keeper) => tells(keeper, name, line, answer),
-            None => Err(Bad::Command),
-        }
+    fn notes(&mut self, name: &[u8], line: &[u8], answer: &mut Vec<u8>) -> Result<(), Bad> {
+        let keeper = self.keeper.as_mut().ok_or(Bad::Command)?;
+        notes(keeper, name, line, answer)
     }
-}
 
-// Adds what was written there without its last byte, and empties it.
-fn shows_text(written: &RefCell<Vec<u8>>, answer: &mut Vec<u8>) -> Result<(), Bad> {
-    match written.try_borrow_mut() {
-        Ok(mut text) => {
-            text.pop();
-            answer.extend_from_slice(text.as_slice())?;
-            text.clear();
-            Ok(())
-        }
-        Err(_) => Err(Bad::Memory),
+    fn appends_twice(&self, line: &[u8], answer: &mut Vec<u8>) -> Result<(), Bad> {
+        let Ok(line) = read(after_space(line)) else {
+            return Err(Bad::Words);
+        };
+        let paper = Paper {
+            text: self.text,
+            left: 0,
+            recovers: true,
+        };
+        let mut journal = Journal::new(*answer.allocator(), paper);
+        told(journal.append(&line), answer)?;
+        answer.extend_from_slice(b", ")?;
+        told(journal.append(&line), answer)
     }
 }
 
@@ -114,25 +104,44 @@ impl Subject for Journals<'_> {
             b"end" => self.ends(answer),
             b"drop" => {
                 self.keeper = None;
-                says("ok", answer)
+                tells("ok", answer)
             }
-            b"text" => shows_text(self.text, answer),
-            b"told" => shows_text(self.told, answer),
-            _ => self.tells(name, line, answer),
+            b"text" => empties(self.text, answer),
+            b"told" => empties(self.told, answer),
+            _ => self.notes(name, line, answer),
         }
     }
+}
+
+// Adds what was written there without its last byte, and empties it.
+fn empties(written: &RefCell<Vec<u8>>, answer: &mut Vec<u8>) -> Result<(), Bad> {
+    let Ok(mut text) = written.try_borrow_mut() else {
+        return Err(Bad::Memory);
+    };
+    text.pop();
+    answer.extend_from_slice(text.as_slice())?;
+    text.clear();
+    Ok(())
 }
 
 // A keeper that has the state of these blobs.
 fn filled(alloc: Global, line: &[u8]) -> Result<MemoryKeeper, Bad> {
     let blobs = read_blobs(alloc, line)?;
     let mut keeper = MemoryKeeper::new(alloc);
-    match read_image(alloc, blobs.handler, &blobs.image, &blobs.pending) {
-        Ok(state) => match keeper.put_handler(&state) {
-            Ok(()) => Ok(keeper),
-            Err(_) => Err(Bad::Memory),
-        },
-        Err(_) => Err(Bad::Words),
+    let Ok(state) = read_image(alloc, blobs.handler, &blobs.image, &blobs.pending) else {
+        return Err(Bad::Words);
+    };
+    keeper.put_handler(&state).map_err(|_| Bad::Memory)?;
+    Ok(keeper)
+}
+
+// The same keeper in this place, for a number of calls.
+fn placed(keeper: MemoryKeeper, place: &[u8], left: u64) -> Result<AnyPlace, Bad> {
+    match place {
+        b"shared" => Ok(AnyKeeper::Shared(Owning { keeper, left })),
+        b"file" => Ok(AnyKeeper::File(FailingKeeper::new(keeper, left))),
+        b"memory" => Ok(AnyKeeper::Memory(keeper)),
+        _ => Err(Bad::Words),
     }
 }
 

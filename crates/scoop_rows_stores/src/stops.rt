@@ -123,13 +123,8 @@ fn given(files: Both, options: Options, commands: &[u8], answers: &mut Vec<u8>) 
     if !files.may_be_used() {
         return None;
     }
-    match Connection::open_files(*answers.allocator(), files, options) {
-        Ok(connection) => match given_to(connection, commands, answers) {
-            Some(medium) => Some(medium.close()),
-            None => None,
-        },
-        Err(_) => None,
-    }
+    let connection = Connection::open_files(*answers.allocator(), files, options).ok()?;
+    Some(given_to(connection, commands, answers)?.close())
 }
 
 fn given_to<S: Alter + Drop>(

@@ -42,10 +42,7 @@ impl<S: Alter + Drop> Stores<S> {
     /// The medium of the database, unless a refusal dropped the connection.
     pub fn into_medium(mut self) -> Option<S> {
         self.leave();
-        match self.connection.take() {
-            Some(connection) => Some(connection.into_store()),
-            None => None,
-        }
+        Some(self.connection.take()?.into_store())
     }
 
     fn leave(&mut self) {
@@ -59,9 +56,7 @@ impl<S: Alter + Drop> Stores<S> {
 
     fn opens(&mut self, name: &[u8], answer: &mut Vec<u8>) -> Result<(), Bad> {
         let alloc = *answer.allocator();
-        let Some(connection) = self.connection.take() else {
-            return Err(Bad::Command);
-        };
+        let connection = self.connection.take().ok_or(Bad::Command)?;
         let opened = if is(name, "create") {
             Store::create(alloc, connection)
         } else {
@@ -77,13 +72,9 @@ impl<S: Alter + Drop> Stores<S> {
     }
 
     fn gathers(&mut self, answer: &mut Vec<u8>) -> Result<(), Bad> {
-        match self.store.take() {
-            Some(store) => {
-                self.gathering = Some(GatheringStore::new(*answer.allocator(), store));
-                tells("ok", answer)
-            }
-            None => Err(Bad::Command),
-        }
+        let store = self.store.take().ok_or(Bad::Command)?;
+        self.gathering = Some(GatheringStore::new(*answer.allocator(), store));
+        tells("ok", answer)
     }
 
     // Gives a command to what is there.
@@ -95,10 +86,8 @@ impl<S: Alter + Drop> Stores<S> {
         if let Some(store) = &mut self.store {
             return keeper_does(alloc, store, name, line, answer);
         }
-        match &mut self.connection {
-            Some(connection) => queries(connection, name, line, answer),
-            None => Err(Bad::Command),
-        }
+        let connection = self.connection.as_mut().ok_or(Bad::Command)?;
+        queries(connection, name, line, answer)
     }
 }
 
@@ -149,10 +138,7 @@ fn put_rows(rows: &[Row], answer: &mut Vec<u8>) -> Result<(), Bad> {
             if column > 0 {
                 answer.push(b'|')?;
             }
-            match row.get_ref(column) {
-                Ok(value) => put_value(value, answer)?,
-                Err(_) => return Err(Bad::Words),
-            }
+            put_value(row.get_ref(column).map_err(|_| Bad::Words)?, answer)?;
         }
     }
     Ok(())
@@ -162,10 +148,7 @@ fn put_value(value: ValueRef<'_>, answer: &mut Vec<u8>) -> Result<(), Bad> {
     match value {
         ValueRef::Int(number) => tells(number, answer),
         ValueRef::Blob(bytes) => put_bytes(bytes, answer),
-        ValueRef::Text(text) => {
-            answer.extend_from_slice(text)?;
-            Ok(())
-        }
+        ValueRef::Text(text) => Ok(answer.extend_from_slice(text)?),
         _ => Err(Bad::Words),
     }
 }

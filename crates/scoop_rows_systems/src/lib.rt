@@ -36,24 +36,16 @@ impl<'a, R: Wait + Clock> SystemAreas<'a, R> {
             shows_states: true,
         };
         let watch = Watch::new(alloc, settings)?;
-        match Watches::new(alloc, self.rt, &watch) {
-            Ok(mut watches) => play.over(&mut watches, sheet),
-            Err(bad) => Err(bad),
-        }
+        play.over(&mut Watches::new(alloc, self.rt, &watch)?, sheet)
     }
 }
 
 impl<R: Wait + Clock> Areas for SystemAreas<'_, R> {
     fn play(&self, play: Play<'_>, sheet: &mut Sheet) -> Result<bool, Bad> {
         match play.area {
-            "systems" => play_systems(play, sheet),
+            "systems" => play.over(&mut Systems::new(sheet.alloc()), sheet),
             "watches" => self.play_watches(play, sheet),
             _ => Ok(false),
         }
     }
-}
-
-fn play_systems(play: Play<'_>, sheet: &mut Sheet) -> Result<bool, Bad> {
-    let mut systems = Systems::new(sheet.alloc());
-    play.over(&mut systems, sheet)
 }

@@ -13,7 +13,6 @@
 
 use crate::programs::Asker;
 use crate::text_lines::TextLines;
-use scoop_demo::read_message;
 use scoop_driver::NoPause;
 use scoop_frame::encode;
 use scoop_journal::Journal;
@@ -24,7 +23,8 @@ use scoop_message::ClientId;
 use scoop_message::limits::BUFFER_LEN;
 use scoop_row_player::Bad;
 use scoop_row_player::answers::{has, tells, without_last};
-use scoop_row_player::words::{after_space, first_three, last, long, number, read_text};
+use scoop_row_player::words::{first_three, last, long, number, read_text};
+use scoop_rows_parts::printing::message;
 use scoop_runtime::{
     Caller, ClientMode, ClientPlan, ClientProgram, ClientRecord, Console, ProgramRun, Progress,
     RuntimeError, client_cut, client_run, program_run,
@@ -188,11 +188,10 @@ impl Sessions {
             journal: Some(Journal::new(alloc, &mut self.written)),
         };
         let run = ProgramRun {
-            program: &mut asker,
             pause: NoPause,
             notes: &mut self.notes,
         };
-        let end = program_run(alloc, plan, &mut record, &mut link, run);
+        let end = program_run(alloc, plan, &mut record, &mut link, &mut asker, run);
         let ClientRecord { store, .. } = record;
         self.keeper = store;
         asker.tells_balance(answer)?;
@@ -273,9 +272,7 @@ fn tape_of(alloc: Global, heard: &[Datagram]) -> Result<TapeLink, Bad> {
 
 // The frame of a message.
 fn datagram_of(alloc: Global, line: &[u8]) -> Result<Datagram, Bad> {
-    let Ok((version, message)) = read_message(alloc, after_space(line)) else {
-        return Err(Bad::Words);
-    };
+    let (version, message) = message(alloc, line)?;
     let mut buffer = [0; BUFFER_LEN];
     let len = encode(version, &message, &mut buffer);
     Ok(Datagram::of(&buffer[..len]))

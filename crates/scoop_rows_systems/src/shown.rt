@@ -45,12 +45,7 @@ impl<'a, R: Wait + Clock> Watches<'a, R> {
         match name {
             b"log" => self.logs(line, &mut written)?,
             b"flood" => self.floods(line, &mut written)?,
-            _ => {
-                return match self.view(*answer.allocator()) {
-                    Ok(view) => show_view(&view, name, line, answer),
-                    Err(bad) => Err(bad),
-                };
-            }
+            _ => return show_view(&self.view(*answer.allocator())?, name, line, answer),
         }
         without_times(&written, answer)
     }
@@ -106,13 +101,9 @@ impl<'a, R: Wait + Clock> Watches<'a, R> {
             is_sealed: true,
             started,
         };
-        match gather(self.rt, alloc, self.watch, &about) {
-            Ok(mut view) => {
-                view.uptime_seconds = UPTIME;
-                Ok(view)
-            }
-            Err(_) => Err(Bad::Memory),
-        }
+        let mut view = gather(self.rt, alloc, self.watch, &about).map_err(|_| Bad::Memory)?;
+        view.uptime_seconds = UPTIME;
+        Ok(view)
     }
 }
 

@@ -44,11 +44,8 @@ impl Systems {
 
     fn reads(&mut self, answer: &mut Vec<u8>) -> Result<(), Bad> {
         let text = text_of(self.text.as_slice())?;
-        keeps(
-            &mut self.system,
-            System::read(*answer.allocator(), text),
-            answer,
-        )
+        let system = System::read(*answer.allocator(), text);
+        keeps(&mut self.system, system, answer)
     }
 }
 
@@ -83,9 +80,7 @@ fn serves(line: &[u8], answer: &mut Vec<u8>) -> Result<(), Bad> {
     let [executors, history, turns] = numbers.as_slice() else {
         return Err(Bad::Words);
     };
-    let Ok(executors) = u32::try_from(*executors) else {
-        return Err(Bad::Number);
-    };
+    let executors = u32::try_from(*executors).map_err(|_| Bad::Number)?;
     told(Serving::new(executors, *history as usize, *turns), answer)
 }
 

@@ -11,8 +11,6 @@
 //!
 //! [`crate::shown`] has the commands that show it.
 
-use crate::text::{numbers, read_text, tells, told};
-use scoop_demo::read_message;
 use scoop_frame::{Version, encode};
 use scoop_handler::{Handler, Heard, Note};
 use scoop_keeper::KeeperError;
@@ -23,8 +21,10 @@ use scoop_message::{ClientId, HandlerId, Message};
 use scoop_node_link::NodeLink;
 use scoop_object::{Class, Table};
 use scoop_pacing::SystemTimes;
-use scoop_row_player::words::{first, last, number};
+use scoop_row_player::answers::{tells, told};
+use scoop_row_player::words::{first, handler, number, numbers, read_text};
 use scoop_row_player::{Bad, Subject};
+use scoop_rows_parts::printing::message;
 use scoop_seal::{Key, SealedLink};
 use scoop_system::System;
 use scoop_watch::{Watch, Watched, WatchedOutput, Watcher};
@@ -63,13 +63,8 @@ pub struct Watches<'a, R> {
 fn handler_of(alloc: Global, system: &System) -> Result<Handler<Table>, Bad> {
     let place = system.handlers().first().ok_or(Bad::Words)?;
     let class: Class = system.class_of(alloc, place.class)?.ok_or(Bad::Words)?;
-    let Ok(object) = Table::new(class.copy()?, place.words) else {
-        return Err(Bad::Words);
-    };
-    match Handler::new(alloc, place.handler, class, object) {
-        Ok(handler) => Ok(handler),
-        Err(_) => Err(Bad::Words),
-    }
+    let object = Table::new(class.copy()?, place.words).map_err(|_| Bad::Words)?;
+    Handler::new(alloc, place.handler, class, object).map_err(|_| Bad::Words)
 }
 
 // Nothing here takes memory over the player's heap, so that no command is refused.
@@ -85,7 +80,7 @@ impl<R: Wait + Clock> Subject for Watches<'_, R> {
                 self.watched.load(self.handler.state());
                 tells("ok", answer)
             }
-            b"shown" => self.compares(HandlerId(number(last(line)?)?), answer),
+            b"shown" => self.compares(handler(line)?, answer),
             b"stranger" => self.meets(line, answer),
             b"link" => self.passes(line, answer),
             b"says" => self.outputs(line, answer),
@@ -118,9 +113,7 @@ impl<'a, R: Wait + Clock> Watches<'a, R> {
 
     // Gives the handler a message, and adds the note. Or notes it as a greeting of another handler.
     fn hears(&mut self, name: &[u8], line: &[u8], answer: &mut Vec<u8>) -> Result<(), Bad> {
-        let Ok((_, message)) = read_message(*answer.allocator(), after_space(line)) else {
-            return Err(Bad::Words);
-        };
+        let (_, message) = message(*answer.allocator(), line)?;
         if is(name, "greeted") {
             let note = Note::Greeted;
             self.notes(&message, &Heard { reply: None, note });
@@ -163,8 +156,7 @@ impl<'a, R: Wait + Clock> Watches<'a, R> {
     // Brings a greeting of a client over a link that hears another one alone.
     fn meets(&self, line: &[u8], answer: &mut Vec<u8>) -> Result<(), Bad> {
         let (client, line) = first(line)?;
-        let handler = HandlerId(number(last(line)?)?);
-        let hello = Message::Hello(handler, ClientId(number(client)?), 1);
+        let hello = Message::Hello(handler(line)?, ClientId(number(client)?), 1);
         let mut frame = [0; BUFFER_LEN];
         let len = encode(Version::Two, &hello, &mut frame);
         let mut tape = TapeLink::new(*answer.allocator(), 0)?;
@@ -223,8 +215,7 @@ impl<'a, R: Wait + Clock> Watches<'a, R> {
         output.flush()?;
         output.flush()?;
         let after = self.watch.tally(self.rt).is_open;
-        write!(answer, "{before} {after} ")?;
-        Ok(())
+        tells(format_args!("{before} {after} "), answer)
     }
 }
 
@@ -241,6 +232,8 @@ fn exchanges<L: Link>(link: &mut L, sends: u64, answer: &mut Vec<u8>) -> Result<
     for _ in 0..sends {
         let _counted = link.send(CLIENT, b"reply");
     }
-    write!(answer, "{came} came, {} failed", link.faults())?;
-    Ok(())
+    tells(
+        format_args!("{came} came, {} failed", link.faults()),
+        answer,
+    )
 }

@@ -36,10 +36,9 @@ impl ProgramEnd {
     }
 }
 
-/// A program that runs as a client, with its pauses between the tries of a waiting block, and its notes.
+/// What the client of a program has beside it: the pauses between the tries of a waiting block, and its notes.
 #[derive(Drop)]
-pub struct ProgramRun<'g, G: ClientProgram, P: Pause + Drop, N: Write + Drop> {
-    pub program: &'g mut G,
+pub struct ProgramRun<P: Pause + Drop, N: Write + Drop> {
     pub pause: P,
     pub notes: N,
 }
@@ -51,7 +50,8 @@ pub fn program_run<K, L, J, G, P, N>(
     plan: &ClientPlan<'_>,
     records: &mut ClientRecord<K, J>,
     link: &mut L,
-    run: ProgramRun<'_, G, P, N>,
+    program: &mut G,
+    run: ProgramRun<P, N>,
 ) -> ProgramEnd
 where
     K: Keeper<Global>,
@@ -61,11 +61,7 @@ where
     P: Pause + Drop,
     N: Write + Drop,
 {
-    let ProgramRun {
-        program,
-        pause,
-        notes,
-    } = run;
+    let ProgramRun { pause, notes } = run;
     match Caller::begin(alloc, plan, records, LentLink::new(link), pause, notes) {
         Ok(caller) => run_calls(program, caller),
         Err(error) => ProgramEnd::unbegun(error),

@@ -47,15 +47,20 @@ pub(crate) fn copy_store(
 
 // A copy that is to be made: the store that it is of, the new one, the party if it is known, and the text beside the first store.
 #[derive(Clone, Copy)]
-struct Copying<'a> {
+struct Copying<'a, 't> {
     from: &'a str,
     to: &'a str,
     party: Option<Owner>,
-    text: Option<&'a str>,
+    text: Option<&'t str>,
 }
 
 // Copies the store in this file.
-fn copy_filed(rt: &HostRuntime, from: &str, to: &str, party: Option<Owner>) -> Result<(), Status> {
+fn copy_filed<'a>(
+    rt: &HostRuntime,
+    from: &'a str,
+    to: &'a str,
+    party: Option<Owner>,
+) -> Result<(), Status> {
     let text = found_text(rt, from, Owner::Node(0))?;
     let text = text.as_deref();
     let party = match party {
@@ -77,7 +82,7 @@ fn copy_filed(rt: &HostRuntime, from: &str, to: &str, party: Option<Owner>) -> R
 // Copies what this keeper has.
 fn copy_kept<K: Keeper<Global>>(
     rt: &HostRuntime,
-    copying: &Copying<'_>,
+    copying: &Copying<'_, '_>,
     mut keeper: K,
     contents: &Contents,
 ) -> Result<(), Status> {
@@ -86,11 +91,11 @@ fn copy_kept<K: Keeper<Global>>(
 }
 
 // Copies the store of a party at this place in an etcd, which is taken over.
-fn copy_shared(
+fn copy_shared<'a>(
     rt: &HostRuntime,
-    from: &str,
+    from: &'a str,
     place: &EtcdPlace<'_>,
-    to: &str,
+    to: &'a str,
     party: Option<Owner>,
 ) -> Result<(), Status> {
     let party = match party {
@@ -114,7 +119,7 @@ fn copy_shared(
 // Copies what the store has, which is this program's now.
 fn copy_owned(
     rt: &HostRuntime,
-    copying: &Copying<'_>,
+    copying: &Copying<'_, '_>,
     store: SharedStore<'_>,
     contents: &Contents,
 ) -> Result<(), Status> {
@@ -136,7 +141,11 @@ enum Side {
 }
 
 // The end of the command after its copy.
-fn ended(rt: &HostRuntime, copying: &Copying<'_>, made: Result<(), Side>) -> Result<(), Status> {
+fn ended(
+    rt: &HostRuntime,
+    copying: &Copying<'_, '_>,
+    made: Result<(), Side>,
+) -> Result<(), Status> {
     match made {
         Ok(()) => Ok(()),
         Err(Side::From(end)) => Err(report_side(rt, copying.from, end)),
@@ -270,7 +279,7 @@ fn report_no_party(rt: &HostRuntime, text: &str) -> Status {
 // Makes the new store of this text with all that the keeper has.
 fn make_copy<K: Keeper<Global>>(
     rt: &HostRuntime,
-    copying: &Copying<'_>,
+    copying: &Copying<'_, '_>,
     keeper: &mut K,
     contents: &Contents,
 ) -> Result<(), Side> {

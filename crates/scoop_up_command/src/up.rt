@@ -1,7 +1,9 @@
 //! `scoop up`: all nodes of a system in one process, and a client.
 
 use crate::hosted::{Hosted, lost, run_beside};
-use scoop_client_command::{Asking, ClientConfig, Input, client_link, input_mode, run_over};
+use scoop_client_command::{
+    AskingLink, ClientConfig, Input, Papers, client_link, input_mode, run_over,
+};
 use scoop_command_line::{JournalChoice, StoreChoice, UpOptions};
 use scoop_etcd_place::begins_as_etcd;
 use scoop_etcd_stores::Fate;
@@ -12,12 +14,12 @@ use scoop_message::{ClientId, OutOfMemory};
 use scoop_node_command::{Host, NodeConfig, Task};
 use scoop_opening::{
     End, NodeKeeper, OpenStore, check_owner, choice_of, close_store, make_folder, node_keeper,
-    open_client, read_system, report_end, report_fault, report_plainly, report_range,
-    store_in_node, store_path,
+    open_client, read_system, report_fault, report_plainly, report_range, store_in_node,
+    store_path,
 };
 use scoop_record::Store;
 use scoop_report::{Hints, Status, hint, report};
-use scoop_runtime::{ClientPlan, FileFault, OutOfRange, RuntimeError, Serving, Tables};
+use scoop_runtime::{ClientPlan, Ending, FileFault, OutOfRange, RuntimeError, Serving, Tables};
 use scoop_system::{ClientPlace, System};
 use sqlite::{Alter, File, FileStore};
 use std::net::Net;
@@ -49,10 +51,7 @@ pub fn run_up<T: Threads + Wait + Clock + Net + Sync>(
     let Some(place) = client_place(&system, options.client) else {
         return Err(report_no_client(rt, options));
     };
-    match plan_of(rt, &system, place, options.is_strict) {
-        Ok(plan) => run_in(rt, threads, options, serving, &plan),
-        Err(range) => Err(report_range(rt, range)),
-    }
+    run_in(rt, threads, options, serving, &system, place)
 }
 
 // Refuses a place in an etcd: the stores are files of a folder.
@@ -102,36 +101,44 @@ fn run_in<T: Threads + Wait + Clock + Net + Sync>(
     threads: &T,
     options: &UpOptions<'_>,
     serving: Serving,
-    plan: &ClientPlan<'_>,
+    system: &System,
+    place: &ClientPlace,
 ) -> Result<(), Status> {
     match options.dir {
         Some(dir) => make_folder(rt, dir)?,
         None => report(rt, "no --dir: nothing is stored"),
     }
-    let paths = paths_of(rt, plan, options.dir)?;
+    let paths = paths_of(rt, system, place.client, options.dir)?;
     let stores = choices_of(rt, &paths)?;
     let names = names_of(rt, &paths)?;
-    let nodes = nodes_of(rt, plan, serving, &stores)?;
-    let client = client_of(rt, plan, &stores)?;
-    let parties = Parties {
-        nodes: &nodes,
-        client: &client,
-        names: &names,
+    let nodes = match nodes_of(rt, system, serving, &stores) {
+        Ok(nodes) => nodes,
+        Err(status) => return Err(status),
     };
-    run_parties(rt, threads, &parties)
+    match client_of(rt, system, place, options.is_strict, &stores) {
+        Ok(client) => {
+            let parties = Parties {
+                nodes: &nodes,
+                client: &client,
+                names: &names,
+            };
+            run_parties(rt, threads, &parties)
+        }
+        Err(status) => Err(status),
+    }
 }
 
 // ---- what is known before anything is opened
 
 // The nodes and the client, and the names of their stores in files, in this order. Without a folder there are no names.
 #[derive(Clone, Copy)]
-struct Parties<'a> {
-    nodes: &'a [NodeConfig<'a>],
-    client: &'a ClientConfig<'a>,
+struct Parties<'a, 's, 'o> {
+    nodes: &'a [NodeConfig<'s, 'o>],
+    client: &'a ClientConfig<'s, 'o>,
     names: &'a [StoreName],
 }
 
-impl<'a> Parties<'a> {
+impl<'a, 's, 'o> Parties<'a, 's, 'o> {
     // The names of the nodes' stores.
     fn node_names(&self) -> &'a [StoreName] {
         match self.names {
@@ -161,18 +168,18 @@ fn put<T: Drop>(rt: &HostRuntime, list: &mut Vec<T>, it: T) -> Result<(), Status
 // The files of the parties' stores in the folder, the client's last. None without a folder.
 fn paths_of(
     rt: &HostRuntime,
-    plan: &ClientPlan<'_>,
+    system: &System,
+    client: ClientId,
     dir: Option<&str>,
 ) -> Result<Vec<String>, Status> {
     let mut paths = Vec::new(rt.alloc());
     let Some(dir) = dir else {
         return Ok(paths);
     };
-    for place in plan.system().nodes() {
+    for place in system.nodes() {
         put(rt, &mut paths, store_path(rt, dir, "node", place.number)?)?;
     }
-    let client = plan.place().client.0;
-    put(rt, &mut paths, store_path(rt, dir, "client", client)?)?;
+    put(rt, &mut paths, store_path(rt, dir, "client", client.0)?)?;
     Ok(paths)
 }
 
@@ -197,60 +204,66 @@ fn names_of(rt: &HostRuntime, paths: &[String]) -> Result<Vec<StoreName>, Status
 }
 
 // The nodes of the system over these stores. Refuses a store of another owner.
-fn nodes_of<'a>(
+fn nodes_of<'s, 'o>(
     rt: &HostRuntime,
-    plan: &ClientPlan<'a>,
+    system: &'s System,
     serving: Serving,
-    stores: &[StoreChoice<'a>],
-) -> Result<Vec<NodeConfig<'a>>, Status> {
-    let system = plan.system();
+    stores: &[StoreChoice<'o>],
+) -> Result<Vec<NodeConfig<'s, 'o>>, Status> {
     let mut nodes = Vec::new(rt.alloc());
     for (at, place) in system.nodes().iter().enumerate() {
         let store = stores.get(at).copied().unwrap_or(StoreChoice::None);
         check_owner(rt, store, system, Owner::Node(place.number))?;
-        let config = NodeConfig::plain(rt, system, *place, serving, store)?;
-        put(rt, &mut nodes, config)?;
+        match NodeConfig::plain(rt, system, *place, serving, store) {
+            Ok(config) => put(rt, &mut nodes, config)?,
+            Err(status) => return Err(status),
+        }
     }
     Ok(nodes)
 }
 
 // The client over the last of these stores.
-fn client_of<'a>(
+fn client_of<'s, 'o>(
     rt: &HostRuntime,
-    plan: &ClientPlan<'a>,
-    stores: &[StoreChoice<'a>],
-) -> Result<ClientConfig<'a>, Status> {
+    system: &'s System,
+    place: &ClientPlace,
+    is_strict: bool,
+    stores: &[StoreChoice<'o>],
+) -> Result<ClientConfig<'s, 'o>, Status> {
     let store = stores.last().copied().unwrap_or(StoreChoice::None);
-    check_owner(rt, store, plan.system(), Owner::Client(plan.place().client))?;
-    Ok(ClientConfig {
-        plan: *plan,
-        store,
-        after: None,
-        journal: JournalChoice {
-            path: None,
-            syncs: false,
-        },
-        key: None,
-    })
+    check_owner(rt, store, system, Owner::Client(place.client))?;
+    match plan_of(rt, system, place, is_strict) {
+        Ok(plan) => Ok(ClientConfig {
+            plan,
+            store,
+            after: None,
+            journal: JournalChoice {
+                path: None,
+                syncs: false,
+            },
+            key: None,
+        }),
+        Err(range) => Err(report_range(rt, range)),
+    }
 }
 
 // ---- opening
 
 // A node at its place, with its port.
-type Opened<'a> = (Host<'a, Tables>, UdpLink);
+type Opened<'s, 'o, 'p> = (Host<'s, 'o, 'p, Tables>, UdpLink);
 
 // Opens the ports of the nodes.
-fn open_hosts<'a, T: Net>(
+fn open_hosts<'p, 's, 'o, T: Net>(
     rt: &HostRuntime,
     net: &T,
-    parties: &Parties<'a>,
-    hosts: &mut Vec<Opened<'a>>,
+    parties: &Parties<'p, 's, 'o>,
+    hosts: &mut Vec<Opened<'s, 'o, 'p>>,
 ) -> Result<(), Status> {
     for (at, config) in parties.nodes.iter().enumerate() {
         let name = parties.node_names().get(at);
         match Host::open(rt, net, config, Tables, None, name) {
             Ok(opened) => put(rt, hosts, opened)?,
-            Err(end) => return Err(report_end(rt, &config.party(), end)),
+            Err(end) => return Err(config.report(rt, end)),
         }
     }
     Ok(())
@@ -259,19 +272,19 @@ fn open_hosts<'a, T: Net>(
 // Opens the stores of the nodes, and then the client's.
 fn open_stores<'r>(
     rt: &'r HostRuntime,
-    parties: &Parties<'_>,
+    parties: &Parties<'_, '_, '_>,
     stores: &mut Vec<OpenStore<'r, FileStore<File>>>,
 ) -> Result<(), Status> {
     for config in parties.nodes {
         match config.open(rt) {
             Ok(store) => put(rt, stores, store)?,
-            Err(end) => return Err(report_end(rt, &config.party(), end)),
+            Err(end) => return Err(config.report(rt, end)),
         }
     }
     let client = parties.client;
     match open_client(rt, client.store, None, client.plan.place().client) {
         Ok(store) => put(rt, stores, store),
-        Err(end) => Err(report_end(rt, &client.party(), end)),
+        Err(end) => Err(client.report(rt, end)),
     }
 }
 
@@ -289,26 +302,20 @@ struct Left<S: Alter + Drop> {
 fn run_parties<T: Threads + Wait + Clock + Net + Sync>(
     rt: &HostRuntime,
     threads: &T,
-    parties: &Parties<'_>,
+    parties: &Parties<'_, '_, '_>,
 ) -> Result<(), Status> {
     let mut hosts = Vec::new(rt.alloc());
     open_hosts(rt, threads, parties, &mut hosts)?;
     let link = match client_link(rt, threads, parties.client) {
         Ok(link) => link,
-        Err(end) => return Err(report_end(rt, &parties.client.party(), end)),
-    };
-    let asking = Asking {
-        config: parties.client,
-        name: parties.client_name(),
-        journal: None,
-        link,
+        Err(end) => return Err(parties.client.report(rt, end)),
     };
     let mut stores = Vec::new(rt.alloc());
     open_stores(rt, parties, &mut stores)?;
     closed(
         rt,
         parties,
-        run_over_stores(rt, threads, parties, hosts, asking, stores),
+        run_over_stores(rt, threads, parties, hosts, link, stores),
     )
 }
 
@@ -316,9 +323,9 @@ fn run_parties<T: Threads + Wait + Clock + Net + Sync>(
 fn run_over_stores<S, T>(
     rt: &HostRuntime,
     threads: &T,
-    parties: &Parties<'_>,
-    hosts: Vec<Opened<'_>>,
-    asking: Asking<'_, '_>,
+    parties: &Parties<'_, '_, '_>,
+    hosts: Vec<Opened<'_, '_, '_>>,
+    link: AskingLink<'_>,
     mut stores: Vec<OpenStore<'_, S>>,
 ) -> Left<S>
 where
@@ -338,25 +345,25 @@ where
     let client = Beside {
         rt,
         net: threads,
-        asking,
+        parties: *parties,
+        link,
         store,
-        names: parties.node_names(),
     };
-    let (ran, store) = run_beside(rt, threads, nodes.as_mut_slice(), client);
+    let (nodes, (ran, store)) = run_beside(rt, threads, nodes, &Ending::new(), client);
     let ran = match ran {
         Ok(()) => Ok(()),
-        Err(end) => Err(report_end(rt, &parties.client.party(), end)),
+        Err(end) => Err(parties.client.report(rt, end)),
     };
-    left(rt, ran, nodes, store)
+    gather(rt, ran, nodes, store)
 }
 
 // Puts each node over its store.
-fn host_all<'a, 'f, 'r, S: Alter + Drop + Send>(
+fn host_all<'s, 'o, 'p, 'f, 'r, S: Alter + Drop + Send>(
     rt: &HostRuntime,
-    hosts: Vec<Opened<'a>>,
+    hosts: Vec<Opened<'s, 'o, 'p>>,
     stores: Vec<OpenStore<'r, S>>,
     fate: &'f Fate,
-    nodes: &mut Vec<Hosted<'a, NodeKeeper<'f, 'r, S>>>,
+    nodes: &mut Vec<Hosted<'s, 'o, 'p, NodeKeeper<'f, 'r, S>>>,
 ) -> Result<(), Status> {
     for ((host, link), store) in hosts.into_iter().zip(stores) {
         let mut keeper = node_keeper(rt.alloc(), store, fate);
@@ -366,35 +373,47 @@ fn host_all<'a, 'f, 'r, S: Alter + Drop + Send>(
     Ok(())
 }
 
-// The client, before it runs over its store with the lines of standard input. It ends when a store of these names is lost.
+// The client, before it runs over its store with the lines of standard input. It ends when a store of a node is lost.
 #[derive(Drop)]
-struct Beside<'a, 'r, 'n, S: Alter + Drop, T: Net> {
+struct Beside<'a, 's, 'o, 'r, S: Alter + Drop, T: Net> {
     rt: &'r HostRuntime,
     net: &'a T,
-    asking: Asking<'a, 'r>,
+    parties: Parties<'a, 's, 'o>,
+    link: AskingLink<'r>,
     store: OpenStore<'r, S>,
-    names: &'n [StoreName],
 }
 
-impl<'a, 'r, 'n, S: Alter + Drop, T: Net> Task<(Result<(), End>, Option<Store<S>>)>
-    for Beside<'a, 'r, 'n, S, T> {
+impl<'a, 's, 'o, 'r, S: Alter + Drop, T: Net> Task<(Result<(), End>, Option<Store<S>>)>
+    for Beside<'a, 's, 'o, 'r, S, T> {
     fn run(self) -> (Result<(), End>, Option<Store<S>>) {
         let Beside {
             rt,
             net,
-            asking,
+            parties,
+            link,
             store,
-            names,
         } = self;
-        run_over(rt, asking, store, &mut Input { net, names })
+        let papers = Papers {
+            name: parties.client_name(),
+            journal: None,
+        };
+        let names = parties.node_names();
+        run_over(
+            rt,
+            parties.client,
+            papers,
+            link,
+            store,
+            &mut Input { net, names },
+        )
     }
 }
 
 // What is left when all have ended. Reports each node that ended early.
-fn left<S: Alter + Drop + Send>(
+fn gather<S: Alter + Drop + Send>(
     rt: &HostRuntime,
     ran: Result<(), Status>,
-    nodes: Vec<Hosted<'_, NodeKeeper<'_, '_, S>>>,
+    nodes: Vec<Hosted<'_, '_, '_, NodeKeeper<'_, '_, S>>>,
     client: Option<Store<S>>,
 ) -> Left<S> {
     let mut left = Left {
@@ -420,7 +439,7 @@ fn left<S: Alter + Drop + Send>(
 // Closes the stores that are left, and returns how the parties ended: by a store that was lost, the client, or the first node.
 fn closed(
     rt: &HostRuntime,
-    parties: &Parties<'_>,
+    parties: &Parties<'_, '_, '_>,
     left: Left<FileStore<File>>,
 ) -> Result<(), Status> {
     let Left {

@@ -14,7 +14,7 @@ pub struct Watch {
     joint: usize,
     sent: usize,
     sites: [Site; 3],
-    accepted: [(ClientId, usize); 4],
+    accepted: [usize; 4],
 }
 
 /// A handler, and how much of its histories was looked at.
@@ -37,21 +37,13 @@ fn holds(is: bool, fault: Fault) -> Result<(), Fault> {
 }
 
 fn place_of(blocks: &[Block], block: Block) -> Option<usize> {
-    for (i, other) in blocks.iter().enumerate() {
-        if *other == block {
-            return Some(i);
-        }
-    }
-    None
+    blocks.iter().position(|other| *other == block)
 }
 
 // The entry of this number that the block's client has logged.
 fn logged_entry(world: &Run<'_>, block: Block, handler: HandlerId, number: u32) -> Option<Entry> {
     let place = number.checked_sub(1)?;
-    match world.logged(block, handler)?.get(place as usize) {
-        Some(entry) => Some(*entry),
-        None => None,
-    }
+    world.logged(block, handler)?.get(place as usize).copied()
 }
 
 fn ran_at<'w>(world: &'w Run<'_>, handler: HandlerId) -> Result<&'w [Ran], Fault> {
@@ -218,12 +210,7 @@ impl Watch {
             joint: 0,
             sent: 0,
             sites: [Site::new(CELL), Site::new(COUNTER), Site::new(ACCOUNT)],
-            accepted: [
-                (CLIENTS[0], 0),
-                (CLIENTS[1], 0),
-                (CLIENTS[2], 0),
-                (CLIENTS[3], 0),
-            ],
+            accepted: [0; 4],
         }
     }
 
@@ -250,8 +237,8 @@ impl Watch {
         for site in &mut self.sites {
             site.see(world, sent)?;
         }
-        for party in &mut self.accepted {
-            party.1 = see_accepted(world, party.0, party.1)?;
+        for place in 0..4usize {
+            self.accepted[place] = see_accepted(world, CLIENTS[place], self.accepted[place])?;
         }
         Ok(())
     }
