@@ -18,7 +18,6 @@ use std::marker::Model;
 #[derive(Drop)]
 pub struct PatientLink<L: Link, E: Write + Drop> {
     inner: L,
-    party: &'static str,
     notes: E,
     patience: Patience,
 }
@@ -32,13 +31,12 @@ impl<L: Link, E: Write + Drop> Model for PatientLink<L, E> {
 }
 
 impl<L: Link, E: Write + Drop> PatientLink<L, E> {
-    /// The link of a `node` or a `client`, none of whose calls has failed.
-    pub fn new(inner: L, party: &'static str, notes: E) -> PatientLink<L, E>
+    /// The link of a node, none of whose calls has failed.
+    pub fn new(inner: L, notes: E) -> PatientLink<L, E>
         ensures { (result.inner ≡ inner) × (result.faults ≡ 0) }
     {
         PatientLink {
             inner,
-            party,
             notes,
             patience: Patience::new(),
         }
@@ -54,7 +52,7 @@ impl<L: Link, E: Write + Drop> PatientLink<L, E> {
         ensures counted { CountsFault result self.old.faults self.new.faults }
         ensures inner { self.new.inner ≡ self.old.inner }
     {
-        self.patience.fail(self.party, &mut self.notes)
+        self.patience.fail("node", &mut self.notes)
     }
 }
 

@@ -182,40 +182,24 @@ where
         notes: Stderr,
         ending: &Ending,
     ) -> Result<K, RuntimeError> {
-        let watch = self.watch;
+        let NodeRun {
+            plan,
+            watch,
+            keeper,
+            link,
+        } = self;
         let ended = match BufWriter::new(alloc, output) {
             Ok(output) => {
-                let lines = WatchedOutput::new(output, threads, watch);
+                let mut lines = WatchedOutput::new(output, threads, watch);
                 let notes = SlowNotes::new(notes, SystemTimes::new(threads));
-                self.run_noted(alloc, threads, lines, notes, ending)
+                let mut link = PatientLink::new(link, notes);
+                let mut around = Around { lines: &mut lines, ending };
+                node_run(threads, alloc, plan, keeper, &mut link, &mut around)
             }
             Err(_) => Err(RuntimeError::from(OutOfMemory)),
         };
         watch.end();
         ended
-    }
-
-    // Runs the node with these lines and notes.
-    fn run_noted<T: Threads + Wait + Clock + Sync, W: Write + Drop, E: Write + Drop>(
-        self,
-        alloc: Global,
-        threads: &T,
-        mut lines: W,
-        notes: E,
-        ending: &Ending,
-    ) -> Result<K, RuntimeError> {
-        let NodeRun {
-            plan,
-            keeper,
-            link,
-            ..
-        } = self;
-        let mut link = PatientLink::new(link, "node", notes);
-        let mut around = Around {
-            lines: &mut lines,
-            ending,
-        };
-        node_run(threads, alloc, plan, keeper, &mut link, &mut around)
     }
 }
 
@@ -225,8 +209,8 @@ pub type HostRun<'r, O, K, T> = NodeRun<'r, O, HostKeeper<'r, K, T>, HostLink<'r
 /// The keeper of a host's store K, with those who observe it.
 pub type HostKeeper<'r, K, T> = ObservedKeeper<'r, K, Watched<'r, T>, &'r JournalFile>;
 
-// The link of a host.
-type HostLink<'r, T> = NodeLink<'r, UdpLink, SystemTimes<'r, T>>;
+/// The link of a host.
+pub type HostLink<'r, T> = NodeLink<'r, UdpLink, SystemTimes<'r, T>>;
 
 // The clients that the system's file names.
 fn clients_of(alloc: Global, system: &System) -> Result<Vec<ClientId>, OutOfMemory> {

@@ -5,8 +5,8 @@ use crate::host::{Host, run_beside};
 use crate::page::{Screen, open_server};
 use scoop_command_line::{NodeOptions, StoreChoice};
 use scoop_etcd_stores::Fate;
-use scoop_files::FiledStore;
-use scoop_journal::Owner;
+use scoop_files::{FiledStore, StoreName};
+use scoop_journal::{JournalFile, Owner};
 use scoop_keeper::SharedKeeper;
 use scoop_link::UdpLink;
 use scoop_message::OutOfMemory;
@@ -27,7 +27,8 @@ use std::sync::Wait;
 use std::thread::Threads;
 use std::time::Clock;
 
-/// Serves the node of the options, whose objects these make. Its system, its key and its port come first, and then its store.
+/// Serves the node of the options, whose objects these make. Its system, its key, its journal and its port come first, then the
+/// port of its status, and then its store.
 pub fn serve_node<T: Threads + Wait + Clock + Net + Sync, O: Objects + Sync>(
     rt: &HostRuntime,
     threads: &T,
@@ -38,12 +39,28 @@ pub fn serve_node<T: Threads + Wait + Clock + Net + Sync, O: Objects + Sync>(
     check_choice(rt, options.store)?;
     let serving = serving_of(rt, options)?;
     let system = read_system(rt, options.system)?;
-    match NodeConfig::read(rt, options, serving, &system) {
-        Ok(config) => match serve(rt, threads, &config, objects) {
-            Ok(()) => Ok(()),
-            Err(end) => Err(config.report(rt, end)),
+    let config = match NodeConfig::read(rt, options, serving, &system) {
+        Ok(config) => config,
+        Err(status) => return Err(status),
+    };
+    let (journal, name) = match beside(rt, &config) {
+        Ok(files) => files,
+        Err(end) => return Err(config.report(rt, end)),
+    };
+    let journal = journal.as_ref();
+    let ended = match Host::open(rt, threads, &config, objects, journal, name.as_ref()) {
+        Ok((host, link)) => match open_behind(rt, &host) {
+            Ok((server, store)) => {
+                let (ended, store) = serve_over(rt, threads, &host, link, server, store);
+                closed(&host, ended, store)
+            }
+            Err(end) => Err(end),
         },
-        Err(status) => Err(status),
+        Err(end) => Err(end),
+    };
+    match with_journal(journal, ended) {
+        Ok(()) => Ok(()),
+        Err(end) => Err(config.report(rt, end)),
     }
 }
 
@@ -65,27 +82,14 @@ fn require_store(rt: &HostRuntime, options: &NodeOptions<'_>) -> Result<(), Stat
     Err(Status(2))
 }
 
-// Serves the node with its journal, if it writes one. The port of its status comes after its own, and then its store.
-fn serve<T: Threads + Wait + Clock + Net + Sync, O: Objects + Sync>(
+// The node's journal, if it writes one, and the name of its store, if that is a file.
+fn beside(
     rt: &HostRuntime,
-    threads: &T,
     config: &NodeConfig<'_, '_>,
-    objects: O,
-) -> Result<(), End> {
+) -> Result<(Option<JournalFile>, Option<StoreName>), End> {
     let journal = open_journal(rt, config.journal, Owner::Node(config.place.number))?;
-    let journal = journal.as_ref();
     let name = store_name(rt.alloc(), config.store)?;
-    let ended = match Host::open(rt, threads, config, objects, journal, name.as_ref()) {
-        Ok((host, link)) => match open_behind(rt, &host) {
-            Ok((server, store)) => {
-                let (ended, store) = serve_over(rt, threads, &host, link, server, store);
-                closed(&host, ended, store)
-            }
-            Err(end) => Err(end),
-        },
-        Err(end) => Err(end),
-    };
-    with_journal(journal, ended)
+    Ok((journal, name))
 }
 
 // The server of the node's status, if it has one, and its store.

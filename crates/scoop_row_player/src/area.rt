@@ -54,4 +54,9 @@ impl Play<'_> {
         }
         Ok(true)
     }
+
+    /// The same with a subject that nobody else has. Its drop is proved here, and not in each arm that makes one.
+    pub fn with<S: Subject + Drop>(self, mut subject: S, sheet: &mut Sheet) -> Result<bool, Bad> {
+        self.over(&mut subject, sheet)
+    }
 }

@@ -83,9 +83,16 @@ fn udp<R: Net>(rt: &R, alloc: Global, peers: Peers<'_>) -> Result<UdpLink, Bad> 
     UdpLink::open(rt, alloc, peers).map_err(|_| Bad::Memory)
 }
 
-// A client that asks a handler over a link.
-fn asking(alloc: Global, id: ClientId, at: HandlerId, link: UdpLink) -> Result<Asking, Bad> {
+// A client that asks a handler.
+fn asking<R: Net>(
+    rt: &R,
+    alloc: Global,
+    id: ClientId,
+    at: HandlerId,
+    peers: Peers<'_>,
+) -> Result<Asking, Bad> {
     let client = Client::begin(alloc, id, 1, &[at]).map_err(|_| Bad::Memory)?;
+    let link = udp(rt, alloc, peers)?;
     let link = PacedLink::new(alloc, SealedLink::new(link, Some(Key::new(KEY))), 1, 1)?;
     Ok(Driver::new(client, link, 2_000))
 }
@@ -104,19 +111,37 @@ pub fn holds<R: Threads + Wait + Clock + Net + Sync>(
         (Party::Client(SEVEN), seven),
         (Party::Client(EIGHT), eight),
     ];
+    let seven = Peers { own: seven, table };
+    let eight = Peers { own: eight, table };
+    let bare = Peers { own: bare, table };
+    let other = Peers { own: other, table };
+    let clients = both(rt, alloc, seven, eight)?;
+    let forgers = forgers(rt, alloc, bare, other)?;
     let link = udp(rt, alloc, Peers { own: node, table })?;
     let mut link = SealedLink::new(link, Some(Key::new(KEY)));
-    let first = udp(rt, alloc, Peers { own: seven, table })?;
-    let second = udp(rt, alloc, Peers { own: eight, table })?;
-    let clients = (
-        asking(alloc, SEVEN, ONE, first)?,
-        asking(alloc, EIGHT, TWO, second)?,
-    );
-    let bare = udp(rt, alloc, Peers { own: bare, table })?;
-    let other = udp(rt, alloc, Peers { own: other, table })?;
-    let forgers = (bare, SealedLink::new(other, Some(Key::new(OTHER_KEY))));
     one_is_held(rt, &mut link, clients, forgers, answer)?;
     tells(format_args!(", {} refused", link.refused()), answer)
+}
+
+fn both<R: Net>(
+    rt: &R,
+    alloc: Global,
+    seven: Peers<'_>,
+    eight: Peers<'_>,
+) -> Result<(Asking, Asking), Bad> {
+    let seven = asking(rt, alloc, SEVEN, ONE, seven)?;
+    Ok((seven, asking(rt, alloc, EIGHT, TWO, eight)?))
+}
+
+fn forgers<R: Net>(
+    rt: &R,
+    alloc: Global,
+    bare: Peers<'_>,
+    other: Peers<'_>,
+) -> Result<Forgers, Bad> {
+    let bare = udp(rt, alloc, bare)?;
+    let other = udp(rt, alloc, other)?;
+    Ok((bare, SealedLink::new(other, Some(Key::new(OTHER_KEY)))))
 }
 
 fn one_is_held<R: Threads + Wait + Clock + Sync>(

@@ -49,12 +49,22 @@ pub fn paints(answer: &mut Vec<u8>) -> Result<(), Bad> {
     let handlers = objects(alloc, DemoClass::Cell, &[ONE, TWO])?;
     let opened = Book::open(alloc, handlers, MemoryKeeper::new(alloc));
     let mut cells = opened.map_err(|_| Bad::Memory)?;
-    let fresh = cells.words(ONE);
     let mut red = make_painter(alloc, ClientId(7), 1)?;
     let mut blue = make_painter(alloc, ClientId(8), 2)?;
+    paint_both(&mut cells, &mut red, &mut blue, answer)
+}
+
+// The painters are lent: each exit would prove the drop of an owned one.
+fn paint_both(
+    cells: &mut Cells,
+    red: &mut Painter,
+    blue: &mut Painter,
+    answer: &mut Vec<u8>,
+) -> Result<(), Bad> {
+    let fresh = cells.words(ONE);
     for _ in 0..1_000u32 {
-        red.goes_on(&mut cells)?;
-        blue.goes_on(&mut cells)?;
+        red.goes_on(cells)?;
+        blue.goes_on(cells)?;
         if red.is_done() && blue.is_done() {
             let is_same = cells.words(ONE) == cells.words(TWO) && cells.words(ONE) != fresh;
             return tells(if is_same { "same" } else { "different" }, answer);

@@ -95,31 +95,48 @@ pub fn serves_tape<R: Threads + Wait + Clock + Sync>(
 ) -> Result<(), Bad> {
     let (turns, line) = first(line)?;
     let turns = u64::from(number(turns)?);
+    if nodes.node.is_none() {
+        match opens(nodes.alloc, nodes.heap, 2, MAX_HISTORY, u32::MAX) {
+            Ok((node, passes)) => {
+                nodes.node = Some(node);
+                nodes.passes = passes;
+            }
+            Err(error) => return tells(error, answer),
+        }
+    }
     let counts = NodeCounts::new(nodes.alloc)?;
     let mut link = link_over(rt, nodes, line, &counts)?;
-    let (node, passes) = match nodes.node.take() {
-        Some(node) => (node, mem::replace(&mut nodes.passes, Vec::new(nodes.heap))),
-        None => match opens(nodes.alloc, nodes.heap, 2, MAX_HISTORY, u32::MAX) {
-            Ok(opened) => opened,
-            Err(error) => return tells(error, answer),
-        },
+    let end = serves_over(rt, nodes, &mut link, turns, line.ends_with(b"shut"))?;
+    tells(PartyError::from(end), answer)?;
+    if end == ServeEnd::OutOfMemory {
+        nodes.node = None;
+        return Ok(());
+    }
+    nodes.fed.clear();
+    put_sent(link.inner().inner(), answer)
+}
+
+// Serves the node over this link, and returns how the loop ended.
+fn serves_over<R: Threads + Wait + Clock + Sync>(
+    rt: &R,
+    nodes: &mut Nodes<'_>,
+    link: &mut Link<'_, '_, R>,
+    turns: u64,
+    is_shut: bool,
+) -> Result<ServeEnd, Bad> {
+    let passes = mem::replace(&mut nodes.passes, Vec::new(nodes.heap));
+    let Some(node) = &nodes.node else {
+        return Err(Bad::Command);
     };
     if passes.len() < 2 {
         return Err(Bad::Words);
     }
-    let heap = *passes.allocator();
-    let stop = Stop::new();
-    let (end, passes) = if line.ends_with(b"shut") {
-        serve(rt, heap, &node, &mut link, passes, &Shut, &stop, turns)
+    let (heap, stop) = (*passes.allocator(), Stop::new());
+    let (end, passes) = if is_shut {
+        serve(rt, heap, node, link, passes, &Shut, &stop, turns)
     } else {
-        serve(rt, heap, &node, &mut link, passes, &OpenGate, &stop, turns)
+        serve(rt, heap, node, link, passes, &OpenGate, &stop, turns)
     };
-    tells(PartyError::from(end), answer)?;
-    if end == ServeEnd::OutOfMemory {
-        return Ok(());
-    }
-    nodes.node = Some(node);
     nodes.passes = passes;
-    nodes.fed.clear();
-    put_sent(link.inner().inner(), answer)
+    Ok(end)
 }

@@ -31,10 +31,10 @@ impl Areas for Parts {
         let (alloc, heap) = (sheet.alloc(), play.heap);
         let roomy = Refusing::new(alloc, 0);
         match play.area {
-            "books" => play.over(&mut Books::new(alloc, heap, &roomy)?, sheet),
-            "drivers" => play.over(&mut Drivers::new(alloc, heap, &roomy)?, sheet),
+            "books" => play.with(Books::new(alloc, heap, &roomy)?, sheet),
+            "drivers" => play.with(Drivers::new(alloc, heap, &roomy)?, sheet),
             "names" => play.over(&mut Naming, sheet),
-            "weaves" => play.over(&mut Weaves::new(alloc, heap), sheet),
+            "weaves" => play.with(Weaves::new(alloc, heap), sheet),
             _ => Ok(false),
         }
     }

@@ -33,15 +33,15 @@ impl Areas for Runs {
         let own = Refusing::new(alloc, 0);
         match play.area {
             "answers" | "commands" | "framing" | "scripts" => {
-                play.over(&mut Programs::new(alloc), sheet)
+                play.with(Programs::new(alloc), sheet)
             }
-            "charts" => play.over(&mut Charts::new(alloc)?, sheet),
-            "clients" => play.over(&mut Clients::new(alloc, heap), sheet),
-            "handlers" => play.over(&mut Handlers::new(alloc, heap), sheet),
-            "limits" => play.over(&mut Handlers::new(alloc, &own), sheet),
-            "long" | "pairs" => play.over(&mut Worlds::new(alloc, &own), sheet),
-            "queues" => play.over(&mut Queues::new(heap), sheet),
-            "worlds" => play.over(&mut Worlds::new(alloc, heap), sheet),
+            "charts" => play.with(Charts::new(alloc)?, sheet),
+            "clients" => play.with(Clients::new(alloc, heap), sheet),
+            "handlers" => play.with(Handlers::new(alloc, heap), sheet),
+            "limits" => play.with(Handlers::new(alloc, &own), sheet),
+            "long" | "pairs" => play.with(Worlds::new(alloc, &own), sheet),
+            "queues" => play.with(Queues::new(heap), sheet),
+            "worlds" => play.with(Worlds::new(alloc, heap), sheet),
             _ => Ok(false),
         }
     }

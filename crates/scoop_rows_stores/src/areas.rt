@@ -7,7 +7,7 @@ use crate::keepers::Keepers;
 use crate::stops::Stops;
 use crate::stores::Stores;
 use scoop_files::StoreName;
-use scoop_row_player::{Areas, Bad, Play, Sheet, Subject};
+use scoop_row_player::{Areas, Bad, Play, Sheet};
 use sqlite::Connection;
 use std::cell::RefCell;
 
@@ -56,14 +56,5 @@ fn play_named<'a>(
     play: Play<'_>,
     sheet: &mut Sheet,
 ) -> Result<bool, Bad> {
-    played(play, FileFolder::new(rt, name), sheet)
-}
-
-// Plays the rows of a case with a subject of its own.
-fn played<S: Subject + Drop>(
-    play: Play<'_>,
-    mut subject: S,
-    sheet: &mut Sheet,
-) -> Result<bool, Bad> {
-    play.over(&mut subject, sheet)
+    play.with(FileFolder::new(rt, name), sheet)
 }

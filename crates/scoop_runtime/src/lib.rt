@@ -15,7 +15,7 @@
 //! ```
 //! let serving = Serving::new(2, history, turns).ok()?;
 //! let plan = NodePlan::of(alloc, system, place, serving).ok()?;
-//! let mut link = PatientLink::new(link, "node", notes);
+//! let mut link = PatientLink::new(link, notes);
 //! let mut around = Around { lines: &mut output, ending: &Ending::new() };
 //! let ended = node_run(rt, alloc, &plan, keeper, &mut link, &mut around);
 //! // a client of it, whose commands are these lines

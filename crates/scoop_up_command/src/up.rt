@@ -1,13 +1,13 @@
 //! `scoop up`: all nodes of a system in one process, and a client.
 
-use crate::hosted::{Hosted, lost, run_beside};
+use crate::hosted::{Ran, lost, run_hosts};
 use scoop_client_command::{
     AskingLink, ClientConfig, Input, Papers, client_link, input_mode, run_over,
 };
 use scoop_command_line::{JournalChoice, StoreChoice, UpOptions};
 use scoop_etcd_place::begins_as_etcd;
 use scoop_etcd_stores::Fate;
-use scoop_files::{FileError, FiledStore, StoreName, report_file};
+use scoop_files::{FileError, StoreName, report_file};
 use scoop_journal::Owner;
 use scoop_link::UdpLink;
 use scoop_message::{ClientId, OutOfMemory};
@@ -19,7 +19,7 @@ use scoop_opening::{
 };
 use scoop_record::Store;
 use scoop_report::{Hints, Status, hint, report};
-use scoop_runtime::{ClientPlan, Ending, FileFault, OutOfRange, RuntimeError, Serving, Tables};
+use scoop_runtime::{ClientPlan, FileFault, OutOfRange, RuntimeError, Serving, Tables};
 use scoop_system::{ClientPlace, System};
 use sqlite::{Alter, File, FileStore};
 use std::net::Net;
@@ -249,20 +249,21 @@ fn client_of<'s, 'o>(
 
 // ---- opening
 
-// A node at its place, with its port.
-type Opened<'s, 'o, 'p> = (Host<'s, 'o, 'p, Tables>, UdpLink);
-
 // Opens the ports of the nodes.
 fn open_hosts<'p, 's, 'o, T: Net>(
     rt: &HostRuntime,
     net: &T,
     parties: &Parties<'p, 's, 'o>,
-    hosts: &mut Vec<Opened<'s, 'o, 'p>>,
+    hosts: &mut Vec<Host<'s, 'o, 'p, Tables>>,
+    links: &mut Vec<UdpLink>,
 ) -> Result<(), Status> {
     for (at, config) in parties.nodes.iter().enumerate() {
         let name = parties.node_names().get(at);
         match Host::open(rt, net, config, Tables, None, name) {
-            Ok(opened) => put(rt, hosts, opened)?,
+            Ok((host, link)) => {
+                put(rt, hosts, host)?;
+                put(rt, links, link)?;
+            }
             Err(end) => return Err(config.report(rt, end)),
         }
     }
@@ -290,6 +291,13 @@ fn open_stores<'r>(
 
 // ---- running
 
+// The ports of the nodes and of the client, which are open.
+#[derive(Drop)]
+struct Ports<'r> {
+    nodes: Vec<UdpLink>,
+    client: AskingLink<'r>,
+}
+
 // How the client and the nodes ended, and the stores that are left, the client's last.
 #[derive(Drop)]
 struct Left<S: Alter + Drop> {
@@ -305,18 +313,19 @@ fn run_parties<T: Threads + Wait + Clock + Net + Sync>(
     parties: &Parties<'_, '_, '_>,
 ) -> Result<(), Status> {
     let mut hosts = Vec::new(rt.alloc());
-    open_hosts(rt, threads, parties, &mut hosts)?;
-    let link = match client_link(rt, threads, parties.client) {
-        Ok(link) => link,
+    let mut links = Vec::new(rt.alloc());
+    open_hosts(rt, threads, parties, &mut hosts, &mut links)?;
+    let ports = match client_link(rt, threads, parties.client) {
+        Ok(client) => Ports {
+            nodes: links,
+            client,
+        },
         Err(end) => return Err(parties.client.report(rt, end)),
     };
     let mut stores = Vec::new(rt.alloc());
     open_stores(rt, parties, &mut stores)?;
-    closed(
-        rt,
-        parties,
-        run_over_stores(rt, threads, parties, hosts, link, stores),
-    )
+    let left = run_over_stores(rt, threads, parties, hosts.as_slice(), ports, stores);
+    closed(rt, parties, left, |store, name| close_store(store, name))
 }
 
 // Runs the nodes and the client over their stores.
@@ -324,8 +333,8 @@ fn run_over_stores<S, T>(
     rt: &HostRuntime,
     threads: &T,
     parties: &Parties<'_, '_, '_>,
-    hosts: Vec<Opened<'_, '_, '_>>,
-    link: AskingLink<'_>,
+    hosts: &[Host<'_, '_, '_, Tables>],
+    ports: Ports<'_>,
     mut stores: Vec<OpenStore<'_, S>>,
 ) -> Left<S>
 where
@@ -334,14 +343,14 @@ where
 {
     let store = stores.pop().unwrap_or(OpenStore::Memory);
     let fate = Fate::new();
-    let mut nodes = Vec::new(rt.alloc());
-    if let Err(status) = host_all(rt, hosts, stores, &fate, &mut nodes) {
-        return Left {
-            ran: Err(status),
-            ended: Ok(()),
-            stores: Vec::new(rt.alloc()),
-        };
-    }
+    let keepers = match keepers_over(rt, hosts, stores, &fate) {
+        Ok(keepers) => keepers,
+        Err(status) => return nothing_left(rt, status),
+    };
+    let Ports {
+        nodes: links,
+        client: link,
+    } = ports;
     let client = Beside {
         rt,
         net: threads,
@@ -349,28 +358,35 @@ where
         link,
         store,
     };
-    let (nodes, (ran, store)) = run_beside(rt, threads, nodes, &Ending::new(), client);
-    let ran = match ran {
-        Ok(()) => Ok(()),
-        Err(end) => Err(parties.client.report(rt, end)),
-    };
-    gather(rt, ran, nodes, store)
+    match run_hosts(rt, threads, hosts, links, keepers, client) {
+        Ok(ran) => gather(rt, parties, ran),
+        Err(status) => nothing_left(rt, status),
+    }
 }
 
-// Puts each node over its store.
-fn host_all<'s, 'o, 'p, 'f, 'r, S: Alter + Drop + Send>(
+// The parties didn't run.
+fn nothing_left<S: Alter + Drop>(rt: &HostRuntime, status: Status) -> Left<S> {
+    Left {
+        ran: Err(status),
+        ended: Ok(()),
+        stores: Vec::new(rt.alloc()),
+    }
+}
+
+// The keeper of each node over its store.
+fn keepers_over<'f, 'r, S: Alter + Drop + Send>(
     rt: &HostRuntime,
-    hosts: Vec<Opened<'s, 'o, 'p>>,
+    hosts: &[Host<'_, '_, '_, Tables>],
     stores: Vec<OpenStore<'r, S>>,
     fate: &'f Fate,
-    nodes: &mut Vec<Hosted<'s, 'o, 'p, NodeKeeper<'f, 'r, S>>>,
-) -> Result<(), Status> {
-    for ((host, link), store) in hosts.into_iter().zip(stores) {
+) -> Result<Vec<NodeKeeper<'f, 'r, S>>, Status> {
+    let mut keepers = Vec::new(rt.alloc());
+    for (host, store) in hosts.iter().zip(stores) {
         let mut keeper = node_keeper(rt.alloc(), store, fate);
         host.go_on(rt, &mut keeper)?;
-        put(rt, nodes, Hosted::new(host, link, keeper))?;
+        put(rt, &mut keepers, keeper)?;
     }
-    Ok(())
+    Ok(keepers)
 }
 
 // The client, before it runs over its store with the lines of standard input. It ends when a store of a node is lost.
@@ -383,9 +399,9 @@ struct Beside<'a, 's, 'o, 'r, S: Alter + Drop, T: Net> {
     store: OpenStore<'r, S>,
 }
 
-impl<'a, 's, 'o, 'r, S: Alter + Drop, T: Net> Task<(Result<(), End>, Option<Store<S>>)>
+impl<'a, 's, 'o, 'r, S: Alter + Drop, T: Net> Task<ClientEnd<S>>
     for Beside<'a, 's, 'o, 'r, S, T> {
-    fn run(self) -> (Result<(), End>, Option<Store<S>>) {
+    fn run(self) -> ClientEnd<S> {
         let Beside {
             rt,
             net,
@@ -409,46 +425,59 @@ impl<'a, 's, 'o, 'r, S: Alter + Drop, T: Net> Task<(Result<(), End>, Option<Stor
     }
 }
 
-// What is left when all have ended. Reports each node that ended early.
+// How the client of an `up` ended, and its store if it is in a file.
+type ClientEnd<S> = (Result<(), End>, Option<Store<S>>);
+
+// What is left when all have ended. Reports a client that ended early.
 fn gather<S: Alter + Drop + Send>(
     rt: &HostRuntime,
-    ran: Result<(), Status>,
-    nodes: Vec<Hosted<'_, '_, '_, NodeKeeper<'_, '_, S>>>,
-    client: Option<Store<S>>,
+    parties: &Parties<'_, '_, '_>,
+    ran: Ran<NodeKeeper<'_, '_, S>, ClientEnd<S>>,
 ) -> Left<S> {
-    let mut left = Left {
-        ran,
-        ended: Ok(()),
-        stores: Vec::new(rt.alloc()),
+    let Ran {
+        gave: (gave, client),
+        ended,
+        keepers,
+    } = ran;
+    let ran = match gave {
+        Ok(()) => Ok(()),
+        Err(end) => Err(parties.client.report(rt, end)),
     };
-    for node in nodes {
-        let reported = node.report(rt);
-        left.ended = left.ended.and(reported);
-        let store = match node.into_keeper() {
+    let mut stores = Vec::new(rt.alloc());
+    for keeper in keepers {
+        let store = match keeper {
             Some(keeper) => store_in_node(keeper),
             None => None,
         };
-        let _kept = left.stores.push(store);
+        let _kept = stores.push(store);
     }
-    let _kept = left.stores.push(client);
-    left
+    let _kept = stores.push(client);
+    Left { ran, ended, stores }
 }
 
 // ---- the end
 
-// Closes the stores that are left, and returns how the parties ended: by a store that was lost, the client, or the first node.
-fn closed(
+// Closes the stores that are left by this call, and returns how the parties ended: by a store that was lost, the client, or the
+// first node.
+fn closed<S, C>(
     rt: &HostRuntime,
     parties: &Parties<'_, '_, '_>,
-    left: Left<FileStore<File>>,
-) -> Result<(), Status> {
+    left: Left<S>,
+    mut close: C,
+) -> Result<(), Status>
+where
+    S: Alter + Drop,
+    C: FnMut(Option<Store<S>>, &StoreName) -> Result<(), FileError>,
+{
     let Left {
         ran,
         mut ended,
         stores,
     } = left;
     for (store, name) in stores.into_iter().zip(parties.names) {
-        ended = ended.and(close_one(rt, name, store));
+        if let Err(error) = close(store, name) {
+            ended = ended.and(Err(report_file(rt, Hints::Always, name.path(), error)));
+        }
     }
     match (lost(parties.node_names()), ran, ended) {
         (Some(_), _, Err(status)) => Err(status),
@@ -458,13 +487,5 @@ fn closed(
         }
         (None, Err(status), _) => Err(status),
         (None, Ok(()), ended) => ended,
-    }
-}
-
-// Closes the store of this name, unless it has lost that.
-fn close_one(rt: &HostRuntime, name: &StoreName, store: Option<FiledStore>) -> Result<(), Status> {
-    match close_store(store, name) {
-        Ok(()) => Ok(()),
-        Err(error) => Err(report_file(rt, Hints::Always, name.path(), error)),
     }
 }
