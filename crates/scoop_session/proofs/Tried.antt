@@ -9,7 +9,7 @@ use Rattle.scoop_driver.specs.State.{Seen}
 use Rattle.scoop_driver.specs.Waiting.{WaitGives, WaitsUpTo, WaitsWith}
 use Rattle.scoop_driver.specs.Wishes.{Wish as Waited}
 use Rattle.scoop_driver.proofs.StepLists.{goes_nothing}
-use Rattle.scoop_session.specs.Obeying.{Drives, FailsTrying, GaveUp, StopsTrying, TriesIn, TriesOut, TriesUpTo}
+use Rattle.scoop_session.specs.Obeying.{Drives, FailsTrying, GaveUp, SaysNoTries, StopsTrying, TriesIn, TriesOut, TriesUpTo}
 use Rattle.scoop_session.specs.Obeying.FailsTrying.{tried, refused, left, kept}
 use Rattle.scoop_session.specs.Obeying.StopsTrying.{between, locking}
 
@@ -93,6 +93,6 @@ pub stops_locking : (w : Waited) (tries : ℕ) (as : List Answer) (s t u : Seen)
     → StopsTrying w tries s u
 stops_locking w tries as s t u h gave = locking (interrupted_out w tries as s t h) gave
 
-pub keeps_locking : (w : Waited) (tries : ℕ) (e : DriverError) (as bs : List Answer) (s t u : Seen) → TriesIn w tries (Err Interrupted) as s t → Drives t u
-    → FailsTrying w tries e bs s u
-keeps_locking w tries e as bs s t u h drives = kept (interrupted_out w tries as s t h) drives
+pub keeps_locking : (w : Waited) (tries : ℕ) (e : DriverError) (as bs : List Answer) (s t u : Seen) → TriesIn w tries (Err Interrupted) as s t
+    → SaysNoTries e × Drives t u → FailsTrying w tries e bs s u
+keeps_locking w tries e as bs s t u h (says, drives) = kept says (interrupted_out w tries as s t h) drives

@@ -1,10 +1,10 @@
 //! The end of a session: the block that it leaves.
 
-ghost use Rattle.std.specs.Prelude.{◌≡◌, ◌++◌, ◌∷◌, [], None, Ok, OnOk, IfOk, IsFalse, IsTrue, is_some, filter};
+ghost use Rattle.std.specs.Prelude.{◌≡◌, ◌++◌, ◌∷◌, [], None, Ok, OnOk, IfErr, IfOk, IsFalse, IsTrue, is_some, filter};
 ghost use Rattle.scoop_client.specs.State.{phase_of};
 ghost use Rattle.scoop_client.specs.declared.phase.Phase.TheVariants.{Idle};
 ghost use Rattle.scoop_session.specs.Diary.{IsSettled, IsWritten};
-ghost use Rattle.scoop_session.specs.Obeying.{Drives, GivesUp, TakesTurnsOnly};
+ghost use Rattle.scoop_session.specs.Obeying.{Drives, GivesUp, SaysNoTries, TakesTurnsOnly};
 ghost use Rattle.scoop_session.specs.Parting.{Leaves, is_awaited, last_of, owes};
 ghost use Rattle.scoop_session.specs.Endings.{input_ended};
 
@@ -118,6 +118,7 @@ impl<'j, L: Link, J: Write + Drop> Session<'j, L, J> {
     // Takes turns until the client is idle.
     fn rest<I: Interrupt>(&mut self, turns: u64, interrupt: &mut I) -> Result<(), DriverError>
         ensures idle { OnOk result (phase_of self.new.driver.seen.client ≡ Idle) }
+        ensures tries { IfErr result SaysNoTries }
         ensures turned { TakesTurnsOnly self.old.driver.seen self.new.driver.seen }
     {
         for taken in 0..turns {
