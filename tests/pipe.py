@@ -218,6 +218,19 @@ def the_end_of_the_input_leaves_an_end():
 
 
 @test
+def an_end_is_awaited_with_which_quit_was_sent():
+    needs_pipe()
+    with accounts() as system:
+        client = piped(system)
+        client.ask("reserve 1 2", "reserved ")
+        system.fate.loses(2, LOG)
+        client.tell("end\nquit\n")
+        time.sleep(0.5)
+        system.fate.loses(None)
+        same("its end", client.end(patience=SOON).result, (0, "ended\n"))
+
+
+@test
 def the_end_of_the_input_leaves_the_tries_of_a_waiting_block():
     needs_pipe()
     with accounts() as system:

@@ -5,7 +5,8 @@ ghost use Rattle.std.specs.Prelude.{⊤};
 use crate::parting::PARTING_TURNS;
 use scoop_driver::Interrupt;
 
-/// An interrupt that leaves a wait only when this one has left it `PARTING_TURNS` times.
+/// An interrupt that leaves a wait as this one does. If this one leaves it from the first question on, it does so only at the
+/// `PARTING_TURNS`-th later one: the end of an input is sent ahead then, and may not mean this wait.
 #[derive(Drop)]
 pub(crate) struct Patient<'i, I: Interrupt> {
     interrupt: &'i mut I,
@@ -32,6 +33,7 @@ impl<'i, I: Interrupt> Interrupt for Patient<'i, I> {
 
     fn leaves(&mut self) -> bool {
         if !self.interrupt.leaves() {
+            self.left = 0;
             return false;
         }
         if self.left == 0 {
