@@ -183,12 +183,16 @@ impl<'a> Keyboard<'a> {
         self.lines.ahead()
     }
 
-    // What the next line asks, if it has come and can be read.
-    fn next_asked(&mut self) -> Option<ClientLine> {
-        match self.look() {
-            Ahead::Line => read_line(self.system, self.lines.line()).ok(),
-            _ => None,
-        }
+    // Whether the next line has come and gives up.
+    fn gives_up(&mut self) -> bool {
+        self.look() == Ahead::Line
+            && matches!(read_line(self.system, self.lines.line()), Ok(ClientLine::GiveUp))
+    }
+
+    // Whether the next line has come and ends the client.
+    fn quits(&mut self) -> bool {
+        self.look() == Ahead::Line
+            && matches!(read_line(self.system, self.lines.line()), Ok(ClientLine::Quit))
     }
 }
 
@@ -218,7 +222,7 @@ impl Interrupt for Keyboard<'_> {
     ghost leaves = { λ _ _ _. ⊤ };
 
     fn stops(&mut self) -> bool {
-        if self.gave_up.is_none() && matches!(self.next_asked(), Some(ClientLine::GiveUp)) {
+        if self.gave_up.is_none() && self.gives_up() {
             let taken = self.lines.next_line(&mut LineBytes::new(), &mut io::sink());
             self.gave_up = taken.unwrap_or(None);
             return true;
@@ -236,7 +240,7 @@ impl Interrupt for Keyboard<'_> {
         match self.look() {
             Ahead::Part | Ahead::Fault(SourceFault::LineTooLong) => false,
             Ahead::End | Ahead::Fault(_) => true,
-            Ahead::Line => matches!(self.next_asked(), Some(ClientLine::Quit)),
+            Ahead::Line => self.quits(),
         }
     }
 }

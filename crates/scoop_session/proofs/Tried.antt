@@ -1,5 +1,5 @@
 -- The tries of a waiting block, whole or stopped.
-use Rattle.std.proofs.Common.{◌≡◌, ℕ, ◌<◌, ◌≤◌, List, [], Result, Ok, Err, inl, inr, refl, subst, arith}
+use Rattle.std.proofs.Common.{◌≡◌, ℕ, ◌<◌, ◌≤◌, ◌⊎◌, List, [], Result, Ok, Err, inl, inr, refl, sym, subst, arith}
 use Rattle.scoop_message.specs.declared.request.Answer.{Answer}
 use Rattle.scoop_client.specs.State.{ClientState}
 use Rattle.scoop_driver.specs.declared.error.DriverError.{DriverError}
@@ -9,7 +9,10 @@ use Rattle.scoop_driver.specs.State.{Seen}
 use Rattle.scoop_driver.specs.Waiting.{WaitGives, WaitsUpTo, WaitsWith}
 use Rattle.scoop_driver.specs.Wishes.{Wish as Waited}
 use Rattle.scoop_driver.proofs.StepLists.{goes_nothing}
-use Rattle.scoop_session.specs.Obeying.{Drives, FailsTrying, GaveUp, SaysNoTries, StopsTrying, TriesIn, TriesOut, TriesUpTo}
+use Rattle.scoop_texts.specs.declared.reply.Reply.{Reply}
+use Rattle.scoop_texts.specs.declared.reply.Reply.TheVariants.{GivenUp}
+use Rattle.scoop_session.specs.declared.wish.Wish.{Wish}
+use Rattle.scoop_session.specs.Obeying.{Drives, FailsTrying, GaveUp, SaysNoTries, StopsTrying, TriesIn, TriesOut, TriesUpTo, TryDoes, tried_as}
 use Rattle.scoop_session.specs.Obeying.FailsTrying.{tried, refused, left, kept}
 use Rattle.scoop_session.specs.Obeying.StopsTrying.{between, locking}
 
@@ -96,3 +99,13 @@ stops_locking w tries as s t u h gave = locking (interrupted_out w tries as s t 
 pub keeps_locking : (w : Waited) (tries : ℕ) (e : DriverError) (as bs : List Answer) (s t u : Seen) → TriesIn w tries (Err Interrupted) as s t
     → SaysNoTries e × Drives t u → FailsTrying w tries e bs s u
 keeps_locking w tries e as bs s t u h (says, drives) = kept says (interrupted_out w tries as s t h) drives
+
+-- the reply to tries that were stopped, or the error if the input has ended
+pub stopped_so : (w : Wish) (r : Result Reply DriverError) (answers : List Answer) (s t u : Seen) → (r ≡ Ok GivenUp) ⊎ (r ≡ Err Interrupted) → u ≡ t
+    → StopsTrying (tried_as w) w.tries s t → TryDoes w r answers s u
+stopped_so w r answers s t u told same stops =
+    let stopped : StopsTrying (tried_as w) w.tries s u = subst (λ v. StopsTrying (tried_as w) w.tries s v) (sym same) stops in
+    elim told [
+      | inl is ↦ subst (λ x. TryDoes w x answers s u) (sym is) stopped
+      | inr is ↦ subst (λ x. TryDoes w x answers s u) (sym is) (left refl stopped)
+    ]
