@@ -136,6 +136,7 @@ enum Next {
 }
 
 // Does what the line of this number asks, and writes the reply to it. `last` is what the line before led to.
+#[tactic(auto, using(crate::proofs::Names::drives_nothing))]
 fn read_and_obey<L, J, I, W, N, P>(
     plan: &ClientPlan<'_>,
     session: &mut Session<'_, L, J>,
