@@ -2,7 +2,8 @@
 
 ghost use Rattle.std.specs.Prelude.{◌≡◌, OnOk};
 ghost use Rattle.std.specs.Io.KnownBytes.{Appends};
-ghost use Rattle.scoop_texts.specs.Piping.{fault_name, fault_refusal, first_text, is_wordless, refused_text};
+ghost use Rattle.std.specs.Fmt.{decimal};
+ghost use Rattle.scoop_texts.specs.Piping.{fault_name, fault_refusal, first_text, is_wordless, refusal_of, refusal_with, refused_text, word_refusal};
 
 use crate::error::RuntimeError;
 use scoop_lines::{SourceError, SourceFault};
@@ -18,11 +19,14 @@ pub fn print_first<W: Write>(client: ClientId, inc: u32, writer: &mut W) -> io::
     writeln!(writer, "scoop pipe 1 client {client} {inc}")
 }
 
-// Whether the word has no letter.
-fn is_wordless(word: ShownWord) -> bool
-    ensures { result ≡ is_wordless word.letters }
+// Whether a word has no letter.
+fn is_wordless(letters: &[u8]) -> bool
+    ensures { result ≡ is_wordless letters.now }
 {
-    matches!(word.letters.as_slice(), [0, ..])
+    match letters {
+        [] => false,
+        [first, ..] => *first == 0,
+    }
 }
 
 fn fault_name(fault: LineFault) -> &'static str
@@ -41,22 +45,40 @@ fn fault_name(fault: LineFault) -> &'static str
     }
 }
 
+fn print_name<W: Write>(name: &str, writer: &mut W) -> io::Result<()>
+    ensures { OnOk result (Appends (W.contents writer.old) (W.contents writer.new) (refusal_of name.now)) }
+{
+    writeln!(writer, "refused {name}")
+}
+
+fn print_word<W: Write>(name: &str, word: ShownWord, writer: &mut W) -> io::Result<()>
+    ensures { OnOk result (Appends (W.contents writer.old) (W.contents writer.new) (word_refusal name.now word)) }
+{
+    writeln!(writer, "refused {name} {word}")
+}
+
+fn print_number<W: Write>(name: &str, number: usize, writer: &mut W) -> io::Result<()>
+    ensures { OnOk result (Appends (W.contents writer.old) (W.contents writer.new) (refusal_with name.now (decimal number))) }
+{
+    writeln!(writer, "refused {name} {number}")
+}
+
 // Writes the refusal of a line that can't be read.
 fn print_fault<W: Write>(fault: LineFault, writer: &mut W) -> io::Result<()>
     ensures { OnOk result (Appends (W.contents writer.old) (W.contents writer.new) (fault_refusal fault)) }
 {
     let name = fault_name(fault);
     match fault {
-        LineFault::UnknownLine(word) if is_wordless(word) => writeln!(writer, "refused {name}"),
-        LineFault::UnknownLine(word)
-        | LineFault::NotANumber(word)
-        | LineFault::NoSuchOperation(_, word)
-        | LineFault::NoSuchHandler(word) => writeln!(writer, "refused {name} {word}"),
-        LineFault::TooFewArguments(number) | LineFault::TooManyArguments(number) => {
-            writeln!(writer, "refused {name} {number}")
-        }
-        LineFault::WrongNumberOfWords | LineFault::TooManyHandlers | LineFault::TooManyConditions =>
-            writeln!(writer, "refused {name}"),
+        LineFault::UnknownLine(word) if is_wordless(&word.letters) => print_name(name, writer),
+        LineFault::UnknownLine(word) => print_word(name, word, writer),
+        LineFault::WrongNumberOfWords => print_name(name, writer),
+        LineFault::NotANumber(word) => print_word(name, word, writer),
+        LineFault::TooFewArguments(wanted) => print_number(name, wanted, writer),
+        LineFault::TooManyArguments(limit) => print_number(name, limit, writer),
+        LineFault::TooManyHandlers => print_name(name, writer),
+        LineFault::TooManyConditions => print_name(name, writer),
+        LineFault::NoSuchOperation(_, word) => print_word(name, word, writer),
+        LineFault::NoSuchHandler(word) => print_word(name, word, writer),
     }
 }
 
