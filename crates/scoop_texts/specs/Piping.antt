@@ -9,7 +9,8 @@ use Rattle.scoop_system.specs.declared.line.fault.LineFault.TheVariants as line
 use Rattle.scoop_system.specs.declared.shown_word.ShownWord.{ShownWord}
 use Rattle.scoop_system.specs.ShownWord.{letters_text}
 use Rattle.scoop_texts.specs.declared.error.RuntimeError.{RuntimeError}
-use Rattle.scoop_texts.specs.declared.error.RuntimeError.TheVariants.{Line, NotUsed, Input}
+use Rattle.scoop_texts.specs.declared.error.RuntimeError.TheVariants.{Line, NotUsed, Input, InsideBlock, InsideWhen, NotReady, Handlers, NoHandler, OtherStates}
+use Rattle.scoop_texts.specs.declared.error.RuntimeError.TheVariants.{NotWelcomed, NotAnswered, Refused, SomeRefused, Ended}
 
 -- the form's version, the client and its incarnation
 abbrev pub first_text : ClientId → ℕ → List ℕ
@@ -66,4 +67,14 @@ abbrev pub refused_text : RuntimeError → List ℕ
 refused_text (Line number fault) = fault_refusal fault
 refused_text (NotUsed number h) = codes "refused NotUsed " ++ (decimal h.0 ++ 10 ∷ [])
 refused_text (Input error) = source_refusal error.fault
-refused_text error = []
+refused_text InsideBlock = []
+refused_text InsideWhen = []
+refused_text NotReady = []
+refused_text (Handlers error) = []
+refused_text (NoHandler h) = []
+refused_text OtherStates = []
+refused_text (NotWelcomed h) = []
+refused_text (NotAnswered h) = []
+refused_text (Refused number) = []
+refused_text (SomeRefused first count) = []
+refused_text (Ended error) = []

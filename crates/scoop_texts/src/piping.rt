@@ -3,10 +3,10 @@
 ghost use Rattle.std.specs.Prelude.{◌≡◌, OnOk};
 ghost use Rattle.std.specs.Io.KnownBytes.{Appends};
 ghost use Rattle.std.specs.Fmt.{decimal};
-ghost use Rattle.scoop_texts.specs.Piping.{fault_name, fault_refusal, first_text, is_wordless, refusal_of, refusal_with, refused_text, word_refusal};
+ghost use Rattle.scoop_texts.specs.Piping.{fault_name, fault_refusal, first_text, is_wordless, refusal_of, refusal_with, refused_text, source_refusal, word_refusal};
 
 use crate::error::RuntimeError;
-use scoop_lines::{SourceError, SourceFault};
+use scoop_lines::SourceFault;
 use scoop_message::ClientId;
 use scoop_system::{LineFault, ShownWord};
 use std::io;
@@ -82,6 +82,17 @@ fn print_fault<W: Write>(fault: LineFault, writer: &mut W) -> io::Result<()>
     }
 }
 
+// Writes the refusal of a line that the input doesn't give whole. Nothing is written for other faults.
+fn print_unread<W: Write>(fault: SourceFault, writer: &mut W) -> io::Result<()>
+    ensures { OnOk result (Appends (W.contents writer.old) (W.contents writer.new) (source_refusal fault)) }
+{
+    match fault {
+        SourceFault::LineTooLong => writeln!(writer, "refused LineTooLong"),
+        SourceFault::NoNewline => writeln!(writer, "refused NoNewline"),
+        SourceFault::TooManyLines | SourceFault::ReadFault => Ok(()),
+    }
+}
+
 /// Writes the refusal of a line that can't be read, that names a handler which the client doesn't use, or that the input
 /// doesn't give whole: `refused NAME`, and a word or a number if it has one. Nothing is written for other errors.
 pub fn print_refused<W: Write>(error: &RuntimeError, writer: &mut W) -> io::Result<()>
@@ -90,18 +101,17 @@ pub fn print_refused<W: Write>(error: &RuntimeError, writer: &mut W) -> io::Resu
     match error {
         RuntimeError::Line(_, fault) => print_fault(*fault, writer),
         RuntimeError::NotUsed(_, handler) => writeln!(writer, "refused NotUsed {handler}"),
-        RuntimeError::Input(
-            SourceError {
-                fault: SourceFault::LineTooLong,
-                ..
-            },
-        ) => writeln!(writer, "refused LineTooLong"),
-        RuntimeError::Input(
-            SourceError {
-                fault: SourceFault::NoNewline,
-                ..
-            },
-        ) => writeln!(writer, "refused NoNewline"),
-        _ => Ok(()),
+        RuntimeError::Input(error) => print_unread(error.fault, writer),
+        RuntimeError::InsideBlock
+        | RuntimeError::InsideWhen
+        | RuntimeError::NotReady
+        | RuntimeError::Handlers(_)
+        | RuntimeError::NoHandler(_)
+        | RuntimeError::OtherStates
+        | RuntimeError::NotWelcomed(_)
+        | RuntimeError::NotAnswered(_)
+        | RuntimeError::Refused(_)
+        | RuntimeError::SomeRefused(..)
+        | RuntimeError::Ended(_) => Ok(()),
     }
 }
