@@ -101,11 +101,11 @@ pub keeps_locking : (w : Waited) (tries : ℕ) (e : DriverError) (as bs : List A
 keeps_locking w tries e as bs s t u h (says, drives) = kept says (interrupted_out w tries as s t h) drives
 
 -- the reply to tries that were stopped, or the error if the input has ended
-pub stopped_so : (w : Wish) (r : Result Reply DriverError) (answers : List Answer) (s t u : Seen) → (r ≡ Ok GivenUp) ⊎ (r ≡ Err Interrupted) → u ≡ t
-    → StopsTrying (tried_as w) w.tries s t → TryDoes w r answers s u
-stopped_so w r answers s t u told same stops =
+pub stopped_so : (w : Wish) (r : Result Reply DriverError) (answers : List Answer) (s t u : Seen) → (r ≡ Ok GivenUp) ⊎ (r ≡ Err Interrupted) → answers ≡ []
+    → u ≡ t → StopsTrying (tried_as w) w.tries s t → TryDoes w r answers s u
+stopped_so w r answers s t u told none same stops =
     let stopped : StopsTrying (tried_as w) w.tries s u = subst (λ v. StopsTrying (tried_as w) w.tries s v) (sym same) stops in
     elim told [
-      | inl is ↦ subst (λ x. TryDoes w x answers s u) (sym is) stopped
+      | inl is ↦ subst (λ x. TryDoes w x answers s u) (sym is) (none, stopped)
       | inr is ↦ subst (λ x. TryDoes w x answers s u) (sym is) (left refl stopped)
     ]

@@ -1,6 +1,6 @@
 //! A client session driven by text lines.
 
-ghost use Rattle.std.specs.Prelude.{◌≡◌, ◌⊎◌, None, Ok, Err, OnOk, IsFalse, IsTrue, IfOk, IfErr, IfSome, ◌≤◌, false, is_some};
+ghost use Rattle.std.specs.Prelude.{◌≡◌, ◌⊎◌, [], None, Ok, Err, OnOk, IsFalse, IsTrue, IfOk, IfErr, IfSome, ◌≤◌, false, is_some};
 ghost use Rattle.scoop_client.specs.State.{phase_of};
 ghost use Rattle.scoop_client.specs.declared.command.Command.TheVariants.{Reserve as DoReserve};
 ghost use Rattle.scoop_driver.specs.Calls.{Called, Interrupted};
@@ -546,15 +546,18 @@ impl<'j, L: Link, J: Write + Drop> Session<'j, L, J> {
             .when_all(&block, &mut self.answers, tries, pause, interrupt)
     }
 
-    // The reply to the end of a waiting block whose tries were stopped. If the interrupt leaves, the block waits still.
+    // The reply to the end of a waiting block whose tries were stopped, without answers. If the interrupt leaves, the block waits
+    // still.
     fn stop_wish<I: Interrupt>(
         &mut self,
         wish: Wish,
         interrupt: &mut I,
     ) -> Result<Reply, DriverError>
         ensures stops { (result ≡ Ok Reply.GivenUp) ⊎ (result ≡ Err DriverError.Interrupted) }
+        ensures answers { self.new.answers.items ≡ [] }
         ensures driver { self.new.driver ≡ self.old.driver }
     {
+        self.answers.clear();
         if interrupt.leaves() {
             self.wish = Some(wish);
             return Err(DriverError::Interrupted);
