@@ -22,7 +22,7 @@ import kazhneg
 import kazhneg.aio
 
 # Seconds for a reply that doesn't come. A start has to take less.
-TIMEOUT = 1.5
+TIMEOUT = 5
 ACCOUNTS = {"ann": ["account", [100]], "shop": ["account", [0]]}
 PURSES = {"ann": ["purse", [100, 0]], "shop": ["purse", [0, 0]]}
 
