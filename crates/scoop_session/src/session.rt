@@ -521,6 +521,7 @@ impl<'j, L: Link, J: Write + Drop> Session<'j, L, J> {
     }
 
     // Tries a block that waits for its condition. Returns the try at which it held, and writes the answers.
+    #[tactic(auto, using(crate::proofs::Tried::tries_in, crate::proofs::Tried::tries_none))]
     fn try_wish<P: Pause, I: Interrupt>(
         &mut self,
         wish: &Wish,
