@@ -79,11 +79,25 @@ fn run_in<T: Net>(
         LinesChoice::None => run_task(rt, net, options, system, ClientMode::Script, &mut Cut),
         LinesChoice::Input => {
             let mode = input_mode(rt);
-            run_task(rt, net, options, system, mode, &mut Input { net, names: &[] })
+            run_task(
+                rt,
+                net,
+                options,
+                system,
+                mode,
+                &mut Input { net, names: &[] },
+            )
         }
         LinesChoice::Pipe => {
             let mode = ClientMode::Piped;
-            run_task(rt, net, options, system, mode, &mut Input { net, names: &[] })
+            run_task(
+                rt,
+                net,
+                options,
+                system,
+                mode,
+                &mut Input { net, names: &[] },
+            )
         }
         LinesChoice::File(path) => {
             let text = read_text(rt, path)?;

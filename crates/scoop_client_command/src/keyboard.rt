@@ -186,13 +186,19 @@ impl<'a> Keyboard<'a> {
     // Whether the next line has come and gives up.
     fn gives_up(&mut self) -> bool {
         self.look() == Ahead::Line
-            && matches!(read_line(self.system, self.lines.line()), Ok(ClientLine::GiveUp))
+            && matches!(
+                read_line(self.system, self.lines.line()),
+                Ok(ClientLine::GiveUp)
+            )
     }
 
     // Whether the next line has come and ends the client.
     fn quits(&mut self) -> bool {
         self.look() == Ahead::Line
-            && matches!(read_line(self.system, self.lines.line()), Ok(ClientLine::Quit))
+            && matches!(
+                read_line(self.system, self.lines.line()),
+                Ok(ClientLine::Quit)
+            )
     }
 }
 

@@ -163,7 +163,7 @@ drives_failed w tries e answers s t (kept {begun} says out drives) =
     drives_both s begun t (drives_out w tries (Err Interrupted) [] s begun out) drives
 
 drives_tries : (w : Wish) (o : Result Reply DriverError) (answers : List Answer) (s t : Seen) → TryDoes w o answers s t → Drives s t
-drives_tries w (Ok (EndedAt tried)) answers s t (xs, goes, gives) = (xs, goes)
+drives_tries w (Ok (EndedAt k)) answers s t (xs, goes, gives) = (xs, goes)
 drives_tries w (Ok GivenUp) answers s t (none, stops) = drives_stopped (tried_as w) w.tries s t stops
 drives_tries w (Err e) answers s t fails = drives_failed (tried_as w) w.tries e answers s t fails
 drives_tries w (Ok reply) answers s t does = absurd does

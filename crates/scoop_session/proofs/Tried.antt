@@ -1,6 +1,7 @@
 -- The tries of a waiting block, whole or stopped.
 use Rattle.std.proofs.Common.{◌≡◌, ℕ, ◌<◌, ◌≤◌, ◌⊎◌, List, [], Result, Ok, Err, inl, inr, refl, sym, subst, arith}
 use Rattle.scoop_message.specs.declared.request.Answer.{Answer}
+use Rattle.scoop_client.specs.declared.error.ClientError.TheVariants.{OutOfMemory}
 use Rattle.scoop_client.specs.State.{ClientState}
 use Rattle.scoop_driver.specs.declared.error.DriverError.{DriverError}
 use Rattle.scoop_driver.specs.declared.error.DriverError.TheVariants.{Client, TurnsOver, LinkFault, ConditionFailed, Interrupted}
@@ -46,16 +47,16 @@ tries_ended w tries k answers s t (inl h) = elim h.whole [
 -- ---- errors
 
 -- the answers say nothing after an error
-other_answers : (w : Waited) (tries : ℕ) (e : DriverError) (as bs : List Answer) (c : ClientState) (steps : List Step) (new : Seen)
-    → WaitGives w tries (Err e) as c steps new → WaitGives w tries (Err e) bs c steps new
-other_answers w tries (Client e) as bs c steps new h = h
-other_answers w tries TurnsOver as bs c steps new h = h
-other_answers w tries LinkFault as bs c steps new h = h
-other_answers w tries (ConditionFailed k) as bs c steps new h = h
-other_answers w tries Interrupted as bs c steps new h = h
+other_answers : (w : Waited) (tries : ℕ) (e : DriverError) (xs ys : List Answer) (c : ClientState) (steps : List Step) (new : Seen)
+    → WaitGives w tries (Err e) xs c steps new → WaitGives w tries (Err e) ys c steps new
+other_answers w tries (Client e) xs ys c steps new h = h
+other_answers w tries TurnsOver xs ys c steps new h = h
+other_answers w tries LinkFault xs ys c steps new h = h
+other_answers w tries (ConditionFailed k) xs ys c steps new h = h
+other_answers w tries Interrupted xs ys c steps new h = h
 
-out_with : (w : Waited) (tries : ℕ) (e : DriverError) (as bs : List Answer) (s t : Seen) → TriesOut w tries (Err e) as s t → TriesOut w tries (Err e) bs s t
-out_with w tries e as bs s t (steps, goes, gives) = (steps, goes, other_answers w tries e as bs s.client steps t gives)
+out_with : (w : Waited) (tries : ℕ) (e : DriverError) (xs ys : List Answer) (s t : Seen) → TriesOut w tries (Err e) xs s t → TriesOut w tries (Err e) ys s t
+out_with w tries e xs ys s t (steps, goes, gives) = (steps, goes, other_answers w tries e xs ys s.client steps t gives)
 
 -- all tries, unless the error says how many there were
 abbrev NotFailed : DriverError → ℕ → Type 0
@@ -67,38 +68,38 @@ whole_of e tries limit many within early =
     let same : e ≡ ConditionFailed limit = cc in
     omega (arith, many limit same, within)
 
-pub tries_failed : (w : Waited) (tries : ℕ) (e : DriverError) (as bs : List Answer) (s t : Seen) → NotFailed e tries → TriesIn w tries (Err e) as s t
-    → FailsTrying w tries e bs s t
-tries_failed w tries e as bs s t many (inr (memory, same)) = refused (let is : e ≡ Client _ = cc in is) same
-tries_failed w tries e as bs s t many (inl h) =
-    let all : h.limit ≡ tries = elim h.whole [ | inl all ↦ all | inr early ↦ whole_of e tries h.limit many h.within early ] in
-    tried (out_with w tries e as bs s t (subst (λ n. TriesOut w n (Err e) as s t) all h.out))
+pub tries_failed : (w : Waited) (tries : ℕ) (e : DriverError) (xs ys : List Answer) (s t : Seen) → NotFailed e tries → TriesIn w tries (Err e) xs s t
+    → FailsTrying w tries e ys s t
+tries_failed w tries e xs ys s t many (inr (memory, same)) = refused (let is : e ≡ Client OutOfMemory = cc in is) same
+tries_failed w tries e xs ys s t many (inl h) =
+    let all : h.limit ≡ tries = elim h.whole [ inl all ↦ all | inr early ↦ whole_of e tries h.limit many h.within early ] in
+    tried (out_with w tries e xs ys s t (subst (λ n. TriesOut w n (Err e) xs s t) all h.out))
 
 -- ---- tries that were stopped
 
-failed_out : (w : Waited) (k limit : ℕ) (as : List Answer) (s t : Seen) → TriesOut w limit (Err (ConditionFailed k)) as s t
+failed_out : (w : Waited) (k limit : ℕ) (xs : List Answer) (s t : Seen) → TriesOut w limit (Err (ConditionFailed k)) xs s t
     → TriesOut w k (Err (ConditionFailed k)) [] s t
-failed_out w k limit as s t (steps, goes, gives) = (steps, goes, (refl, gives.1))
+failed_out w k limit xs s t (steps, goes, gives) = (steps, goes, (refl, gives.1))
 
-pub stops_between : (w : Waited) (tries k : ℕ) (as : List Answer) (s t : Seen) → k < tries → TriesIn w tries (Err (ConditionFailed k)) as s t
+pub stops_between : (w : Waited) (tries k : ℕ) (xs : List Answer) (s t : Seen) → k < tries → TriesIn w tries (Err (ConditionFailed k)) xs s t
     → StopsTrying w tries s t
-stops_between w tries k as s t below (inr (memory, same)) = cc
-stops_between w tries k as s t below (inl h) = between below (failed_out w k h.limit as s t h.out)
+stops_between w tries k xs s t below (inr (memory, same)) = cc
+stops_between w tries k xs s t below (inl h) = between below (failed_out w k h.limit xs s t h.out)
 
-interrupted_out : (w : Waited) (tries : ℕ) (as : List Answer) (s t : Seen) → TriesIn w tries (Err Interrupted) as s t → TriesOut w tries (Err Interrupted) [] s t
-interrupted_out w tries as s t (inr (memory, same)) = cc
-interrupted_out w tries as s t (inl h) = elim h.whole [
-  | inl all ↦ out_with w tries Interrupted as [] s t (subst (λ n. TriesOut w n (Err Interrupted) as s t) all h.out)
+interrupted_out : (w : Waited) (tries : ℕ) (xs : List Answer) (s t : Seen) → TriesIn w tries (Err Interrupted) xs s t → TriesOut w tries (Err Interrupted) [] s t
+interrupted_out w tries xs s t (inr (memory, same)) = cc
+interrupted_out w tries xs s t (inl h) = elim h.whole [
+  | inl all ↦ out_with w tries Interrupted xs [] s t (subst (λ n. TriesOut w n (Err Interrupted) xs s t) all h.out)
   | inr early ↦ cc
 ]
 
-pub stops_locking : (w : Waited) (tries : ℕ) (as : List Answer) (s t u : Seen) → TriesIn w tries (Err Interrupted) as s t → GaveUp t u
+pub stops_locking : (w : Waited) (tries : ℕ) (xs : List Answer) (s t u : Seen) → TriesIn w tries (Err Interrupted) xs s t → GaveUp t u
     → StopsTrying w tries s u
-stops_locking w tries as s t u h gave = locking (interrupted_out w tries as s t h) gave
+stops_locking w tries xs s t u h gave = locking (interrupted_out w tries xs s t h) gave
 
-pub keeps_locking : (w : Waited) (tries : ℕ) (e : DriverError) (as bs : List Answer) (s t u : Seen) → TriesIn w tries (Err Interrupted) as s t
-    → SaysNoTries e × Drives t u → FailsTrying w tries e bs s u
-keeps_locking w tries e as bs s t u h (says, drives) = kept says (interrupted_out w tries as s t h) drives
+pub keeps_locking : (w : Waited) (tries : ℕ) (e : DriverError) (xs ys : List Answer) (s t u : Seen) → TriesIn w tries (Err Interrupted) xs s t
+    → SaysNoTries e × Drives t u → FailsTrying w tries e ys s u
+keeps_locking w tries e xs ys s t u h (says, drives) = kept says (interrupted_out w tries xs s t h) drives
 
 -- the reply to tries that were stopped, or the error if the input has ended
 pub stopped_so : (w : Wish) (r : Result Reply DriverError) (answers : List Answer) (s t u : Seen) → (r ≡ Ok GivenUp) ⊎ (r ≡ Err Interrupted) → answers ≡ []

@@ -161,7 +161,7 @@ pub data FailsTrying (w : Waited) (tries : ℕ) (e : DriverError) (answers : Lis
   kept : {begun : Seen} → SaysNoTries e → TriesOut w tries (Err Interrupted) [] old begun → Drives begun new → FailsTrying w tries e answers old new
 
 abbrev pub TryDoes : Wish → Result Reply DriverError → List Answer → Seen → Seen → Type 0
-TryDoes w (Ok (EndedAt tried)) answers old new = TriesOut (tried_as w) w.tries (Ok tried) answers old new
+TryDoes w (Ok (EndedAt k)) answers old new = TriesOut (tried_as w) w.tries (Ok k) answers old new
 TryDoes w (Ok GivenUp) answers old new = (answers ≡ []) × StopsTrying (tried_as w) w.tries old new
 TryDoes w (Ok reply) answers old new = ⊥
 TryDoes w (Err e) answers old new = FailsTrying (tried_as w) w.tries e answers old new

@@ -57,8 +57,12 @@ returns-in_err-len-clause-left g c =
     let reader = g.R.Read.remaining c.read_some.new.reader in
     let kept : Keeps (g.R.Read.remaining c.self.inside.reader) reader = c.in_err-len.ensures.bytes in
     on_err c.from_residual.result
-    (rw (← c.self.view_is, c.if-self.true, left_of_empty c.self.inside.chunk c.self.inside.end (g.R.Read.remaining c.self.inside.reader),
-    left_of_empty c.read_some.new.chunk c.self.inside.end reader) kept)
+    (rw (
+      ← c.self.view_is,
+      c.if-self.true,
+      left_of_empty c.self.inside.chunk c.self.inside.end (g.R.Read.remaining c.self.inside.reader),
+      left_of_empty c.read_some.new.chunk c.self.inside.end reader,
+    ) kept)
 
 pub returns-in_default-clause-overflows : goal.returns-in_default-clause-overflows
 returns-in_default-clause-overflows g c =
