@@ -22,8 +22,8 @@ use Rattle.scoop_texts.specs.declared.reply.Reply.TheVariants.{Reserved, Logged,
 use Rattle.scoop_session.specs.declared.wish.Wish.{Wish}
 use Rattle.scoop_session.specs.Obeying.{BeganAndGaveUp, CallDoes, Does, DoesInside, DoesOutside, Drives, EndDoes, GaveUp, GiveUpDoes, GivesUp, Obeys, QueryDoes, ReserveDoes}
 use Rattle.scoop_session.specs.Obeying.{FailsTrying, RunsBlock, SaysNoTries, StopsTrying, TakesTurnsOnly, TriesOut, TryDoes, WhenDoes, tried_as}
-use Rattle.scoop_session.specs.Obeying.FailsTrying.{tried, refused, left, kept}
-use Rattle.scoop_session.specs.Obeying.StopsTrying.{between, locking}
+use Rattle.scoop_session.specs.Obeying.{tried, refused, left, kept}
+use Rattle.scoop_session.specs.Obeying.{between, locking}
 
 pub drives_nothing : (s : Seen) → Drives s s
 drives_nothing s = ([], goes_nothing s)

@@ -14,8 +14,8 @@ use Rattle.scoop_texts.specs.declared.reply.Reply.{Reply}
 use Rattle.scoop_texts.specs.declared.reply.Reply.TheVariants.{GivenUp}
 use Rattle.scoop_session.specs.declared.wish.Wish.{Wish}
 use Rattle.scoop_session.specs.Obeying.{Drives, FailsTrying, GaveUp, SaysNoTries, StopsTrying, TriesIn, TriesOut, TriesUpTo, TryDoes, tried_as}
-use Rattle.scoop_session.specs.Obeying.FailsTrying.{tried, refused, left, kept}
-use Rattle.scoop_session.specs.Obeying.StopsTrying.{between, locking}
+use Rattle.scoop_session.specs.Obeying.{tried, refused, left, kept}
+use Rattle.scoop_session.specs.Obeying.{between, locking}
 
 -- ---- the driver's wait
 
