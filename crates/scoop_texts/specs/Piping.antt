@@ -42,10 +42,13 @@ refusal_with name word = codes "refused " ++ (name ++ (codes " " ++ (word ++ 10 
 abbrev pub word_refusal : List ℕ → ShownWord → List ℕ
 word_refusal name word = refusal_with name (letters_text word.letters)
 
+-- of a line whose first word is unknown, or that has none
+abbrev pub unknown_refusal : List ℕ → ShownWord → List ℕ
+unknown_refusal name word = if is_wordless word.letters then refusal_of name else word_refusal name word
+
 -- of a line that can't be read
 abbrev pub fault_refusal : LineFault → List ℕ
-fault_refusal (line.UnknownLine word) =
-    if is_wordless word.letters then refusal_of (fault_name (line.UnknownLine word)) else word_refusal (fault_name (line.UnknownLine word)) word
+fault_refusal (line.UnknownLine word) = unknown_refusal (fault_name (line.UnknownLine word)) word
 fault_refusal line.WrongNumberOfWords = refusal_of (fault_name line.WrongNumberOfWords)
 fault_refusal (line.NotANumber word) = word_refusal (fault_name (line.NotANumber word)) word
 fault_refusal (line.TooFewArguments wanted) = refusal_with (fault_name (line.TooFewArguments wanted)) (decimal wanted)

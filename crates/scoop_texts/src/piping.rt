@@ -3,7 +3,7 @@
 ghost use Rattle.std.specs.Prelude.{◌≡◌, OnOk};
 ghost use Rattle.std.specs.Io.KnownBytes.{Appends};
 ghost use Rattle.std.specs.Fmt.{decimal};
-ghost use Rattle.scoop_texts.specs.Piping.{fault_name, fault_refusal, first_text, is_wordless, refusal_of, refusal_with, refused_text, source_refusal, word_refusal};
+ghost use Rattle.scoop_texts.specs.Piping.{fault_name, fault_refusal, first_text, is_wordless, refusal_of, refusal_with, refused_text, source_refusal, unknown_refusal, word_refusal};
 
 use crate::error::RuntimeError;
 use scoop_lines::SourceFault;
@@ -63,14 +63,25 @@ fn print_number<W: Write>(name: &str, number: usize, writer: &mut W) -> io::Resu
     writeln!(writer, "refused {name} {number}")
 }
 
+// Writes the refusal of a line whose first word is unknown, or that has none.
+fn print_unknown<W: Write>(name: &str, word: ShownWord, writer: &mut W) -> io::Result<()>
+    ensures { OnOk result (Appends (W.contents writer.old) (W.contents writer.new) (unknown_refusal name.now word)) }
+{
+    let letters = word.letters;
+    if is_wordless(&letters) {
+        print_name(name, writer)
+    } else {
+        print_word(name, word, writer)
+    }
+}
+
 // Writes the refusal of a line that can't be read.
 fn print_fault<W: Write>(fault: LineFault, writer: &mut W) -> io::Result<()>
     ensures { OnOk result (Appends (W.contents writer.old) (W.contents writer.new) (fault_refusal fault)) }
 {
     let name = fault_name(fault);
     match fault {
-        LineFault::UnknownLine(word) if is_wordless(&word.letters) => print_name(name, writer),
-        LineFault::UnknownLine(word) => print_word(name, word, writer),
+        LineFault::UnknownLine(word) => print_unknown(name, word, writer),
         LineFault::WrongNumberOfWords => print_name(name, writer),
         LineFault::NotANumber(word) => print_word(name, word, writer),
         LineFault::TooFewArguments(wanted) => print_number(name, wanted, writer),
