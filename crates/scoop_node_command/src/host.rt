@@ -182,24 +182,40 @@ where
         notes: Stderr,
         ending: &Ending,
     ) -> Result<K, RuntimeError> {
-        let NodeRun {
-            plan,
-            watch,
-            keeper,
-            link,
-        } = self;
+        let watch = self.watch;
         let ended = match BufWriter::new(alloc, output) {
             Ok(output) => {
-                let mut lines = WatchedOutput::new(output, threads, watch);
+                let lines = WatchedOutput::new(output, threads, watch);
                 let notes = SlowNotes::new(notes, SystemTimes::new(threads));
-                let mut link = PatientLink::new(link, notes);
-                let mut around = Around { lines: &mut lines, ending };
-                node_run(threads, alloc, plan, keeper, &mut link, &mut around)
+                self.run_noted(alloc, threads, lines, notes, ending)
             }
             Err(_) => Err(RuntimeError::from(OutOfMemory)),
         };
         watch.end();
         ended
+    }
+
+    // Runs the node with these lines and notes.
+    fn run_noted<T: Threads + Wait + Clock + Sync, W: Write + Drop, E: Write + Drop>(
+        self,
+        alloc: Global,
+        threads: &T,
+        mut lines: W,
+        notes: E,
+        ending: &Ending,
+    ) -> Result<K, RuntimeError> {
+        let NodeRun {
+            plan,
+            keeper,
+            link,
+            ..
+        } = self;
+        let mut link = PatientLink::new(link, notes);
+        let mut around = Around {
+            lines: &mut lines,
+            ending,
+        };
+        node_run(threads, alloc, plan, keeper, &mut link, &mut around)
     }
 }
 

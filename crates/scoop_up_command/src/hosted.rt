@@ -7,50 +7,19 @@ use scoop_message::OutOfMemory;
 use scoop_node_command::{Host, HostKeeper, HostLink, NodeRun, Task};
 use scoop_opening::{node_end, report_plainly};
 use scoop_report::{Hints, Status, hint, report};
-use scoop_runtime::{Ending, RuntimeError, Tables};
+use scoop_runtime::{Ending, Objects, RuntimeError, Tables};
 use std::alloc::Global;
 use std::io::{Stderr, Write};
 use std::sync::Wait;
 use std::thread;
-use std::thread::Threads;
+use std::thread::{JoinHandle, Scope, Threads};
 use std::time::Clock;
 
-// A node before it runs, which its thread takes, and how it ended.
-#[derive(Drop)]
-struct Hosted<'r, K: Drop, L: Drop> {
-    run: Option<NodeRun<'r, Tables, K, L>>,
-    ended: Option<Result<K, RuntimeError>>,
-}
+// A host over a store K, before it runs.
+type RunOver<'r, K, T> = NodeRun<'r, Tables, HostKeeper<'r, K, T>, HostLink<'r, T>>;
 
-impl<'r, K: Keeper<Global> + Send, L: Link> Hosted<'r, K, L> {
-    fn new(run: NodeRun<'r, Tables, K, L>) -> Hosted<'r, K, L> {
-        Hosted {
-            run: Some(run),
-            ended: None,
-        }
-    }
-
-    // Runs the node until it is asked to end. If it ends early, a line says so at once. Its lines go there too.
-    fn run<T: Threads + Wait + Clock + Sync>(
-        &mut self,
-        alloc: Global,
-        threads: &T,
-        mut output: Stderr,
-        ending: &Ending,
-    ) {
-        let Some(run) = self.run.take() else {
-            return;
-        };
-        let ended = run.run(alloc, threads, output, output, ending);
-        if let Err(error) = &ended {
-            let _told = writeln!(output, "scoop: a node has ended: {error}");
-        }
-        self.ended = Some(ended);
-    }
-}
-
-// A host over a store K, as its thread has it.
-type HostedOver<'r, K, T> = Hosted<'r, HostKeeper<'r, K, T>, HostLink<'r, T>>;
+// How each node ended, if it ran.
+type Ends<K> = Vec<Option<Result<K, RuntimeError>>>;
 
 /// How a task and the nodes beside it ended.
 #[derive(Drop)]
@@ -83,14 +52,14 @@ where
         Ok(nodes) => nodes,
         Err(error) => return Err(report_plainly(rt, RuntimeError::from(error))),
     };
-    let (nodes, gave) = run_beside(rt, threads, nodes, task);
+    let (ends, gave) = run_beside(rt, threads, nodes, task);
     let mut ran = Ran {
         gave,
         ended: Ok(()),
         keepers: Vec::new(rt.alloc()),
     };
-    for (host, node) in hosts.iter().zip(nodes) {
-        let keeper = match node.ended {
+    for (host, end) in hosts.iter().zip(ends) {
+        let keeper = match end {
             Some(Ok(keeper)) => Some(keeper.into_inner()),
             Some(Err(error)) => {
                 let end = node_end(host.name(), error);
@@ -111,11 +80,11 @@ fn prepared<'r, K: SharedKeeper<Global> + Send, T: Wait + Clock + Sync>(
     hosts: &'r [Host<'_, '_, '_, Tables>],
     links: Vec<UdpLink>,
     keepers: Vec<K>,
-) -> Result<Vec<HostedOver<'r, K, T>>, OutOfMemory> {
+) -> Result<Vec<RunOver<'r, K, T>>, OutOfMemory> {
     let mut nodes = Vec::new(rt.alloc());
     for ((host, link), keeper) in hosts.iter().zip(links).zip(keepers) {
         match host.prepare(rt, threads, link, keeper) {
-            Ok(run) => match nodes.push(Hosted::new(run)) {
+            Ok(run) => match nodes.push(run) {
                 Ok(()) => {}
                 Err(_) => return Err(OutOfMemory),
             },
@@ -125,37 +94,74 @@ fn prepared<'r, K: SharedKeeper<Global> + Send, T: Wait + Clock + Sync>(
     Ok(nodes)
 }
 
-// Starts a thread for each node, does the task in this one, asks the nodes to end, and waits for all. Returns the nodes, and what
-// the task gave.
+// Starts a thread for each node, does the task in this one, asks the nodes to end, and waits for all. Returns how each ended, and
+// what the task gave. Their lines go to standard error. If one ends early, a line says so at once.
 fn run_beside<'r, K, L, S, T, E>(
     rt: &'r HostRuntime,
     threads: &'r T,
-    mut nodes: Vec<Hosted<'r, K, L>>,
+    nodes: Vec<NodeRun<'r, Tables, K, L>>,
     task: S,
-) -> (Vec<Hosted<'r, K, L>>, E)
+) -> (Ends<K>, E)
 where
     K: Keeper<Global> + Send,
     L: Link + Send,
     S: Task<E>,
     T: Threads + Wait + Clock + Sync,
 {
-    let lent = nodes.as_mut_slice();
     let (alloc, output) = (rt.alloc(), rt.stderr());
     let ending = Ending::new();
     let ending = &ending;
-    let ran = thread::scope(thread::scope_env(), threads, move |scope| {
-        let each = lent.iter_mut();
+    thread::scope(thread::scope_env(), threads, move |scope| {
+        let mut running = Vec::new(alloc);
+        let each = nodes.into_iter();
         for node in each {
-            let spawned = scope.spawn(move || node.run(alloc, threads, output, ending));
-            if spawned.is_err() {
+            let started = start(scope, alloc, threads, node, output, ending);
+            if started.is_none() {
                 report_no_thread(rt);
             }
+            let _kept = running.push(started);
         }
-        let ran = task.run();
+        let gave = task.run();
         ending.ask();
-        ran
-    });
-    (nodes, ran)
+        let mut ends = Vec::new(alloc);
+        for handle in running {
+            let _kept = ends.push(match handle {
+                Some(handle) => Some(handle.join(threads)),
+                None => None,
+            });
+        }
+        (ends, gave)
+    })
+}
+
+// Starts the thread of a node, if the operating system has one more. In a function of its own, where the search for `Send` has few
+// facts to look at.
+fn start<'s, X, O, K, L, T>(
+    scope: &Scope<'s, X>,
+    alloc: Global,
+    threads: &'s T,
+    node: NodeRun<'s, O, K, L>,
+    output: Stderr,
+    ending: &'s Ending,
+) -> Option<JoinHandle<Result<K, RuntimeError>>>
+where
+    O: Objects + Sync + 's,
+    K: Keeper<Global> + Send + 's,
+    L: Link + Send + 's,
+    T: Threads + Wait + Clock + Sync + 's,
+{
+    match scope.spawn(move || told(node.run(alloc, threads, output, output, ending), output)) {
+        Ok(handle) => Some(handle),
+        Err(_) => None,
+    }
+}
+
+// Says if a node has ended early.
+fn told<K>(ended: Result<K, RuntimeError>, mut output: Stderr) -> Result<K, RuntimeError> {
+    if let Err(error) = &ended {
+        let _told = writeln!(output, "scoop: a node has ended: {error}");
+    }
+    ended
 }
 
 fn report_no_thread(rt: &HostRuntime) {

@@ -7,15 +7,14 @@ use scoop_client_command::{
 use scoop_command_line::{JournalChoice, StoreChoice, UpOptions};
 use scoop_etcd_place::begins_as_etcd;
 use scoop_etcd_stores::Fate;
-use scoop_files::{FileError, StoreName, report_file};
+use scoop_files::{FileError, FiledStore, StoreName, close_named, report_file};
 use scoop_journal::Owner;
 use scoop_link::UdpLink;
 use scoop_message::{ClientId, OutOfMemory};
 use scoop_node_command::{Host, NodeConfig, Task};
 use scoop_opening::{
-    End, NodeKeeper, OpenStore, check_owner, choice_of, close_store, make_folder, node_keeper,
-    open_client, read_system, report_fault, report_plainly, report_range, store_in_node,
-    store_path,
+    End, NodeKeeper, OpenStore, check_owner, choice_of, make_folder, node_keeper, open_client,
+    read_system, report_fault, report_plainly, report_range, store_in_node, store_path,
 };
 use scoop_record::Store;
 use scoop_report::{Hints, Status, hint, report};
@@ -324,18 +323,25 @@ fn run_parties<T: Threads + Wait + Clock + Net + Sync>(
     };
     let mut stores = Vec::new(rt.alloc());
     open_stores(rt, parties, &mut stores)?;
-    let left = run_over_stores(rt, threads, parties, hosts.as_slice(), ports, stores);
-    closed(rt, parties, left, |store, name| close_store(store, name))
+    // they live no longer than this call, as the hosts do
+    let here = Parties {
+        nodes: parties.nodes,
+        client: parties.client,
+        names: parties.names,
+    };
+    let left = run_over_stores(rt, threads, &here, hosts.as_slice(), ports, stores);
+    let Left { ran, ended, stores } = left;
+    closed(rt, parties, ran, ended, stores)
 }
 
 // Runs the nodes and the client over their stores.
-fn run_over_stores<S, T>(
-    rt: &HostRuntime,
-    threads: &T,
-    parties: &Parties<'_, '_, '_>,
-    hosts: &[Host<'_, '_, '_, Tables>],
-    ports: Ports<'_>,
-    mut stores: Vec<OpenStore<'_, S>>,
+fn run_over_stores<'r, S, T>(
+    rt: &'r HostRuntime,
+    threads: &'r T,
+    parties: &Parties<'r, '_, '_>,
+    hosts: &'r [Host<'_, '_, '_, Tables>],
+    ports: Ports<'r>,
+    mut stores: Vec<OpenStore<'r, S>>,
 ) -> Left<S>
 where
     S: Alter + Drop + Send,
@@ -456,25 +462,31 @@ fn gather<S: Alter + Drop + Send>(
 
 // ---- the end
 
-// Closes the stores that are left by this call, and returns how the parties ended: by a store that was lost, the client, or the
-// first node.
-fn closed<S, C>(
+// A store that can be closed under its name. A loop over stores in files is dear at their type, and so has them as a parameter.
+trait Closes: Drop {
+    fn close(self, name: &StoreName) -> Result<(), FileError>;
+}
+
+impl Closes for FiledStore {
+    fn close(self, name: &StoreName) -> Result<(), FileError> {
+        close_named(self, name)
+    }
+}
+
+// Closes the stores that are left, and returns how the parties ended: by a store that was lost, the client, or the first node.
+fn closed<C: Closes>(
     rt: &HostRuntime,
     parties: &Parties<'_, '_, '_>,
-    left: Left<S>,
-    mut close: C,
-) -> Result<(), Status>
-where
-    S: Alter + Drop,
-    C: FnMut(Option<Store<S>>, &StoreName) -> Result<(), FileError>,
-{
-    let Left {
-        ran,
-        mut ended,
-        stores,
-    } = left;
+    ran: Result<(), Status>,
+    mut ended: Result<(), Status>,
+    stores: Vec<Option<C>>,
+) -> Result<(), Status> {
     for (store, name) in stores.into_iter().zip(parties.names) {
-        if let Err(error) = close(store, name) {
+        let closed = match store {
+            Some(store) => store.close(name),
+            None => Ok(()),
+        };
+        if let Err(error) = closed {
             ended = ended.and(Err(report_file(rt, Hints::Always, name.path(), error)));
         }
     }
