@@ -63,7 +63,10 @@ impl Step {
 
     // What is done in it, if it neither hears nor sends.
     fn deed(&self, run: &Explained) -> Option<Deed> {
-        run.remarks().get(self.party)?.deed(self.place)
+        match run.remarks().get(self.party) {
+            Some(remarks) => remarks.deed(self.place),
+            None => None,
+        }
     }
 }
 
@@ -98,7 +101,7 @@ impl Sheet {
     }
 }
 
-// The parties' lifelines: the clients, and the handlers node by node, with their names.
+// The parties' lifelines: the clients, and the handlers node by node.
 fn new_chart(alloc: Global, system: &System) -> Result<Chart, ChartError> {
     let mut clients: Vec<ClientId> = Vec::new(alloc);
     for place in system.clients() {
@@ -113,14 +116,18 @@ fn new_chart(alloc: Global, system: &System) -> Result<Chart, ChartError> {
             }
         }
     }
-    let mut chart = Chart::new(alloc, &clients, &handlers)?;
+    Chart::new(alloc, &clients, &handlers)
+}
+
+// Names the handlers, and says where the moves come from.
+fn name_all(system: &System, chart: &mut Chart) -> Result<(), ChartError> {
     chart.tells_journals();
     for place in system.handlers() {
         if let Some(name) = place.name {
             chart.name(place.handler, name.as_str())?;
         }
     }
-    Ok(chart)
+    Ok(())
 }
 
 // A party hears a message, and a handler may reply.
@@ -181,12 +188,13 @@ fn draw_opened(
     node: u32,
     is_first: bool,
 ) -> Result<(), ChartError> {
+    let again = if is_first { "" } else { "re" };
+    let label = format!(in alloc; "{again}opened node {node}").map_err(OutOfMemory::from)?;
     if is_first {
-        let label = format!(in alloc; "opened node {node}").map_err(OutOfMemory::from)?;
-        return sheet.chart.remark(label.as_bytes());
+        sheet.chart.remark(label.as_bytes())
+    } else {
+        sheet.draw(&Event::NodeRestart(node), WorldNote::Reopened, &label)
     }
-    let label = format!(in alloc; "reopened node {node}").map_err(OutOfMemory::from)?;
-    sheet.draw(&Event::NodeRestart(node), WorldNote::Reopened, &label)
 }
 
 // A party does something that hears and sends nothing.
@@ -302,13 +310,24 @@ fn block_at(run: &Explained, step: Step, is_known: bool) -> Option<Block> {
     }
 }
 
+// Whether the move is one of this block.
+fn is_of(run: &Explained, step: Step, is_known: bool, block: Block) -> bool {
+    match block_at(run, step, is_known) {
+        Some(found) => found == block,
+        None => false,
+    }
+}
+
 // Whether the client gives the command that reserves in this move.
 fn is_reserve(run: &Explained, step: Step, client: ClientId) -> bool {
     let is_own = match run.tales().get(step.party) {
         Some(tale) => tale.party() == PartyName::Client(client),
         None => false,
     };
-    is_own && matches!(step.deed(run), Some(Deed::Gave(Command::Reserve(_))))
+    match step.deed(run) {
+        Some(Deed::Gave(Command::Reserve(_))) => is_own,
+        _ => false,
+    }
 }
 
 /// The first and the last move of the block, counted from 1, from its client's command to reserve on. `None` if the journals
@@ -320,8 +339,8 @@ pub fn moves_of(
 ) -> Result<Option<(u64, u64)>, OutOfMemory> {
     let known = known_sends(alloc, run)?;
     let mut walk = Walk::new(alloc, run)?;
-    let mut reserved = None;
-    let mut moves = None;
+    let mut reserved: Option<u64> = None;
+    let mut moves: Option<(u64, u64)> = None;
     for (at, party) in run.order().iter().enumerate() {
         if let Some(step) = walk.step(run, *party as usize) {
             let number = (at as u64).saturating_add(1);
@@ -329,8 +348,11 @@ pub fn moves_of(
                 reserved = Some(number);
             }
             let is_known = known.get(at).copied().unwrap_or(false);
-            if block_at(run, step, is_known) == Some(block) {
-                let (first, _) = moves.unwrap_or((reserved.unwrap_or(number), number));
+            if is_of(run, step, is_known, block) {
+                let first = match moves {
+                    Some((first, _)) => first,
+                    None => reserved.unwrap_or(number),
+                };
                 moves = Some((first, number));
             }
         }
@@ -356,6 +378,20 @@ pub fn chart_of(
         shown: IndexMap::new(alloc),
         sent: 0,
     };
+    name_all(system, &mut sheet.chart)?;
+    draw_all(alloc, run, &mut sheet, from, to)?;
+    let Sheet { chart, .. } = sheet;
+    Ok(chart)
+}
+
+// Draws the moves of the order from this one to that one.
+fn draw_all(
+    alloc: Global,
+    run: &Explained,
+    sheet: &mut Sheet,
+    from: u64,
+    to: u64,
+) -> Result<(), ChartError> {
     let known = known_sends(alloc, run)?;
     let mut walk = Walk::new(alloc, run)?;
     for (at, party) in run.order().iter().enumerate() {
@@ -363,10 +399,9 @@ pub fn chart_of(
             let number = (at as u64).saturating_add(1);
             if from <= number && number <= to {
                 let is_known = known.get(at).copied().unwrap_or(false);
-                draw_step(alloc, run, &mut sheet, step, is_known)?;
+                draw_step(alloc, run, sheet, step, is_known)?;
             }
         }
     }
-    let Sheet { chart, .. } = sheet;
-    Ok(chart)
+    Ok(())
 }

@@ -119,7 +119,11 @@ impl<A: Allocator + Copy> Chart<A> {
             .extend_from_slice(name.as_bytes())
             .map_err(OutOfMemory::from)?;
         let end = self.letters.len();
-        let named = Named { handler, begin, end };
+        let named = Named {
+            handler,
+            begin,
+            end,
+        };
         self.named.push(named).map_err(OutOfMemory::from)?;
         Ok(())
     }

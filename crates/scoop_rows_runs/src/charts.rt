@@ -9,8 +9,8 @@
 
 use crate::telling::finds;
 use scoop_chart::{Chart, ChartError};
-use scoop_lines::{is, two_words};
 use scoop_handler::Note;
+use scoop_lines::{is, two_words};
 use scoop_message::{Answer, Block, ClientId, HandlerId, Message};
 use scoop_row_player::answers::{keeps, tells, told};
 use scoop_row_player::words::{after_space, first, last, number, text_of};
@@ -119,9 +119,17 @@ fn add(chart: &mut Chart, is_event: bool, count: u32, label: &[u8]) -> Result<()
 // Adds the event of this name.
 fn note(chart: &mut Chart, name: &[u8]) -> Result<(), ChartError> {
     let (event, note, label) = match name {
-        b"begun" => (Event::Begin(ONE), WorldNote::Began(BLOCK, 1), "began 7.1.1 1"),
+        b"begun" => (
+            Event::Begin(ONE),
+            WorldNote::Began(BLOCK, 1),
+            "began 7.1.1 1",
+        ),
         b"sends" => (Event::Tick(SEVEN, ONE), WorldNote::Sent(1), "sent"),
-        _ => (Event::Take(1), WorldNote::Handler(Note::Granted, None), "took"),
+        _ => (
+            Event::Take(1),
+            WorldNote::Handler(Note::Granted, None),
+            "took",
+        ),
     };
     chart.note(&event, &Ok(note), label.as_bytes())
 }

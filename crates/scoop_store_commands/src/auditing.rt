@@ -100,7 +100,11 @@ fn hint_of_silent(rt: &HostRuntime, run: &Explained) -> Result<(), OutOfMemory> 
     }
     if !names.is_empty() {
         let advice = "counts as idle. If it ran, name the file that its --journal wrote";
-        hint(rt, Hints::Always, format_args!("each without a journal ({names}) {advice}"));
+        hint(
+            rt,
+            Hints::Always,
+            format_args!("each without a journal ({names}) {advice}"),
+        );
     }
     Ok(())
 }
@@ -125,7 +129,11 @@ fn report_unexplained(rt: &HostRuntime, found: &Move, wrong: &Wrong) -> Status {
     }
     if let Wrong::Unsent(_, Some(party)) = wrong {
         let advice = "if it ran, name the file that its --journal wrote";
-        hint(rt, Hints::Always, format_args!("{party} has no journal: {advice}"));
+        hint(
+            rt,
+            Hints::Always,
+            format_args!("{party} has no journal: {advice}"),
+        );
     }
     Status(UNEXPLAINED)
 }

@@ -39,9 +39,9 @@ impl Standings {
 
     /// What stands at the handler.
     pub(crate) fn at(&self, handler: HandlerId) -> Standing {
-        for (known, standing) in self.handlers.iter() {
-            if known.0 == handler.0 {
-                return *standing;
+        for known in self.handlers.iter() {
+            if known.0.0 == handler.0 {
+                return known.1;
             }
         }
         NOBODY
@@ -49,18 +49,19 @@ impl Standings {
 
     /// The handler has this state from this time on. A block that stood there before keeps its time.
     pub(crate) fn note(&mut self, state: &HandlerState, time: u64) -> Result<(), OutOfMemory> {
-        let old = self.at(state.handler());
+        let handler = state.handler();
+        let old = self.at(handler);
         let standing = Standing {
             holder: since(old.holder, state.holder(), time),
             front: since(old.front, front_of(state), time),
         };
-        for (known, last) in self.handlers.iter_mut() {
-            if known.0 == state.handler().0 {
-                *last = standing;
+        for known in self.handlers.iter_mut() {
+            if known.0.0 == handler.0 {
+                known.1 = standing;
                 return Ok(());
             }
         }
-        self.handlers.push((state.handler(), standing))?;
+        self.handlers.push((handler, standing))?;
         Ok(())
     }
 }
