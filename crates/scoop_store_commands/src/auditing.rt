@@ -127,15 +127,27 @@ fn report_unexplained(rt: &HostRuntime, found: &Move, wrong: &Wrong) -> Status {
         Ok(()) => {}
         Err(_) => return report_plainly(rt, RuntimeError::from(PartyError::Write)),
     }
-    if let Wrong::Unsent(_, Some(party)) = wrong {
-        let advice = "if it ran, name the file that its --journal wrote";
-        hint(
-            rt,
-            Hints::Always,
-            format_args!("{party} has no journal: {advice}"),
-        );
-    }
+    hint_of_wrong(rt, wrong);
     Status(UNEXPLAINED)
+}
+
+// Prints what may have happened.
+fn hint_of_wrong(rt: &HostRuntime, wrong: &Wrong) {
+    match wrong {
+        Wrong::Unsent(_, Some(party)) => {
+            let advice = "if it ran, name the file that its --journal wrote";
+            hint(
+                rt,
+                Hints::Always,
+                format_args!("{party} has no journal: {advice}"),
+            );
+        }
+        _ => {
+            let advice =
+                "a journal lacks lines, as after a run without --journal, or has changed ones";
+            hint(rt, Hints::Always, advice);
+        }
+    }
 }
 
 // Reports why there is no explanation.
