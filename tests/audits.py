@@ -124,7 +124,7 @@ def a_chart_shows_a_small_run():
         same("bars", picture.text.count('class="bar"'), 0)
         holds("the handler's name", ">handler 1 ann</text>" in picture.text)
         holds("a legend", 'class="legend"' in picture.text)
-        # What a client has to send once, if nothing is lost or late.
+        # A client sends each of these kinds in a block with a call.
         kinds = {label.split()[1] for label in picture.labels("sent ")}
         same("what it sent", kinds, {"Hello", "Lock", "Open", "Unlock", "Log"})
 

@@ -67,7 +67,7 @@ fn report_fault(rt: &HostRuntime, paths: &[&str], place: usize, line: u64, fault
     Status(UNREAD)
 }
 
-// What to do about a fault of a journal.
+// The advice on a fault of a journal.
 fn advice_on(fault: Fault) -> &'static str {
     match fault {
         Fault::Empty | Fault::NoLine => {

@@ -18,7 +18,7 @@ pub struct Standing {
     pub front: Option<Since>,
 }
 
-/// What stands at each handler.
+/// The blocks that stand at each handler.
 #[derive(Drop)]
 pub(crate) struct Standings {
     handlers: Vec<(HandlerId, Standing)>,
@@ -37,7 +37,7 @@ impl Standings {
         }
     }
 
-    /// What stands at the handler.
+    /// The blocks that stand at the handler.
     pub(crate) fn at(&self, handler: HandlerId) -> Standing {
         for known in self.handlers.iter() {
             if known.0.0 == handler.0 {

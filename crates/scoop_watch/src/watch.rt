@@ -84,7 +84,7 @@ impl Watch {
         self.board.lock(rt).state(handler)
     }
 
-    /// What stands at the handler. It may be of a later moment than the state that was read before.
+    /// The blocks that stand at the handler, perhaps at a later moment than that of a state which was read before.
     pub fn standing<R: Wait>(&self, rt: &R, handler: HandlerId) -> Standing {
         self.board.lock(rt).standings.at(handler)
     }
