@@ -156,6 +156,7 @@ fn known_handler(
 ) -> Result<HandlerView, OutOfMemory>
     ensures { IfOk result (λ view. Shows view state.now) }
 {
+    let (holder, front) = (state.holder(), first_block(state.queues()));
     let words = words_of(alloc, state)?;
     let queues = queues_of(alloc, state.queues())?;
     let marks = marks_of(alloc, state)?;
@@ -165,10 +166,10 @@ fn known_handler(
         class: Printed(place.class),
         known: true,
         words,
-        holder: holder_of(state),
-        holder_seconds: ages.of_holder(state.holder()),
-        front: front_of(state),
-        front_seconds: ages.of_front(first_block(state.queues())),
+        holder: printed(holder),
+        holder_seconds: ages.of_holder(holder),
+        front: printed(front),
+        front_seconds: ages.of_front(front),
         queues,
         marks,
     })
@@ -184,10 +185,11 @@ fn words_of(alloc: Global, state: &HandlerState) -> Result<Vec<u64>, OutOfMemory
     }
 }
 
-fn holder_of(state: &HandlerState) -> Option<Printed<Block>>
-    ensures { result ≡ option_map printed_block state.now.holder }
+// A block as it is shown, if there is one.
+fn printed(block: Option<Block>) -> Option<Printed<Block>>
+    ensures { result ≡ option_map printed_block block }
 {
-    match state.holder() {
+    match block {
         Some(block) => Some(Printed(block)),
         None => None,
     }
@@ -199,15 +201,6 @@ fn first_block(queues: &QueueOfQueues) -> Option<Block>
 {
     match queues.head(0) {
         Some(head) => Some(head.block),
-        None => None,
-    }
-}
-
-fn front_of(state: &HandlerState) -> Option<Printed<Block>>
-    ensures { result ≡ option_map printed_block (first_block state.now.queues) }
-{
-    match first_block(state.queues()) {
-        Some(block) => Some(Printed(block)),
         None => None,
     }
 }
