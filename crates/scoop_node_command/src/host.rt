@@ -193,7 +193,10 @@ where
                 let mut lines = WatchedOutput::new(output, threads, watch);
                 let notes = SlowNotes::new(notes, SystemTimes::new(threads));
                 let mut link = PatientLink::new(link, notes);
-                let mut around = Around { lines: &mut lines, ending };
+                let mut around = Around {
+                    lines: &mut lines,
+                    ending,
+                };
                 node_run(threads, alloc, plan, keeper, &mut link, &mut around)
             }
             Err(_) => Err(RuntimeError::from(OutOfMemory)),

@@ -110,6 +110,7 @@ pub fn serves_tape<R: Threads + Wait + Clock + Sync>(
     tells(PartyError::from(end), answer)?;
     if end == ServeEnd::OutOfMemory {
         nodes.node = None;
+        nodes.passes = Vec::new(nodes.heap);
         return Ok(());
     }
     nodes.fed.clear();

@@ -403,8 +403,7 @@ struct Beside<'a, 's, 'o, 'r, S: Alter + Drop, T: Net> {
     store: OpenStore<'r, S>,
 }
 
-impl<'a, 's, 'o, 'r, S: Alter + Drop, T: Net> Task<ClientEnd<S>>
-    for Beside<'a, 's, 'o, 'r, S, T> {
+impl<'a, 's, 'o, 'r, S: Alter + Drop, T: Net> Task<ClientEnd<S>> for Beside<'a, 's, 'o, 'r, S, T> {
     fn run(self) -> ClientEnd<S> {
         let Beside {
             rt,
