@@ -52,8 +52,8 @@ impl Standings {
         let handler = state.handler();
         let old = self.at(handler);
         let standing = Standing {
-            holder: since(old.holder, state.holder(), time),
-            front: since(old.front, front_of(state), time),
+            holder: kept_or_new(old.holder, state.holder(), time),
+            front: kept_or_new(old.front, front_of(state), time),
         };
         for known in self.handlers.iter_mut() {
             if known.0.0 == handler.0 {
@@ -75,7 +75,7 @@ fn front_of(state: &HandlerState) -> Option<Block> {
 }
 
 // The block that stands in the old one's place, which it may be itself.
-fn since(old: Option<Since>, block: Option<Block>, time: u64) -> Option<Since> {
+fn kept_or_new(old: Option<Since>, block: Option<Block>, time: u64) -> Option<Since> {
     let block = block?;
     match old {
         Some(old) if old.block == block => Some(old),
