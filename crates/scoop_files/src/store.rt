@@ -15,11 +15,21 @@ pub type FiledStore = Store<FileStore<File>>;
 
 /// A new store in the file, which is made if there is none. `Taken` if the file has anything.
 pub fn create(rt: &HostRuntime, path: &str) -> Result<FiledStore, FileError> {
-    let connection = open(rt, path)?;
+    match open(rt, path) {
+        Ok(connection) => create_in(rt.alloc(), connection),
+        Err(error) => Err(error),
+    }
+}
+
+// The same in a database. Over any medium: at the files' type each exit that drops a connection takes some 20 seconds to prove.
+fn create_in<S: Alter + Drop>(
+    alloc: Global,
+    connection: Connection<S>,
+) -> Result<Store<S>, FileError> {
     if !is_blank(&connection) {
         return Err(FileError::Taken);
     }
-    match Store::create(rt.alloc(), connection) {
+    match Store::create(alloc, connection) {
         Ok(store) => Ok(store),
         Err(refusal) => Err(refused(refusal, FileError::Taken)),
     }
@@ -66,10 +76,7 @@ fn begun_with<S: Alter + Drop>(
             Err(error) => return Err(error),
         }
     }
-    match Store::adopt(alloc, connection) {
-        Ok(store) => Ok(store),
-        Err(refusal) => Err(refused(refusal, FileError::NoStore)),
-    }
+    adopt_in(alloc, connection)
 }
 
 // Stores the incarnation of a client that has none there.
@@ -89,8 +96,18 @@ fn put_incarnation<S: Alter>(
 
 /// The store that is in the file. Makes no file. `NoStore` if the file lacks a store's tables.
 pub fn adopt(rt: &HostRuntime, path: &str) -> Result<FiledStore, FileError> {
-    let connection = open_old(rt, path)?;
-    match Store::adopt(rt.alloc(), connection) {
+    match open_old(rt, path) {
+        Ok(connection) => adopt_in(rt.alloc(), connection),
+        Err(error) => Err(error),
+    }
+}
+
+// The store that is in a database.
+fn adopt_in<S: Alter + Drop>(
+    alloc: Global,
+    connection: Connection<S>,
+) -> Result<Store<S>, FileError> {
+    match Store::adopt(alloc, connection) {
         Ok(store) => Ok(store),
         Err(refusal) => Err(refused(refusal, FileError::NoStore)),
     }
@@ -108,14 +125,22 @@ pub fn adopt_since(
     client: ClientId,
     least: u32,
 ) -> Result<FiledStore, FileError> {
-    let mut connection = open_old(rt, path)?;
-    match require_client(rt.alloc(), &mut connection, client, least) {
-        Ok(()) => {}
-        Err(error) => return Err(error),
+    match open_old(rt, path) {
+        Ok(connection) => adopt_with(rt.alloc(), connection, client, least),
+        Err(error) => Err(error),
     }
-    match Store::adopt(rt.alloc(), connection) {
-        Ok(store) => Ok(store),
-        Err(refusal) => Err(refused(refusal, FileError::NoStore)),
+}
+
+// The store that is in a database with such an incarnation of the client.
+fn adopt_with<S: Alter + Drop>(
+    alloc: Global,
+    mut connection: Connection<S>,
+    client: ClientId,
+    least: u32,
+) -> Result<Store<S>, FileError> {
+    match require_client(alloc, &mut connection, client, least) {
+        Ok(()) => adopt_in(alloc, connection),
+        Err(error) => Err(error),
     }
 }
 

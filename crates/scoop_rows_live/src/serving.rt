@@ -106,7 +106,19 @@ pub fn serves_tape<R: Threads + Wait + Clock + Sync>(
     }
     let counts = NodeCounts::new(nodes.alloc)?;
     let mut link = link_over(rt, nodes, line, &counts)?;
-    let end = serves_over(rt, nodes, &mut link, turns, line.ends_with(b"shut"))?;
+    serves_link(rt, nodes, &mut link, turns, line.ends_with(b"shut"), answer)
+}
+
+// The link is lent: each exit would prove the drop of an owned one.
+fn serves_link<R: Threads + Wait + Clock + Sync>(
+    rt: &R,
+    nodes: &mut Nodes<'_>,
+    link: &mut Link<'_, '_, R>,
+    turns: u64,
+    is_shut: bool,
+    answer: &mut Vec<u8>,
+) -> Result<(), Bad> {
+    let end = serves_over(rt, nodes, link, turns, is_shut)?;
     tells(PartyError::from(end), answer)?;
     if end == ServeEnd::OutOfMemory {
         nodes.node = None;

@@ -15,8 +15,7 @@
 use crate::disk::files;
 use crate::keeping::keeper_does;
 use scoop_files::{
-    FileError, FiledStore, NameWatch, Named, StoreName, adopt_for, close_named, create_after,
-    update_marks,
+    FileError, NameWatch, Named, StoreName, adopt_for, close_named, create_after, update_marks,
 };
 use scoop_journal::{Journal, JournalFile, Owner, read};
 use scoop_keeper::{FailingKeeper, Keeper, MemoryKeeper};
@@ -86,6 +85,25 @@ impl<'a, S: Alter + Drop> Folder<'a, S> {
             watch: None,
             held: None,
             start: None,
+        }
+    }
+
+    // Does what neither opens nor closes a store in a file.
+    fn does_more(&mut self, command: &[u8], answer: &mut Vec<u8>) -> Result<(), Bad> {
+        let (name, line) = first(command)?;
+        match name {
+            b"keep" => self.begins(line, answer),
+            b"next" | b"put" | b"load" | b"commit" => self.gives(command, answer),
+            b"times" => self.repeats(line, answer),
+            b"lost" => tells(self.name.is_lost(), answer),
+            b"watch" | b"named" => self.watches(name, answer),
+            b"hold" => self.holds(line, answer),
+            b"start" => {
+                self.start = Instant::now(self.rt).ok();
+                tells("ok", answer)
+            }
+            b"stays" => self.stays(line, answer),
+            _ => does_beside(self.rt, name, line, answer),
         }
     }
 
@@ -166,19 +184,8 @@ impl Subject for FileFolder<'_> {
                 let taken = adopt_for(self.rt, STORE, CLIENT);
                 keeps_opened(self.rt, self.name, taken, &mut self.keeper, answer)
             }
-            b"keep" => self.begins(line, answer),
             b"close" => self.closes(answer),
-            b"next" | b"put" | b"load" | b"commit" => self.gives(command, answer),
-            b"times" => self.repeats(line, answer),
-            b"lost" => tells(self.name.is_lost(), answer),
-            b"watch" | b"named" => self.watches(name, answer),
-            b"hold" => self.holds(line, answer),
-            b"start" => {
-                self.start = Instant::now(self.rt).ok();
-                tells("ok", answer)
-            }
-            b"stays" => self.stays(line, answer),
-            _ => does_beside(self.rt, name, line, answer),
+            _ => self.does_more(command, answer),
         }
     }
 }
@@ -218,11 +225,11 @@ fn tells_closed(closed: Result<(), FileError>, answer: &mut Vec<u8>) -> Result<(
 }
 
 // Keeps a store that was opened, and looks after its name.
-fn keeps_opened<'a>(
+fn keeps_opened<'a, S: Alter + Drop>(
     rt: &'a HostRuntime,
     name: &'a StoreName,
-    opened: Result<FiledStore, FileError>,
-    keeper: &mut Option<Kept<'a, FileStore<File>>>,
+    opened: Result<Store<S>, FileError>,
+    keeper: &mut Option<Kept<'a, S>>,
     answer: &mut Vec<u8>,
 ) -> Result<(), Bad> {
     match opened {
