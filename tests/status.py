@@ -92,10 +92,62 @@ def the_json_shows_what_the_node_holds():
         same("the handler's queues", handler["queues"], [{"block": "11.1.1", "state": "open", "pending": 0, "next": 3}])
         marks = [{"client": 11, "incarnation": 1, "block": 1, "stage": "open", "received": 2, "ended": False}]
         same("the handler's marks", handler["marks"], marks)
-        same("the client", [it for it in shown["clients"] if it["client"] == 11],
-             [{"client": 11, "named": True, "incarnation": 1, "handlers": 1}])
+        same("the handler's first queue", (handler["front"], handler["holder_seconds"]), ("11.1.1", None))
+        clients = [it for it in shown["clients"] if it["client"] == 11]
+        same("the client", [dict(it, heard_seconds=0) for it in clients],
+             [{"client": 11, "named": True, "incarnation": 1, "handlers": 1, "heard_seconds": 0}])
         client.ask("end", "ended")
         until("the queue has run to its end", lambda: system.shown(1)["handlers"][0]["queues"], equal_to([]))
+
+
+def handler_of(system, number):
+    return system.shown(number)["handlers"][0]
+
+
+def heard(system, client):
+    """How many seconds ago node 1 heard the client."""
+    return next(it["heard_seconds"] for it in system.shown(1)["clients"] if it["client"] == client)
+
+
+@test
+def the_age_of_a_block_in_front_grows_and_a_waiting_client_is_heard():
+    with Watched() as system:
+        system.serve()
+        one, other = system.client(11), system.client(12)
+        one.ask("reserve 1", "reserved 11.1.1")
+        one.ask("query 1 get", "answer 0")
+        other.ask("reserve 1", "reserved 12.1.1")
+        other.tell("query 1 get\n")
+        shown = until("block 11.1.1 is in front for three seconds", lambda: handler_of(system, 1), lambda it: (it["front_seconds"] or 0) >= 3)
+        same("the block in front, and the holder", (shown["front"], shown["holder"], shown["holder_seconds"]), ("11.1.1", None, None))
+        until("client 11, which has nothing to send, isn't heard for three seconds", lambda: heard(system, 11), lambda it: it >= 3)
+        for _ in range(20):
+            holds("client 12, which waits, was heard within two seconds", heard(system, 12) <= 2)
+            time.sleep(0.1)
+        metrics = gets(system.statuses[1], "/metrics")[1].decode()
+        for line in (r'scoop_handler_front_seconds\{handler="1",client="11"\} [3-9]', r'scoop_client_heard_seconds\{client="11"\} [3-9]'):
+            holds(f"a line {line}", re.search(f"^{line}", metrics, re.M), metrics)
+        page = gets(system.statuses[1], "/")[1].decode()
+        holds("the page's ages", re.search(r"<td>block 11\.1\.1, \d+ s<td>", page) and re.search(r"<td>\d+ s ago<td>", page), page)
+        one.ask("end", "ended")
+        other.expect("answer 0")
+        until("block 12.1.1 is in front", lambda: handler_of(system, 1)["front"], equal_to("12.1.1"))
+
+
+@test
+def the_age_of_a_holder_grows():
+    with Watched() as system:
+        _, second = system.serve()
+        client = system.client(11)
+        client.ask("reserve 1 2", "reserved 11.1.1")
+        client.ask("end", "ended")
+        second.kill()
+        # It gets the lock of handler 1, and waits for that of handler 2.
+        client.tell("reserve 1 2\n")
+        shown = until("block 11.1.2 holds for two seconds", lambda: handler_of(system, 1), lambda it: (it["holder_seconds"] or 0) >= 2)
+        same("the holder, and the block in front", (shown["holder"], shown["front"], shown["front_seconds"]), ("11.1.2", None, None))
+        metrics = gets(system.statuses[1], "/metrics")[1].decode()
+        holds("a metric", re.search(r'^scoop_handler_holder_seconds\{handler="1",client="11"\} [2-9]', metrics, re.M), metrics)
 
 
 @test

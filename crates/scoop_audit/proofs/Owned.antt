@@ -16,7 +16,6 @@ use Rattle.scoop_audit.specs.contracts.error.PartyNamePartialEq.TheImpl as on_pa
 use Rattle.scoop_audit.specs.declared.error.PartyName.{PartyName}
 use Rattle.scoop_audit.specs.declared.error.PartyName.TheVariants.{Node, Client}
 use Rattle.scoop_audit.specs.declared.roster.Member.{Member}
-use Rattle.scoop_audit.specs.Lines.{HasNoNewline}
 use Rattle.scoop_audit.specs.Members.{HasItsOwn, IsGiven, Owns, client_member, members_in, node_member, places_of, who, with_journal}
 use Rattle.scoop_audit.specs.Parties.{nodes_in}
 use Rattle.scoop_audit.specs.Run.{AreOwned, journal_at}
@@ -75,15 +74,6 @@ last_at [] x y (suc i) at = absurd (cc)
 last_at (z ∷ xs) x y zero at = inl at
 last_at (z ∷ xs) x y (suc i) at = elim (last_at xs x y i at) [ inl e ↦ inl e | inr e ↦ inr (ap (λ n. suc n) e.0, e.1) ]
 
-blank_owned : (js : List (List ℕ)) (j : List ℕ) (ps : List (Option ℕ)) → AreOwned js ps → HasNoNewline j → AreOwned (js ++ j ∷ []) ps
-blank_owned js j ps owned blank =
-    record {
-      within = λ i place at. let h = owned.within i place at in omega (arith, length-append js (j ∷ []));
-      once = owned.once;
-      all = λ place bytes at.
-          elim (last_at js j bytes place at) [ inl e ↦ owned.all place bytes e | inr e ↦ inl (subst HasNoNewline (sym e.1) blank) ];
-    }
-
 one_owned : (js : List (List ℕ)) (j : List ℕ) (ps : List (Option ℕ)) (at : ℕ) → AreOwned js ps → slice_get ps at ≡ Some None
     → AreOwned (js ++ j ∷ []) (set ps at (Some (length js)))
 one_owned js j ps at owned free =
@@ -109,12 +99,8 @@ one_owned js j ps at owned free =
           ];
       all = λ place bytes is.
           elim (last_at js j bytes place is) [
-            | inl e ↦
-                elim (owned.all place bytes e) [
-                  | inl blank ↦ inl blank
-                  | inr has ↦ inr (has.0, stays ps at has.0 place new free has.1)
-                ]
-            | inr e ↦ inr (at, set_there ps at new None free ∙ ap (λ n. Some (Some n)) (sym e.0))
+            | inl e ↦ let has = owned.all place bytes e in (has.0, stays ps at has.0 place new free has.1)
+            | inr e ↦ (at, set_there ps at new None free ∙ ap (λ n. Some (Some n)) (sym e.0))
           ];
     }
 
@@ -126,13 +112,11 @@ who_stays (x ∷ ms) zero m place at = let is : x ≡ m = cc in ap (λ w. w ∷ 
 who_stays (x ∷ ms) (suc i) m place at = ap (λ ws. who x ∷ ws) (who_stays ms i m place at)
 
 pub given_who : (place : ℕ) (j : List ℕ) (old new : List Member) → IsGiven place j old new → map who new ≡ map who old
-given_who place j old new (inl none) = ap (map who) none.1
-given_who place j old new (inr given) = let a = given.2 in ap (map who) a.now ∙ who_stays old a.at a.member place a.was
+given_who place j old new given = let a = given.2 in ap (map who) a.now ∙ who_stays old a.at a.member place a.was
 
 pub given_owned : (js : List (List ℕ)) (j : List ℕ) (old new : List Member) → AreOwned js (places_of old) → IsGiven (length js) j old new
     → AreOwned (js ++ j ∷ []) (places_of new)
-given_owned js j old new owned (inl none) = subst (λ ms. AreOwned (js ++ j ∷ []) (places_of ms)) (sym none.1) (blank_owned js j (places_of old) owned none.0)
-given_owned js j old new owned (inr given) =
+given_owned js j old new owned given =
     let a = given.2 in
     let free : slice_get (places_of old) a.at ≡ Some None =
     slice_get-map (λ m. m.journal) old a.at ∙ (ap (option_map (λ m. m.journal)) a.was ∙ ap (λ p. Some p) a.free) in
@@ -166,8 +150,7 @@ party_decides (Client c) (Client d) = Decides-like _ (ap Client) (λ e. cc) (cli
 given_own :
     (js : List (List ℕ)) (place : ℕ) (j : List ℕ) (old new : List Member) → j ≡ journal_at js (Some place) → AllByRecursion (HasItsOwn js) old
     → IsGiven place j old new → AllByRecursion (HasItsOwn js) new
-given_own js place j old new is own (inl none) = subst (AllByRecursion (HasItsOwn js)) (sym none.1) own
-given_own js place j old new is own (inr given) =
+given_own js place j old new is own given =
     let a = given.2 in
     let has : HasItsOwn js (with_journal place a.member) =
     λ k same.

@@ -1,5 +1,5 @@
 -- The parties one after another, as the audit replays them.
-use Rattle.std.specs.Prelude.{◌≡◌, ◌≤◌, ◌⊎◌, ℕ, IfSome, List, [], ◌∷◌, ◌++◌, length, map, slice_get, slice_set, Option, Some, None}
+use Rattle.std.specs.Prelude.{◌≡◌, ◌≤◌, ℕ, IfSome, List, [], ◌∷◌, ◌++◌, length, map, slice_get, slice_set, Option, Some, None}
 use Rattle.std.specs.List.{AllZip}
 use Rattle.scoop_message.specs.declared.limits.TheConstants.{MAX_ENTRIES}
 use Rattle.scoop_message.specs.declared.message.Message.{Message}
@@ -16,7 +16,6 @@ use Rattle.scoop_journal.specs.Journal.{ended}
 use Rattle.scoop_audit.specs.declared.error.PartyName.{PartyName}
 use Rattle.scoop_audit.specs.declared.error.PartyName.TheVariants.{Node, Client}
 use Rattle.scoop_audit.specs.declared.roster.Member.{Member}
-use Rattle.scoop_audit.specs.Lines.{HasNoNewline}
 use Rattle.scoop_audit.specs.Parties.{client_named, joins_in, nodes_in, placed_on}
 use Rattle.scoop_audit.specs.Run.{journal_at}
 use Rattle.scoop_audit.specs.Told.{TellsLife}
@@ -76,10 +75,9 @@ pub record IsAssigned (party : PartyName) (place : ℕ) (old new : List Member) 
   pub free : member.journal ≡ None
   pub now : new ≡ slice_set old at (with_journal place member)
 
--- the journal at this place has its party, or no line
+-- the journal at this place has its party
 abbrev pub IsGiven : ℕ → List ℕ → (old new : List Member) → Type 0
-IsGiven place journal old new =
-    (HasNoNewline journal × (new ≡ old)) ⊎ ((party : PartyName) × Owns party journal × IsAssigned party place old new)
+IsGiven place journal old new = (party : PartyName) × Owns party journal × IsAssigned party place old new
 
 -- ---- the tales of the journals
 

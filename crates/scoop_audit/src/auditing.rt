@@ -521,9 +521,9 @@ fn nothing_replayed(alloc: Global, has_chart: bool) -> Replayed
 /// One order of all that happened, if the journals are those of a run of the system. With `has_chart` the result also
 /// keeps what a chart shows.
 ///
-/// Each node that has handlers, and each client, has its own journal among these, or none. Each journal with a line is
-/// that of a party. If a world may open with the system's parties (`MayRun`), the order is that of a world. In this
-/// world each party lives the life that its journal tells. The call [`systems_may_run`](crate::systems_may_run) proves
+/// Each node that has handlers, and each client, has its own journal among these, or none. Each journal is that of a
+/// party: a file without a whole line is refused. If a world may open with the system's parties (`MayRun`), the order is
+/// that of a world. In this world each party lives the life that its journal tells. The call [`systems_may_run`](crate::systems_may_run) proves
 /// `MayRun` of each system that was read and has a handler.
 ///
 /// `Unexplained` has one of two causes (`IsAuditError`). The first lines of the named party's journal can be replayed,

@@ -18,6 +18,12 @@ pub enum PartyName {
 pub enum Fault {
     /// The line can't be read.
     Line(LineFault),
+    /// The file is empty.
+    Empty,
+    /// The file has no whole line.
+    NoLine,
+    /// The file is a store.
+    Store,
     /// The first line begins no life.
     NoJournal,
     /// The line stands in the wrong place. An `open` isn't among the first lines of its life, or its handler isn't the
@@ -79,7 +85,7 @@ pub(crate) enum Trouble {
 pub enum AuditError {
     /// Memory ran out.
     OutOfMemory,
-    /// A fault of the journal at this place of the list, at this line.
+    /// A fault of the journal at this place of the list, at this line; 0 if it is one of the whole file.
     Fault(usize, u64, Fault),
     /// A move has no explanation.
     Unexplained(Move, Wrong),

@@ -24,7 +24,7 @@ mod text;
 
 pub use auditing::{Explained, Journal, audit};
 pub use blocks::{BlockLine, Blocks};
-pub use charting::chart_of;
+pub use charting::{chart_of, moves_of};
 pub use error::{AuditError, Fault, Move, PartyName, Wrong};
 pub use law::{journals_are_a_world, systems_may_run};
 pub use lives::Tale;

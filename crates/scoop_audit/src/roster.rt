@@ -1,8 +1,7 @@
 //! The parties of a system, each with its journal.
 
-ghost use Rattle.std.specs.Prelude.{◌≡◌, ◌++◌, ◌<◌, [], IfErr, IfOk, IfSome, MatchOption, OnOk, length, map, slice_get};
+ghost use Rattle.std.specs.Prelude.{◌≡◌, ◌++◌, ◌<◌, [], IfErr, IfOk, IfSome, OnOk, length, map, slice_get};
 ghost use Rattle.std.specs.List.{AllByRecursion};
-ghost use Rattle.scoop_audit.specs.Lines.{HasNoNewline};
 ghost use Rattle.scoop_audit.specs.Members.{HasItsOwn, IsAssigned, IsGiven, Owns, client_member, members_in, node_member, places_of, who};
 ghost use Rattle.scoop_audit.specs.Parties.{has_handlers, nodes_in};
 ghost use Rattle.scoop_audit.specs.Run.{AreOwned};
@@ -23,15 +22,30 @@ pub(crate) struct Member {
     pub(crate) journal: Option<usize>,
 }
 
-// The party whose journal this is. `None` if nothing is written in it.
-fn owner(bytes: &[u8]) -> Result<Option<PartyName>, Trouble>
-    ensures { IfOk result (λ found. MatchOption found (HasNoNewline bytes.now) (λ party. Owns party bytes.now)) }
+// The first bytes of a store's file, which is an SQLite database.
+const STORE: &[u8] = b"SQLite format 3";
+
+// The fault of a file without a whole line.
+fn lineless(bytes: &[u8]) -> Fault {
+    if bytes.is_empty() {
+        Fault::Empty
+    } else {
+        Fault::NoLine
+    }
+}
+
+// The party whose journal this is.
+fn owner(bytes: &[u8]) -> Result<PartyName, Trouble>
+    ensures { IfOk result (λ party. Owns party bytes.now) }
 {
+    if bytes.starts_with(STORE) {
+        return Err(Trouble::Fault(0, Fault::Store));
+    }
     let mut cursor = Cursor::new(bytes);
     match cursor.next() {
-        Ok(None) => Ok(None),
-        Ok(Some(Line::NodeLife(number))) => Ok(Some(PartyName::Node(number))),
-        Ok(Some(Line::ClientLife(client, _, _))) => Ok(Some(PartyName::Client(client))),
+        Ok(None) => Err(Trouble::Fault(0, lineless(bytes))),
+        Ok(Some(Line::NodeLife(number))) => Ok(PartyName::Node(number)),
+        Ok(Some(Line::ClientLife(client, _, _))) => Ok(PartyName::Client(client)),
         Ok(Some(_)) => Err(Trouble::Fault(cursor.number, Fault::NoJournal)),
         Err(Trouble::Fault(number, _)) => Err(Trouble::Fault(number, Fault::NoJournal)),
         Err(trouble) => Err(trouble),
@@ -113,14 +127,13 @@ fn assign(members: &mut [Member], party: PartyName, place: usize) -> Result<(), 
     Ok(())
 }
 
-// Gives the journal at this place to its party, if anything is written in it.
+// Gives the journal at this place to its party.
 fn give(members: &mut [Member], place: usize, bytes: &[u8]) -> Result<(), AuditError>
     ensures given { OnOk result (IsGiven place bytes.now members.old members.new) }
     ensures error { IfErr result IsNoReplay }
 {
     let party = match owner(bytes) {
-        Ok(Some(party)) => party,
-        Ok(None) => return Ok(()),
+        Ok(party) => party,
         Err(Trouble::Fault(number, fault)) => {
             return Err(AuditError::Fault(place, number, fault));
         }

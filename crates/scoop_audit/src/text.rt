@@ -17,6 +17,9 @@ impl fmt::Display for Fault {
     fn fmt<W: fmt::Write>(&self, f: &mut fmt::Formatter<W>) -> fmt::Result {
         match self {
             Fault::Line(fault) => write!(f, "{fault}"),
+            Fault::Empty => f.write_str("no journal: the file is empty"),
+            Fault::NoLine => f.write_str("no journal: the file has no whole line"),
+            Fault::Store => f.write_str("no journal: the file is a store"),
             Fault::NoJournal => f.write_str("no journal: it doesn't begin with a life"),
             Fault::Misplaced => f.write_str("a line in the wrong place"),
             Fault::OtherParty(party) => write!(

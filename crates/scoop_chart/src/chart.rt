@@ -2,7 +2,7 @@
 
 use crate::error::ChartError;
 use crate::lifeline::{Party, client_place, handler_place, lifelines};
-use scoop_message::{Block, ClientId, HandlerId, OutOfMemory};
+use scoop_message::{Block, ClientId, HandlerId, Message, OutOfMemory};
 use scoop_model::{Event, WorldError, WorldNote};
 use std::alloc::{Allocator, Global};
 
@@ -27,10 +27,11 @@ pub(crate) struct Row {
     pub(crate) label_end: usize,
 }
 
-/// A message: the row in which it was sent, its sender's and its receiver's lifelines, and whether it was taken.
+/// A message: the row in which it was sent, if that is one of the chart, its sender's and its receiver's lifelines, and whether
+/// it was taken.
 #[derive(Clone, Copy, Debug)]
 pub(crate) struct Sent {
-    pub(crate) row: usize,
+    pub(crate) row: Option<usize>,
     pub(crate) from: usize,
     pub(crate) to: usize,
     pub(crate) is_taken: bool,
@@ -54,10 +55,22 @@ pub(crate) struct Piece {
     pub(crate) last: usize,
 }
 
+// The name of a handler, which stands there among the letters of all names.
+#[derive(Clone, Copy, Debug)]
+struct Named {
+    handler: HandlerId,
+    begin: usize,
+    end: usize,
+}
+
 /// A sequence chart of a run, of at most `MAX_ROWS` events.
 #[derive(Drop)]
 pub struct Chart<A: Allocator = Global> {
+    /// Whether the events are those that journals tell.
+    pub(crate) is_of_journals: bool,
     pub(crate) parties: Vec<Party, A>,
+    named: Vec<Named, A>,
+    letters: Vec<u8, A>,
     pub(crate) rows: Vec<Row, A>,
     pub(crate) labels: Vec<u8, A>,
     pub(crate) sent: Vec<Sent, A>,
@@ -75,7 +88,10 @@ impl<A: Allocator + Copy> Chart<A> {
         handlers: &[(u32, HandlerId)],
     ) -> Result<Chart<A>, ChartError> {
         Ok(Chart {
+            is_of_journals: false,
             parties: lifelines(alloc, clients, handlers)?,
+            named: Vec::new(alloc),
+            letters: Vec::new(alloc),
             rows: Vec::new(alloc),
             labels: Vec::new(alloc),
             sent: Vec::new(alloc),
@@ -88,6 +104,51 @@ impl<A: Allocator + Copy> Chart<A> {
     /// The number of its events.
     pub fn rows(&self) -> usize {
         self.rows.len()
+    }
+
+    /// Says that the events are those that journals tell. So it isn't known what was lost: a message that is never taken has no
+    /// cross, and a legend stands under the rows.
+    pub fn tells_journals(&mut self) {
+        self.is_of_journals = true;
+    }
+
+    /// Gives a handler this name, which stands after its number. The only refusal is `OutOfMemory`.
+    pub fn name(&mut self, handler: HandlerId, name: &str) -> Result<(), ChartError> {
+        let begin = self.letters.len();
+        self.letters
+            .extend_from_slice(name.as_bytes())
+            .map_err(OutOfMemory::from)?;
+        let end = self.letters.len();
+        let named = Named {
+            handler,
+            begin,
+            end,
+        };
+        self.named.push(named).map_err(OutOfMemory::from)?;
+        Ok(())
+    }
+
+    /// The name of a party, if it has one.
+    pub(crate) fn name_of(&self, party: Party) -> &[u8] {
+        for named in &self.named {
+            if party.is_handler(named.handler) {
+                return self.letters.get(named.begin..named.end).unwrap_or(&[]);
+            }
+        }
+        &[]
+    }
+
+    /// Notes that this message was sent before the first event. It has the next place of all messages. The only refusal is
+    /// `OutOfMemory`.
+    pub fn sent_before(&mut self, message: &Message) -> Result<(), ChartError> {
+        let client = client_place(&self.parties, message.client()).unwrap_or(0);
+        let handler = handler_place(&self.parties, message.handler()).unwrap_or(0);
+        if message.for_handler() {
+            self.send(None, client, handler)?;
+        } else {
+            self.send(None, handler, client)?;
+        }
+        Ok(())
     }
 
     /// Takes the next event of the run, with its outcome and the text of its row.
@@ -112,6 +173,15 @@ impl<A: Allocator + Copy> Chart<A> {
             Err(_) => Mark::Nothing,
         };
         self.keep(place, mark, label)?;
+        Ok(())
+    }
+
+    /// Adds a row that has this text alone. The refusals are those of `note`.
+    pub fn remark(&mut self, label: &[u8]) -> Result<(), ChartError> {
+        if self.rows.len() >= MAX_ROWS {
+            return Err(ChartError::TooLong);
+        }
+        self.keep(None, Mark::Nothing, label)?;
         Ok(())
     }
 
@@ -161,7 +231,7 @@ impl<A: Allocator + Copy> Chart<A> {
         match *event {
             Event::Tick(_, handler) if is_sent(note) => {
                 let to = handler_place(&self.parties, handler).unwrap_or(place);
-                self.send(row, place, to)
+                self.send(Some(row), place, to)
             }
             Event::Take(message) => self.deliver(row, message, has_reply(note)),
             _ => match block_that_ran(note) {
@@ -178,12 +248,12 @@ impl<A: Allocator + Copy> Chart<A> {
         };
         self.take(row, message)?;
         if replies {
-            self.send(row, sent.to, sent.from)?;
+            self.send(Some(row), sent.to, sent.from)?;
         }
         Ok(())
     }
 
-    fn send(&mut self, row: usize, from: usize, to: usize) -> Result<(), OutOfMemory> {
+    fn send(&mut self, row: Option<usize>, from: usize, to: usize) -> Result<(), OutOfMemory> {
         self.sent.push(Sent {
             row,
             from,

@@ -41,7 +41,8 @@ impl Party {
         matches!(self, Party::Client(own) if own == client)
     }
 
-    fn is_handler(self, handler: HandlerId) -> bool {
+    /// Whether it is the handler of this number.
+    pub(crate) fn is_handler(self, handler: HandlerId) -> bool {
         matches!(self, Party::Handler(_, own) if own == handler)
     }
 }

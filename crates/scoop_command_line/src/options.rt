@@ -156,6 +156,8 @@ pub struct AuditOptions<'a> {
     /// The first and the last move of the chart, counted from 1.
     pub from: u64,
     pub to: u64,
+    /// The block whose moves the chart shows, as it was written.
+    pub block: Option<&'a str>,
 }
 
 /// The options of `scoop store`.
@@ -303,6 +305,7 @@ fn audit_options<'a>(given: &'a ArgMatches<'_>) -> AuditOptions<'a> {
         chart: given.get_str("chart"),
         from: given.get_one::<u64>("from").unwrap_or(1),
         to: given.get_one::<u64>("to").unwrap_or(u64::MAX),
+        block: given.get_str("block"),
     }
 }
 

@@ -4,6 +4,7 @@ ghost use Rattle.std.specs.Prelude.{◌≡◌, ◌+◌, ◌*◌, ◌^◌};
 
 use scoop_frame::{Names, peek};
 use scoop_link::LinkFault;
+use scoop_message::limits::MAX_CLIENTS;
 use scoop_message::{ClientId, HandlerId, OutOfMemory};
 use std::alloc::Global;
 use std::sync::atomic::{AtomicU64, Ordering};
@@ -11,11 +12,23 @@ use std::sync::atomic::{AtomicU64, Ordering};
 // A count of stored states for each number of a handler, taken by 256.
 const COUNTS: u32 = 256;
 
-/// How often states were stored, and what passed through a node's link. Threads share it. Contracts see nothing of it: what
-/// another thread may change at any time, no clause can name.
+// A client that the link hears, and when it was heard last. Both are one more than that, and 0 for none.
+#[derive(Drop)]
+struct LastHeard {
+    client: AtomicU64,
+    time: AtomicU64,
+}
+
+/// How often states were stored, what passed through a node's link, and when each client was heard last. Threads share it.
+/// Contracts see nothing of it: what another thread may change at any time, no clause can name.
+///
+/// It has no clock. Whoever shows the node sets its time.
 #[derive(Drop)]
 pub struct NodeCounts {
     changes: Vec<AtomicU64>,
+    clients: Vec<LastHeard>,
+    // Milliseconds since the node began.
+    time: AtomicU64,
     received: AtomicU64,
     sent: AtomicU64,
     faults: AtomicU64,
@@ -63,6 +76,24 @@ fn add_one(count: &AtomicU64) {
     count.fetch_add(1, Ordering::SeqCst);
 }
 
+// Places for clients.
+fn no_clients(alloc: Global) -> Result<Vec<LastHeard>, OutOfMemory> {
+    let mut clients = Vec::with_capacity(alloc, MAX_CLIENTS)?;
+    for _ in 0..MAX_CLIENTS {
+        let none = LastHeard {
+            client: AtomicU64::new(0),
+            time: AtomicU64::new(0),
+        };
+        clients.push(none).map_err(OutOfMemory::from)?;
+    }
+    Ok(clients)
+}
+
+// The number that stands for a client.
+fn number_of(client: ClientId) -> u64 {
+    u64::from(client.0) + 1
+}
+
 impl NodeCounts {
     /// The counts before anything happens. `OutOfMemory` means that the memory was refused.
     pub fn new(alloc: Global) -> Result<NodeCounts, OutOfMemory> {
@@ -70,8 +101,11 @@ impl NodeCounts {
         for _ in 0..COUNTS {
             changes.push(AtomicU64::new(0)).map_err(OutOfMemory::from)?;
         }
+        let clients = no_clients(alloc)?;
         Ok(NodeCounts {
             changes,
+            clients,
+            time: AtomicU64::new(0),
             received: AtomicU64::new(0),
             sent: AtomicU64::new(0),
             faults: AtomicU64::new(0),
@@ -91,6 +125,51 @@ impl NodeCounts {
     pub fn count_change(&self, handler: HandlerId) {
         if let Some(count) = self.changes_of(handler) {
             add_one(count);
+        }
+    }
+
+    /// Sets the time: how many milliseconds passed since the node began. It never goes back.
+    pub fn set_time(&self, millis: u64) {
+        if self.time() < millis {
+            self.time.store(millis, Ordering::SeqCst);
+        }
+    }
+
+    /// The time that was set last.
+    pub fn time(&self) -> u64 {
+        self.time.load(Ordering::SeqCst)
+    }
+
+    /// The time at which a frame of the client came last. `None` if none came, or if the link doesn't list the client.
+    pub fn heard_at(&self, client: ClientId) -> Option<u64> {
+        let last = self.last_heard(client)?;
+        last.time.load(Ordering::SeqCst).checked_sub(1)
+    }
+
+    // The place of the client, if it is listed.
+    fn last_heard(&self, client: ClientId) -> Option<&LastHeard> {
+        for last in &self.clients {
+            if last.client.load(Ordering::SeqCst) == number_of(client) {
+                return Some(last);
+            }
+        }
+        None
+    }
+
+    /// Lists the clients that a link hears, at most `MAX_CLIENTS`.
+    pub(crate) fn list(&self, clients: &[ClientId]) {
+        for (last, client) in self.clients.iter().zip(clients.iter()) {
+            last.client.store(number_of(*client), Ordering::SeqCst);
+        }
+    }
+
+    /// Notes the time at which a frame came, if these bytes are that of a listed client.
+    pub(crate) fn note_client(&self, bytes: &[u8]) {
+        if let Some(names) = peek(bytes) {
+            if let Some(last) = self.last_heard(names.client) {
+                let time = self.time().saturating_add(1);
+                last.time.store(time, Ordering::SeqCst);
+            }
         }
     }
 

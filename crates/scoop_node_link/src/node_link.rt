@@ -165,6 +165,7 @@ impl<'a, L: Link, C: Times, A: Allocator + Copy> NodeLink<'a, L, C, A> {
     {
         let admission = Admission::new(alloc, clients)?;
         let replies = Replies::new(alloc)?;
+        counts.list(clients);
         Ok(NodeLink {
             inner,
             clock,
@@ -264,11 +265,14 @@ impl<'a, L: Link, C: Times, A: Allocator> NodeLink<'a, L, C, A> {
                 self.counts.note_stranger(names);
                 Ok(Taken::Stopped)
             }
-            Verdict::Admitted => match self.answer(bytes) {
-                Ok(true) => Ok(Taken::Stopped),
-                Ok(false) => Ok(Taken::Passed(len)),
-                Err(fault) => Err(fault),
-            },
+            Verdict::Admitted => {
+                self.counts.note_client(bytes);
+                match self.answer(bytes) {
+                    Ok(true) => Ok(Taken::Stopped),
+                    Ok(false) => Ok(Taken::Passed(len)),
+                    Err(fault) => Err(fault),
+                }
+            }
         }
     }
 

@@ -1,16 +1,19 @@
 //! Rows about charts: the labels and the length of a chart, and the example that draws one.
 //!
-//! - `label N TEXT` adds N silent ticks of client 7 with this label to a chart, and `begun` the first entry of block 7.1.1.
+//! - `label N TEXT` adds N silent ticks of client 7 with this label to a chart, and `remark N TEXT` N rows with this text alone.
+//!   `begun` adds the first entry of block 7.1.1, `sends` a Lock that is sent, and `takes` that the first message is taken.
+//! - `before` says that a Lock was sent before the chart, `journals` that journals tell the run, and `name NAME` names handler 1.
 //! - `open FROM TO` opens the example of a transfer with these amounts, and `pay N` answers the second account's balance.
 //! - `draws TEXT` draws the transfer if there is one, or else the chart, and answers whether the picture has TEXT. `says TEXT`
 //!   answers whether it has TEXT after what was found last.
 
 use crate::telling::finds;
 use scoop_chart::{Chart, ChartError};
-use scoop_lines::two_words;
-use scoop_message::{Answer, Block, ClientId, HandlerId};
+use scoop_handler::Note;
+use scoop_lines::{is, two_words};
+use scoop_message::{Answer, Block, ClientId, HandlerId, Message};
 use scoop_row_player::answers::{keeps, tells, told};
-use scoop_row_player::words::{after_space, first, last, number};
+use scoop_row_player::words::{after_space, first, last, number, text_of};
 use scoop_row_player::{Bad, Subject};
 use scoop_world::{Event, WorldNote};
 use std::alloc::Global;
@@ -19,6 +22,12 @@ use transfer::Transfer;
 const SEVEN: ClientId = ClientId(7);
 
 const ONE: HandlerId = HandlerId(1);
+
+const BLOCK: Block = Block {
+    client: SEVEN,
+    inc: 1,
+    num: 1,
+};
 
 /// A chart, a transfer, and the rest of what was drawn.
 #[derive(Drop)]
@@ -67,12 +76,25 @@ impl Subject for Charts {
     fn does(&mut self, command: &[u8], answer: &mut Vec<u8>) -> Result<(), Bad> {
         let (name, line) = first(command)?;
         match name {
-            b"label" => {
+            b"label" | b"remark" => {
                 let (count, label) = first(line)?;
-                let count = number(count)?;
-                told(add(&mut self.chart, count, after_space(label)), answer)
+                let (count, label) = (number(count)?, after_space(label));
+                let is_event = is(name, "label");
+                told(add(&mut self.chart, is_event, count, label), answer)
             }
-            b"begun" => told(begin(&mut self.chart), answer),
+            b"begun" | b"sends" | b"takes" => told(note(&mut self.chart, name), answer),
+            b"before" => {
+                let lock = Message::Lock(ONE, BLOCK);
+                told(self.chart.sent_before(&lock), answer)
+            }
+            b"journals" => {
+                self.chart.tells_journals();
+                tells("ok", answer)
+            }
+            b"name" => {
+                let name = text_of(after_space(line))?;
+                told(self.chart.name(ONE, name), answer)
+            }
             b"open" => self.opens(line, answer),
             b"pay" => self.pays(number(last(line)?)?, answer),
             b"draws" => self.draws(line, answer),
@@ -82,23 +104,32 @@ impl Subject for Charts {
     }
 }
 
-// Adds that many silent ticks with this label.
-fn add(chart: &mut Chart, count: u32, label: &[u8]) -> Result<(), ChartError> {
+// Adds that many silent ticks with this label, or that many rows with it alone.
+fn add(chart: &mut Chart, is_event: bool, count: u32, label: &[u8]) -> Result<(), ChartError> {
     for _ in 0..count {
-        chart.note(&Event::Tick(SEVEN, ONE), &Ok(WorldNote::Silent), label)?;
+        if is_event {
+            chart.note(&Event::Tick(SEVEN, ONE), &Ok(WorldNote::Silent), label)?;
+        } else {
+            chart.remark(label)?;
+        }
     }
     Ok(())
 }
 
-fn begin(chart: &mut Chart) -> Result<(), ChartError> {
-    let block = Block {
-        client: SEVEN,
-        inc: 1,
-        num: 1,
+// Adds the event of this name.
+fn note(chart: &mut Chart, name: &[u8]) -> Result<(), ChartError> {
+    let (event, note, label) = match name {
+        b"begun" => (
+            Event::Begin(ONE),
+            WorldNote::Began(BLOCK, 1),
+            "began 7.1.1 1",
+        ),
+        b"sends" => (Event::Tick(SEVEN, ONE), WorldNote::Sent(1), "sent"),
+        _ => (
+            Event::Take(1),
+            WorldNote::Handler(Note::Granted, None),
+            "took",
+        ),
     };
-    chart.note(
-        &Event::Begin(ONE),
-        &Ok(WorldNote::Began(block, 1)),
-        b"began 7.1.1 1",
-    )
+    chart.note(&event, &Ok(note), label.as_bytes())
 }

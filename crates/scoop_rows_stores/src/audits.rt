@@ -6,26 +6,29 @@
 //! - `text TEXT` adds a text to the last journal, in which `\n` stands for a newline.
 //! - `change FIRST LAST TEXT` puts a text in the place of lines, counted from 1.
 //! - `audit` answers what the audit prints with the blocks, or why there is no explanation.
-//! - `chart FIRST LAST` audits, and answers how many rows the chart of these moves has.
+//! - `chart FIRST LAST` audits, and answers how many rows the chart of these moves has. `block B` audits, and answers the first and
+//!   the last move of a block.
+//! - `shows TEXT` answers whether the last chart's picture has a text.
 
 use crate::disk::files;
 use scoop_audit::{
-    AuditError, Explained, Journal, audit, chart_of, print_explained, unexplained_text,
+    AuditError, Explained, Journal, audit, chart_of, moves_of, print_explained, unexplained_text,
 };
 use scoop_lines::{is, is_blank, two_words};
-use scoop_row_player::answers::tells;
-use scoop_row_player::words::{first, first_two, number, read_text};
+use scoop_row_player::answers::{has, tells};
+use scoop_row_player::words::{block, first, first_two, last, number, read_text};
 use scoop_row_player::{Bad, Subject};
 use scoop_system::System;
 use std::fs;
 
 const SYSTEM: &str = "audit-system.toml";
 
-/// Journals of parties of the system.
+/// Journals of parties of the system, and the picture that was drawn last.
 #[derive(Drop)]
 pub struct Audits<'a> {
     rt: &'a HostRuntime,
     journals: Vec<Vec<u8>>,
+    drawn: Vec<u8>,
 }
 
 impl<'a> Audits<'a> {
@@ -33,10 +36,12 @@ impl<'a> Audits<'a> {
         Audits {
             rt,
             journals: Vec::new(rt.alloc()),
+            drawn: Vec::new(rt.alloc()),
         }
     }
 
-    fn audits(&self, name: &[u8], line: &[u8], answer: &mut Vec<u8>) -> Result<(), Bad> {
+    // Audits, and adds what the command asks for. Returns the picture that it draws, if it draws one.
+    fn audits(&self, name: &[u8], line: &[u8], answer: &mut Vec<u8>) -> Result<Vec<u8>, Bad> {
         let alloc = self.rt.alloc();
         let text = fs::read_to_string(self.rt, SYSTEM)?;
         let Ok(system) = System::read(alloc, text.as_str()) else {
@@ -48,17 +53,12 @@ impl<'a> Audits<'a> {
                 bytes: text.as_slice(),
             })?;
         }
-        let is_charted = is(name, "chart");
-        match audit(alloc, &system, &journals, is_charted) {
-            Ok(run) => {
-                if is_charted {
-                    return draws(&system, &run, line, answer);
-                }
-                print_explained(alloc, &run, true, answer)?;
-                answer.pop();
-                Ok(())
+        match audit(alloc, &system, &journals, !is(name, "audit")) {
+            Ok(run) => shows(&system, &run, name, line, answer),
+            Err(error) => {
+                tells_error(&error, answer)?;
+                Ok(Vec::new(alloc))
             }
-            Err(error) => tells_error(&error, answer),
         }
     }
 }
@@ -77,7 +77,11 @@ impl Subject for Audits<'_> {
             b"text" | b"change" => {
                 edits(self.journals.last_mut().ok_or(Bad::Command)?, name, line)?;
             }
-            b"audit" | b"chart" => return self.audits(name, line, answer),
+            b"audit" | b"chart" | b"block" => {
+                self.drawn = self.audits(name, line, answer)?;
+                return Ok(());
+            }
+            b"shows" => return has(&self.drawn, line, answer),
             _ => return Err(Bad::Command),
         }
         tells("ok", answer)
@@ -125,15 +129,47 @@ fn tells_error(error: &AuditError, answer: &mut Vec<u8>) -> Result<(), Bad> {
     }
 }
 
-fn draws(system: &System, run: &Explained, line: &[u8], answer: &mut Vec<u8>) -> Result<(), Bad> {
+// Adds what the command asks of a run. Returns the picture that it draws, if it draws one.
+fn shows(
+    system: &System,
+    run: &Explained,
+    name: &[u8],
+    line: &[u8],
+    answer: &mut Vec<u8>,
+) -> Result<Vec<u8>, Bad> {
+    let mut drawn = Vec::new(*answer.allocator());
+    match name {
+        b"chart" => draws(system, run, line, &mut drawn, answer)?,
+        b"block" => finds(run, line, answer)?,
+        _ => {
+            print_explained(*answer.allocator(), run, true, answer)?;
+            answer.pop();
+        }
+    }
+    Ok(drawn)
+}
+
+fn draws(
+    system: &System,
+    run: &Explained,
+    line: &[u8],
+    drawn: &mut Vec<u8>,
+    answer: &mut Vec<u8>,
+) -> Result<(), Bad> {
     let alloc = *answer.allocator();
     let (from, to) = two_words(line).ok_or(Bad::Words)?;
     let (from, to) = (u64::from(number(from)?), u64::from(number(to)?));
-    let mut picture = Vec::new(alloc);
     let chart = chart_of(alloc, system, run, from, to).map_err(|_| Bad::Memory)?;
-    chart.draw(&mut picture)?;
-    if !picture.starts_with(b"<svg ") {
+    chart.draw(drawn)?;
+    if !drawn.starts_with(b"<svg ") {
         return tells("no picture", answer);
     }
     tells(chart.rows(), answer)
+}
+
+fn finds(run: &Explained, line: &[u8], answer: &mut Vec<u8>) -> Result<(), Bad> {
+    match moves_of(*answer.allocator(), run, block(last(line)?)?)? {
+        Some((from, to)) => tells(format_args!("{from} {to}"), answer),
+        None => tells("none", answer),
+    }
 }

@@ -4,8 +4,10 @@
 //! - `put` notes that the handler's state is stored, `refuse` that a store refused it, and `load` that it was loaded. `shown H`
 //!   answers whether the watch shows the `same` state as the handler has, an `other` one or `none`.
 //! - `greeted MESSAGE` notes a message as a greeting of another handler.
-//! - `stranger CLIENT HANDLER` brings a Hello of an unknown client. `link G F ROOM N` brings G genuine and F forged
-//!   datagrams over a sealed link that has room for ROOM, and sends N times; it answers how many came and how many sends failed.
+//! - `time MILLIS` sets the watch's time.
+//! - `stranger CLIENT HANDLER` brings a Hello of a client over a link that hears client 7 alone, and answers whether it is passed
+//!   on. `link G F ROOM N` brings G genuine and F forged datagrams over a sealed link that has room for ROOM, and sends N times;
+//!   it answers how many came and how many sends failed.
 //! - `says TEXT` writes a line of the node's output, and answers whether the node is open before the flush, whether after it,
 //!   and whether all of the text was passed on.
 //!
@@ -22,7 +24,7 @@ use scoop_node_link::NodeLink;
 use scoop_object::{Class, Table};
 use scoop_pacing::SystemTimes;
 use scoop_row_player::answers::{tells, told};
-use scoop_row_player::words::{first, handler, number, numbers, read_text};
+use scoop_row_player::words::{first, handler, last, number, numbers, read_text};
 use scoop_row_player::{Bad, Subject};
 use scoop_rows_parts::printing::message;
 use scoop_seal::{Key, SealedLink};
@@ -81,6 +83,11 @@ impl<R: Wait + Clock> Subject for Watches<'_, R> {
                 tells("ok", answer)
             }
             b"shown" => self.compares(handler(line)?, answer),
+            b"time" => {
+                let millis = u64::from(number(last(line)?)?);
+                self.watch.counts().set_time(millis);
+                tells("ok", answer)
+            }
             b"stranger" => self.meets(line, answer),
             b"link" => self.passes(line, answer),
             b"says" => self.outputs(line, answer),

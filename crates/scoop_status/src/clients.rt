@@ -14,6 +14,7 @@ pub(crate) fn clients_of(alloc: Global, system: &System) -> Result<Vec<ClientVie
             named: true,
             incarnation: 0,
             handlers: 0,
+            heard_seconds: None,
         };
         clients.push(client).map_err(OutOfMemory::from)?;
     }
@@ -32,6 +33,7 @@ pub(crate) fn meet_all(
                 named: false,
                 incarnation: mark.incarnation,
                 handlers: 1,
+                heard_seconds: None,
             };
             clients.push(client).map_err(OutOfMemory::from)?;
         }

@@ -2,8 +2,9 @@
 
 ghost use Rattle.std.specs.Prelude.{◌≡◌, map, IfOk};
 ghost use Rattle.std.specs.Option.{option_map};
-ghost use Rattle.scoop_status.specs.Shown.{Shows, head_view, mark_view, printed_block, queue_view};
+ghost use Rattle.scoop_status.specs.Shown.{Shows, first_block, head_view, mark_view, printed_block, queue_view};
 
+use crate::ages::{Ages, hear_all};
 use crate::clients::{clients_of, meet_all};
 use crate::counts::CountsView;
 use crate::view::{
@@ -41,7 +42,8 @@ pub fn gather<'a, R: Wait + Clock>(
     about: &About<'a>,
 ) -> Result<NodeView<'a>, OutOfMemory> {
     let handlers = handlers_of(rt, alloc, watch, about)?;
-    let clients = clients_at(alloc, about.system, &handlers)?;
+    let mut clients = clients_at(alloc, about.system, &handlers)?;
+    hear_all(watch.counts(), &mut clients);
     let tally = watch.tally(rt);
     let link = watch.link_tally();
     Ok(NodeView {
@@ -110,10 +112,14 @@ fn handler_of<R: Wait>(
     watch: &Watch,
     place: &HandlerPlace,
 ) -> Result<HandlerView, OutOfMemory> {
-    match watch.state(rt, place.handler)? {
-        Some(state) => known_handler(alloc, place, &state),
-        None => Ok(unknown_handler(alloc, place)),
-    }
+    let Some(state) = watch.state(rt, place.handler)? else {
+        return Ok(unknown_handler(alloc, place));
+    };
+    let ages = Ages {
+        standing: watch.standing(rt, place.handler),
+        now: watch.counts().time(),
+    };
+    known_handler(alloc, place, &state, ages)
 }
 
 // The handler's name, if it has one.
@@ -133,19 +139,24 @@ fn unknown_handler(alloc: Global, place: &HandlerPlace) -> HandlerView {
         known: false,
         words: Vec::new(alloc),
         holder: None,
+        holder_seconds: None,
+        front: None,
+        front_seconds: None,
         queues: Vec::new(alloc),
         marks: Vec::new(alloc),
     }
 }
 
-// A handler in this state. All that is shown of it is this one state.
+// A handler in this state. All that is shown of it is this one state, and the ages of its blocks.
 fn known_handler(
     alloc: Global,
     place: &HandlerPlace,
     state: &HandlerState,
+    ages: Ages,
 ) -> Result<HandlerView, OutOfMemory>
     ensures { IfOk result (λ view. Shows view state.now) }
 {
+    let (holder, front) = (state.holder(), first_block(state.queues()));
     let words = words_of(alloc, state)?;
     let queues = queues_of(alloc, state.queues())?;
     let marks = marks_of(alloc, state)?;
@@ -155,7 +166,10 @@ fn known_handler(
         class: Printed(place.class),
         known: true,
         words,
-        holder: holder_of(state),
+        holder: printed(holder),
+        holder_seconds: ages.of_holder(holder),
+        front: printed(front),
+        front_seconds: ages.of_front(front),
         queues,
         marks,
     })
@@ -171,11 +185,22 @@ fn words_of(alloc: Global, state: &HandlerState) -> Result<Vec<u64>, OutOfMemory
     }
 }
 
-fn holder_of(state: &HandlerState) -> Option<Printed<Block>>
-    ensures { result ≡ option_map printed_block state.now.holder }
+// A block as it is shown, if there is one.
+fn printed(block: Option<Block>) -> Option<Printed<Block>>
+    ensures { result ≡ option_map printed_block block }
 {
-    match state.holder() {
+    match block {
         Some(block) => Some(Printed(block)),
+        None => None,
+    }
+}
+
+// The block of the first private queue.
+fn first_block(queues: &QueueOfQueues) -> Option<Block>
+    ensures { result ≡ first_block queues.now }
+{
+    match queues.head(0) {
+        Some(head) => Some(head.block),
         None => None,
     }
 }

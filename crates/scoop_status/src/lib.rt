@@ -11,6 +11,7 @@
 //! [`Watch`]: scoop_watch::Watch
 #![tactic(auto)]
 
+mod ages;
 mod budget;
 mod clients;
 mod counts;

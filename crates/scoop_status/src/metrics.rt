@@ -1,7 +1,8 @@
 //! The view of a node, as metrics in Prometheus' text form.
 
 use crate::counts::{COUNTS, CountsView, MEANINGS};
-use crate::view::{HandlerView, NodeView};
+use crate::view::{ClientView, HandlerView, NodeView, Printed};
+use scoop_message::Block;
 use scoop_watch::{NOTES, REASONS};
 use std::io;
 use std::io::Write;
@@ -52,7 +53,8 @@ pub fn print_metrics<W: Write>(view: &NodeView<'_>, writer: &mut W) -> io::Resul
     for (gauge, name, help) in &GAUGES {
         print_gauge(*gauge, name, help, &view.handlers, writer)?;
     }
-    Ok(())
+    print_ages(&view.handlers, writer)?;
+    print_heard(&view.clients, writer)
 }
 
 // Writes the lines that say what a metric is: its name without `scoop_`, its kind, and its meaning.
@@ -133,6 +135,57 @@ fn print_gauge<W: Write>(
             writeln!(
                 writer,
                 "scoop_handler_{name}{{handler=\"{number}\"}} {value}"
+            )?;
+        }
+    }
+    Ok(())
+}
+
+// Writes for how long blocks stand at the handlers. The label `client` says whose they are.
+fn print_ages<W: Write>(handlers: &[HandlerView], writer: &mut W) -> io::Result<()> {
+    let help = "How long the block that has the handler's lock has had it.";
+    print_head("handler_holder_seconds", "gauge", help, writer)?;
+    for handler in handlers {
+        let (block, seconds) = (handler.holder, handler.holder_seconds);
+        print_age("holder", handler.handler, block, seconds, writer)?;
+    }
+    let help = "How long the block of the handler's first private queue has been in front.";
+    print_head("handler_front_seconds", "gauge", help, writer)?;
+    for handler in handlers {
+        let (block, seconds) = (handler.front, handler.front_seconds);
+        print_age("front", handler.handler, block, seconds, writer)?;
+    }
+    Ok(())
+}
+
+// Writes for how long a block stands at a handler, if one does.
+fn print_age<W: Write>(
+    name: &str,
+    handler: u32,
+    block: Option<Printed<Block>>,
+    seconds: Option<u64>,
+    writer: &mut W,
+) -> io::Result<()> {
+    let (Some(block), Some(seconds)) = (block, seconds) else {
+        return Ok(());
+    };
+    let client = block.0.client;
+    writeln!(
+        writer,
+        "scoop_handler_{name}_seconds{{handler=\"{handler}\",client=\"{client}\"}} {seconds}"
+    )
+}
+
+// Writes how long ago clients were heard.
+fn print_heard<W: Write>(clients: &[ClientView], writer: &mut W) -> io::Result<()> {
+    let help = "The time since the node heard the client last.";
+    print_head("client_heard_seconds", "gauge", help, writer)?;
+    for view in clients {
+        if let Some(seconds) = view.heard_seconds {
+            let client = view.client;
+            writeln!(
+                writer,
+                "scoop_client_heard_seconds{{client=\"{client}\"}} {seconds}"
             )?;
         }
     }

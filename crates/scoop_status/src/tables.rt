@@ -1,7 +1,8 @@
 //! The tables of the page.
 
 use crate::counts::{COUNTS, CountsView};
-use crate::view::{ClientView, HandlerView, MarkView, QueueView};
+use crate::view::{ClientView, HandlerView, MarkView, Printed, QueueView};
+use scoop_message::Block;
 use scoop_watch::{NOTES, REASONS};
 use std::io;
 use std::io::Write;
@@ -22,7 +23,7 @@ fn end_table<W: Write>(writer: &mut W) -> io::Result<()> {
 pub(crate) fn print_handlers<W: Write>(handlers: &[HandlerView], writer: &mut W) -> io::Result<()> {
     begin_table(
         "Handlers",
-        "<th>Handler<th>Class<th>Words<th>Lock held by<th>Private queues<th>Entries waiting<th>Clients",
+        "<th>Handler<th>Class<th>Words<th>Lock held by<th>In front<th>Private queues<th>Entries waiting<th>Clients",
         writer,
     )?;
     for handler in handlers {
@@ -41,10 +42,11 @@ fn print_handler<W: Write>(handler: &HandlerView, writer: &mut W) -> io::Result<
     let class = handler.class.0;
     write!(writer, "<td>{class}")?;
     if !handler.known {
-        return writeln!(writer, "<td colspan=\"5\">not known yet</tr>");
+        return writeln!(writer, "<td colspan=\"6\">not known yet</tr>");
     }
     print_words(&handler.words, writer)?;
-    print_holder(handler, writer)?;
+    print_block(handler.holder, handler.holder_seconds, writer)?;
+    print_block(handler.front, handler.front_seconds, writer)?;
     let queues = handler.queues.len();
     let pending = handler.pending();
     let clients = handler.marks.len();
@@ -59,14 +61,17 @@ fn print_words<W: Write>(words: &[u64], writer: &mut W) -> io::Result<()> {
     Ok(())
 }
 
-fn print_holder<W: Write>(handler: &HandlerView, writer: &mut W) -> io::Result<()> {
-    match &handler.holder {
-        Some(block) => {
-            let block = block.0;
-            write!(writer, "<td>block {block}")
-        }
-        None => writer.write_all(b"<td class=\"faint\">nobody"),
-    }
+// A block, and for how many seconds it stands where it does.
+fn print_block<W: Write>(
+    block: Option<Printed<Block>>,
+    seconds: Option<u64>,
+    writer: &mut W,
+) -> io::Result<()> {
+    let Some(block) = block else {
+        return writer.write_all(b"<td class=\"faint\">nobody");
+    };
+    let (block, seconds) = (block.0, seconds.unwrap_or(0));
+    write!(writer, "<td>block {block}, {seconds} s")
 }
 
 /// The private queues of all handlers.
@@ -99,7 +104,7 @@ fn print_queue<W: Write>(handler: u32, queue: &QueueView, writer: &mut W) -> io:
 pub(crate) fn print_clients<W: Write>(clients: &[ClientView], writer: &mut W) -> io::Result<()> {
     begin_table(
         "Clients",
-        "<th>Client<th>Incarnation<th>Handlers greeted<th>In the file",
+        "<th>Client<th>Incarnation<th>Handlers greeted<th>Last heard<th>In the file",
         writer,
     )?;
     for client in clients {
@@ -118,8 +123,13 @@ fn print_client<W: Write>(client: &ClientView, writer: &mut W) -> io::Result<()>
         write!(writer, "{incarnation}")?;
     }
     let handlers = client.handlers;
+    write!(writer, "<td>{handlers}")?;
+    match client.heard_seconds {
+        Some(seconds) => write!(writer, "<td>{seconds} s ago")?,
+        None => writer.write_all(b"<td class=\"faint\">not yet")?,
+    }
     let named = if client.named { "yes" } else { "no" };
-    writeln!(writer, "<td>{handlers}<td>{named}</tr>")
+    writeln!(writer, "<td>{named}</tr>")
 }
 
 /// Writes the marks that the handlers keep of their clients.

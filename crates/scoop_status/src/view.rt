@@ -56,8 +56,12 @@ pub struct HandlerView {
     /// Whether a state is known. If not, the rest is empty.
     pub known: bool,
     pub words: Vec<u64>,
-    /// The block that has its lock.
+    /// The block that has its lock, and for how many seconds.
     pub holder: Option<Printed<Block>>,
+    pub holder_seconds: Option<u64>,
+    /// The block in front: that of its first private queue. And for how many seconds it is.
+    pub front: Option<Printed<Block>>,
+    pub front_seconds: Option<u64>,
     /// Its private queues, in the order in which it works on them.
     pub queues: Vec<QueueView>,
     /// The clients that have greeted it.
@@ -106,6 +110,8 @@ pub struct ClientView {
     pub incarnation: u32,
     /// How many of the node's handlers it has greeted.
     pub handlers: u64,
+    /// How many seconds ago the node heard it last. `None` if it hasn't heard it since it began.
+    pub heard_seconds: Option<u64>,
 }
 
 impl StateView {

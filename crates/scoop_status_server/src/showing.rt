@@ -15,7 +15,7 @@ const SERVING_PAUSE_MS: u64 = 20;
 
 const LOGGING_PAUSE_MS: u64 = 100;
 
-/// Writes the node's log and answers requests, if there is a server, until the node has ended.
+/// Sets the watch's time, writes the node's log and answers requests, if there is a server, until the node has ended.
 pub fn show<R: Wait + Clock, W: Write + Drop>(
     rt: &R,
     alloc: Global,
@@ -33,7 +33,9 @@ pub fn show<R: Wait + Clock, W: Write + Drop>(
     };
     for _ in rt.forever() {
         let has_ended = watch.has_ended();
-        log.write_all(rt, watch, millis_since(rt, start));
+        let millis = millis_since(rt, start);
+        watch.counts().set_time(millis);
+        log.write_all(rt, watch, millis);
         let pause = match &mut server {
             Some(server) => {
                 server.turn(rt, &mut pages);

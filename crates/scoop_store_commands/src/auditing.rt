@@ -1,15 +1,16 @@
 //! `scoop audit`: whether the journals of a system's parties are those of one run.
 
 use scoop_audit::{
-    AuditError, Explained, Fault, Journal, Move, Wrong, audit, chart_of, print_explained,
+    AuditError, Explained, Fault, Journal, Move, Wrong, audit, chart_of, moves_of, print_explained,
     unexplained_text,
 };
 use scoop_chart::{Chart, ChartError};
 use scoop_command_line::AuditOptions;
 use scoop_errors::PartyError;
-use scoop_message::OutOfMemory;
+use scoop_lines::decimal_u32;
+use scoop_message::{Block, ClientId, OutOfMemory};
 use scoop_opening::{read_system, report_plainly};
-use scoop_report::{Hints, Status, hint_of_file, report};
+use scoop_report::{Hints, Status, hint, hint_of_file, report};
 use scoop_runtime::RuntimeError;
 use scoop_system::System;
 use std::alloc::Global;
@@ -19,6 +20,9 @@ use std::{fs, io};
 
 // The status of a run without an explanation.
 const UNEXPLAINED: u8 = 1;
+
+// The status of a wrong command line.
+const MISUSED: u8 = 2;
 
 // The status of a journal that can't be read.
 const UNREAD: u8 = 3;
@@ -56,11 +60,53 @@ fn report_fault(rt: &HostRuntime, paths: &[&str], place: usize, line: u64, fault
             let first = path_at(paths, other);
             report(rt, format_args!("{path}: line {line}: {fault}: {first}"));
         }
+        _ if line == 0 => report(rt, format_args!("{path}: {fault}")),
         _ => report(rt, format_args!("{path}: line {line}: {fault}")),
     }
-    let advice = "name each party's journal once, and the system's file with which it was written";
-    hint_of_file(rt, Hints::Always, path, advice);
+    hint_of_file(rt, Hints::Always, path, advice_on(fault));
     Status(UNREAD)
+}
+
+// The advice on a fault of a journal.
+fn advice_on(fault: Fault) -> &'static str {
+    match fault {
+        Fault::Empty | Fault::NoLine => {
+            "leave it out if its party was killed before it began; else name the file that its --journal wrote"
+        }
+        Fault::Store | Fault::NoJournal => {
+            "name the file that the party's --journal wrote, not its store or another file"
+        }
+        _ => "name each party's journal once, and the system's file with which it was written",
+    }
+}
+
+// Reports that the journals tell no move, so that nothing was audited.
+fn report_nothing(rt: &HostRuntime) -> Status {
+    report(rt, "no journal tells a move: nothing was audited");
+    let advice = "name the journals of all parties that ran: the files that their --journal wrote";
+    hint(rt, Hints::Always, advice);
+    Status(UNREAD)
+}
+
+// Names the parties without a journal, if there are any.
+fn hint_of_silent(rt: &HostRuntime, run: &Explained) -> Result<(), OutOfMemory> {
+    let mut names = String::new(rt.alloc());
+    for tale in run.tales() {
+        if !tale.has_journal() {
+            let between = if names.is_empty() { "" } else { ", " };
+            let party = tale.party();
+            names = format!(in rt.alloc(); "{names}{between}{party}").map_err(OutOfMemory::from)?;
+        }
+    }
+    if !names.is_empty() {
+        let advice = "counts as idle. If it ran, name the file that its --journal wrote";
+        hint(
+            rt,
+            Hints::Always,
+            format_args!("each without a journal ({names}) {advice}"),
+        );
+    }
+    Ok(())
 }
 
 fn path_at<'a>(paths: &'a [&'a str], place: usize) -> &'a str {
@@ -78,8 +124,29 @@ fn report_unexplained(rt: &HostRuntime, found: &Move, wrong: &Wrong) -> Status {
         Err(_) => return report_memory(rt),
     }
     match println!(rt; "unexplained: {text}") {
-        Ok(()) => Status(UNEXPLAINED),
-        Err(_) => report_plainly(rt, RuntimeError::from(PartyError::Write)),
+        Ok(()) => {}
+        Err(_) => return report_plainly(rt, RuntimeError::from(PartyError::Write)),
+    }
+    hint_of_wrong(rt, wrong);
+    Status(UNEXPLAINED)
+}
+
+// Prints what may have happened.
+fn hint_of_wrong(rt: &HostRuntime, wrong: &Wrong) {
+    match wrong {
+        Wrong::Unsent(_, Some(party)) => {
+            let advice = "if it ran, name the file that its --journal wrote";
+            hint(
+                rt,
+                Hints::Always,
+                format_args!("{party} has no journal: {advice}"),
+            );
+        }
+        _ => {
+            let advice =
+                "a journal lacks lines, as after a run without --journal, or has changed ones";
+            hint(rt, Hints::Always, advice);
+        }
     }
 }
 
@@ -109,9 +176,46 @@ fn report_long(rt: &HostRuntime, path: &str) -> Status {
         rt,
         "chart: a chart shows at most 2000 rows, and these moves have more",
     );
-    let advice = "it is not written: choose fewer moves by --from and --to";
+    let advice = "it is not written: choose fewer moves by --block, or by --from and --to";
     hint_of_file(rt, Hints::Always, path, advice);
     Status(UNEXPLAINED)
+}
+
+// The block with this name: a client, an incarnation and a number with dots between them.
+fn block_in(name: &str) -> Option<Block> {
+    let (client, rest) = name.split_once('.')?;
+    let (inc, num) = rest.split_once('.')?;
+    Some(Block {
+        client: ClientId(decimal_u32(client.as_bytes())?),
+        inc: decimal_u32(inc.as_bytes())?,
+        num: decimal_u32(num.as_bytes())?,
+    })
+}
+
+// The first and the last move of the chart: those of the block that the options name, if they name one.
+fn moves_in(
+    rt: &HostRuntime,
+    run: &Explained,
+    options: &AuditOptions<'_>,
+) -> Result<(u64, u64), Status> {
+    let Some(name) = options.block else {
+        return Ok((options.from, options.to));
+    };
+    let Some(block) = block_in(name) else {
+        report(rt, format_args!("--block {name}: not the name of a block"));
+        let advice = "write its client, incarnation and number, as `reserved 7.1.1` names it";
+        hint(rt, Hints::Always, advice);
+        return Err(Status(MISUSED));
+    };
+    match moves_of(rt.alloc(), run, block) {
+        Ok(Some(moves)) => Ok(moves),
+        Ok(None) => {
+            report(rt, format_args!("chart: no journal tells of block {block}"));
+            hint(rt, Hints::Always, "--blocks lists the blocks that opened");
+            Err(Status(UNEXPLAINED))
+        }
+        Err(_) => Err(report_memory(rt)),
+    }
 }
 
 // Writes the chart of the moves that are chosen into this file.
@@ -122,7 +226,8 @@ fn draw(
     options: &AuditOptions<'_>,
     path: &str,
 ) -> Result<(), Status> {
-    match chart_of(rt.alloc(), system, run, options.from, options.to) {
+    let (from, to) = moves_in(rt, run, options)?;
+    match chart_of(rt.alloc(), system, run, from, to) {
         Ok(chart) => write_chart(rt, &chart, path),
         Err(ChartError::TooLong) => Err(report_long(rt, path)),
         Err(ChartError::OutOfMemory) => Err(report_memory(rt)),
@@ -206,9 +311,15 @@ fn show_run(
     run: &Explained,
     options: &AuditOptions<'_>,
 ) -> Result<(), Status> {
+    if run.moves() == 0 {
+        return Err(report_nothing(rt));
+    }
     match print_run(rt, run, options.lists_blocks) {
         Ok(()) => {}
         Err(error) => return Err(report_plainly(rt, RuntimeError::from(error))),
+    }
+    if hint_of_silent(rt, run).is_err() {
+        return Err(report_memory(rt));
     }
     match options.chart {
         Some(path) => draw(rt, system, run, options, path),

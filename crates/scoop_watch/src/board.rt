@@ -6,6 +6,7 @@ ghost use Rattle.scoop_keeper.specs.Keeper.{Keeps};
 
 use crate::event::{Event, Level, LogLevel};
 use crate::event_list::EventList;
+use crate::standing::Standings;
 use crate::tally::{Tally, count};
 use scoop_handler::{HandlerState, Heard, Note};
 use scoop_keeper::{Keeper, KeeperError, MemoryKeeper};
@@ -13,10 +14,11 @@ use scoop_message::{Block, ClientId, HandlerId, Message, OutOfMemory};
 use scoop_queue::QueueState;
 use std::alloc::Global;
 
-/// The latest state of each handler, counts, and the events that weren't taken yet.
+/// The latest state of each handler, what stands there, counts, and the events that weren't taken yet.
 #[derive(Drop)]
 pub(crate) struct Board {
     pub(crate) states: MemoryKeeper,
+    pub(crate) standings: Standings,
     pub(crate) tally: Tally,
     pub(crate) warnings: EventList,
     pub(crate) infos: EventList,
@@ -30,6 +32,7 @@ impl Board {
     pub(crate) fn new(alloc: Global) -> Board {
         Board {
             states: MemoryKeeper::new(alloc),
+            standings: Standings::new(alloc),
             tally: Tally::new(),
             warnings: EventList::new(),
             infos: EventList::new(),
@@ -38,12 +41,23 @@ impl Board {
         }
     }
 
-    /// Copies the state onto the board, in place of its handler's earlier one. If memory is refused, the earlier one stays, and
-    /// the board counts that it has missed a state.
-    pub(crate) fn show(&mut self, state: &HandlerState)
+    /// Copies the state onto the board, in place of its handler's earlier one, and notes what stands there from this time on. If
+    /// memory is refused, the earlier one stays, and the board counts that it has missed a state.
+    pub(crate) fn show(&mut self, state: &HandlerState, time: u64)
         ensures { Keeps (Has self.old.states) (Has self.new.states) state.now ⊎ (self.new.states ≡ self.old.states) }
     {
+        self.stand(state, time);
         match self.states.put_handler(state) {
+            Ok(()) => {}
+            Err(_) => count(&mut self.tally.missed),
+        }
+    }
+
+    // Notes what stands at the state's handler from this time on.
+    fn stand(&mut self, state: &HandlerState, time: u64)
+        ensures { self.new.states ≡ self.old.states }
+    {
+        match self.standings.note(state, time) {
             Ok(()) => {}
             Err(_) => count(&mut self.tally.missed),
         }

@@ -1,7 +1,7 @@
 //! Watchers of a node that runs. They copy onto a board, and count, what passes through its keeper, its link and its
 //! output.
 //!
-//! A [`Watch`] is shared by the node's threads and the one that shows it. A [`Watcher`] is told what the node's keeper did: a
+//! A [`Watch`] is shared by the node's threads and the one that shows it, which sets its time. A [`Watcher`] is told what the node's keeper did: a
 //! [`Watched`] copies each stored state onto the board, and counts what was heard and run. The node's link raises the counts of
 //! the watch, and a [`WatchedOutput`] notes the openings of the node. None of them changes what it is told, and no reader of a
 //! watch can change the node.
@@ -20,6 +20,7 @@
 mod board;
 mod event;
 mod event_list;
+mod standing;
 mod tally;
 mod watch;
 mod watched_output;
@@ -27,6 +28,7 @@ mod watcher;
 
 pub use event::{Event, Level, LogLevel};
 pub use event_list::{EventList, MAX_EVENTS};
+pub use standing::{Since, Standing};
 pub use tally::{NOTES, REASONS, Tally};
 pub use watch::{Settings, Watch};
 pub use watched_output::WatchedOutput;

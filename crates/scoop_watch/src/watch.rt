@@ -5,6 +5,7 @@ ghost use Rattle.std.specs.Prelude.{◌≡◌, IfOk};
 use crate::board::Board;
 use crate::event::{Event, Level, LogLevel};
 use crate::event_list::EventList;
+use crate::standing::Standing;
 use crate::tally::Tally;
 use scoop_handler::{HandlerState, Heard};
 use scoop_keeper::KeeperError;
@@ -83,6 +84,11 @@ impl Watch {
         self.board.lock(rt).state(handler)
     }
 
+    /// The blocks that stand at the handler, perhaps at a later moment than that of a state which was read before.
+    pub fn standing<R: Wait>(&self, rt: &R, handler: HandlerId) -> Standing {
+        self.board.lock(rt).standings.at(handler)
+    }
+
     /// The events of this level since they were last taken.
     pub fn take_events<R: Wait>(&self, rt: &R, level: Level) -> EventList {
         let mut board = self.board.lock(rt);
@@ -144,7 +150,7 @@ impl Watch {
         let board = &mut *board;
         board.put(state.handler(), stored, self.settings.log);
         if shows {
-            board.show(state);
+            board.show(state, self.counts.time());
         }
     }
 
@@ -157,7 +163,7 @@ impl Watch {
     /// Notes a state that was loaded.
     pub(crate) fn load<R: Wait>(&self, rt: &R, state: &HandlerState) {
         if self.shows_states() {
-            self.board.lock(rt).show(state);
+            self.board.lock(rt).show(state, self.counts.time());
         }
     }
 

@@ -1,4 +1,4 @@
--- Each journal so far has its party, or no line.
+-- Each journal so far has its party.
 use Rattle.std.proofs.Common.{◌≡◌, [], map, take}
 use Rattle.std.specs.List.{AllByRecursion}
 use Rattle.scoop_audit.specs.Members.{HasItsOwn, places_of, who}
