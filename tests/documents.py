@@ -1,8 +1,8 @@
 """The commands of README.md and docs/GUIDE.md, run to the letter, and the outputs that these documents show.
 
 The word after a fence says what its block is. `sh` are commands: one shell runs those of a document, from its top to its end, in a
-folder with the program and examples/. A command may end by a signal, and else has to succeed. `output` is what the commands above it
-print, notes on standard error too; `..` stands for any lines. Blocks of other words are no commands.
+folder with the program, clients/ and examples/. A command may end by a signal, and else has to succeed. `output` is what the commands
+above it print, notes on standard error too; `..` stands for any lines. Blocks of other words are no commands.
 
 A comment that readers don't see may stand before a block. `<!-- not run: REASON -->` keeps commands from being run, and NOT_RUN lists
 them. `<!-- numbers differ -->` lets each number of an output stand for any.
@@ -27,7 +27,7 @@ from systems import SCOOP, TOP, Skipped, System, free_ports, holds, same, test
 
 README, GUIDE, OPERATING = "README.md", os.path.join("docs", "GUIDE.md"), os.path.join("docs", "OPERATING.md")
 # Words of blocks.
-WORDS = ["sh", "output", "text", "toml", "rust"]
+WORDS = ["sh", "output", "text", "toml", "rust", "python"]
 # The first line of each block of commands that isn't run, and why.
 NOT_RUN = {
     "etcd --data-dir try/etcd": "needs an etcd, for which the tests have a stand-in",
@@ -78,12 +78,13 @@ def is_shown(came, shown, is_mixed):
 
 
 class Reader:
-    """One who types the commands of a document in a folder with the program and examples/. `ports` has a free one for each of the
-    documents'."""
+    """One who types the commands of a document in a folder with the program, clients/ and examples/. `ports` has a free one for each
+    of the documents'."""
 
     def __init__(self, folder, ports):
         self.folder, self.ports, self.came = folder, ports, b""
         os.symlink(SCOOP, os.path.join(folder, "scoop"))
+        os.symlink(os.path.join(TOP, "clients"), os.path.join(folder, "clients"))
         examples = os.path.join(folder, "examples")
         shutil.copytree(os.path.join(TOP, "examples"), examples)
         for name in os.listdir(examples):

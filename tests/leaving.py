@@ -7,6 +7,8 @@ from contextlib import contextmanager
 
 from systems import LOCK, LOG, OPEN, Relay, System, frame_of, holds, same, test, until
 
+# Seconds in which a client ends that isn't waited for: two times 500 polls, on a loaded machine.
+SOON = 30
 # Its lines name both handlers.
 BOTH = "reserve 1 2\nquery 1 balance\nquery 2 balance\nend\n"
 # Enough for a greeting on a loaded machine: some three seconds without a datagram.
@@ -172,16 +174,74 @@ def a_reservation_is_given_up_through_a_pipe():
         gives_up(system, client, client.tell)
 
 
-@test
-def a_reservation_is_given_up_at_a_terminal():
+@contextmanager
+def terminal():
+    """A terminal, and what types there."""
     ours, theirs = pty.openpty()
     try:
-        with accounts() as system:
-            client = system.client(7, stdin=theirs)
-            gives_up(system, client, lambda text: os.write(ours, text.encode()))
+        yield theirs, lambda text: os.write(ours, text.encode())
     finally:
         os.close(ours)
         os.close(theirs)
+
+
+@test
+def a_reservation_is_given_up_at_a_terminal():
+    with terminal() as (theirs, types), accounts() as system:
+        gives_up(system, system.client(7, stdin=theirs), types)
+
+
+@test
+def the_tries_of_a_waiting_block_are_given_up_at_a_terminal():
+    with terminal() as (theirs, types), accounts() as system:
+        client = system.client(7, stdin=theirs)
+        types("reserve 1 when 1 balance least 101 tries 4294967295\ncall 1 deposit 5\nend\n")
+        client.expect("noted", "noted")
+        time.sleep(0.5)
+        types("giveup\nreserve 1\nend\nquit\n")
+        client.expect("given up", "reserved", "ended")
+        same("its status", client.process.wait(SOON), 0)
+
+
+@test
+def quit_leaves_a_query_at_a_terminal():
+    with terminal() as (theirs, types), accounts() as system:
+        other, client = system.client(9), system.client(7, stdin=theirs)
+        other.ask("reserve 1", "reserved ")
+        other.ask("query 1 balance", "answer 100")
+        types("reserve 1\n")
+        client.expect("reserved ")
+        types("query 1 balance\n")
+        time.sleep(0.5)
+        types("quit\n")
+        client.expect("cut 7.1.1")
+        same("its status", client.process.wait(SOON), 1)
+        same("the end of client 9", other.end("end\n").result, (0, "ended\n"))
+
+
+@test
+def control_d_leaves_a_greeting_at_a_terminal():
+    with terminal() as (theirs, types), accounts() as system:
+        system.serving[2].kill()
+        client = system.client(7, stdin=theirs)
+        time.sleep(0.5)
+        types("\x04")
+        same("its status", client.process.wait(SOON), 1)
+        holds("it says why", "the input ended before the client was ready" in client.notes(), client)
+        system.node(2)
+
+
+@test
+def the_end_of_a_script_on_standard_input_ends_no_wait():
+    with accounts() as system:
+        client = system.client(7)
+        client.tell("reserve 1 when 1 balance least 101 tries 4294967295\ncall 1 withdraw 1\nend\n")
+        client.process.stdin.close()
+        client.expect("noted", "noted")
+        time.sleep(0.5)
+        same("the status of client 9", system.asks(9, "reserve 1\ncall 1 deposit 1\nend\n").status, 0)
+        client.expect("ended ")
+        same("its status", client.process.wait(SOON), 0)
 
 
 @test

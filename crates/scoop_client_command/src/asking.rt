@@ -1,12 +1,13 @@
 //! `scoop client`: a client of a system, whose commands are the lines of standard input.
 
 use crate::config::ClientConfig;
+use crate::script_lines::ScriptLines;
 use crate::tasks::{ClientTask, Cut, Input, Program, Script};
-use crate::typed_lines::TypedLines;
-use scoop_command_line::{ClientOptions, StoreChoice};
+use scoop_command_line::{ClientOptions, LinesChoice, StoreChoice};
 use scoop_etcd_stores::Fate;
 use scoop_files::{FiledStore, Named, StoreName, close};
 use scoop_journal::{Journal, JournalFile};
+use scoop_lines::{SourceError, SourceFault};
 use scoop_link::UdpLink;
 use scoop_links::{ClientLink, ClientNotes};
 use scoop_message::ClientId;
@@ -19,7 +20,10 @@ use scoop_opening::{
 use scoop_pacing::{SlowNotes, SystemTimes};
 use scoop_record::Store;
 use scoop_report::{Hints, Status, hint, report};
-use scoop_runtime::{ClientProgram, ClientRecord, FileFault, check_script, open_client_link};
+use scoop_runtime::{
+    ClientMode, ClientProgram, ClientRecord, FileFault, RuntimeError, check_script,
+    open_client_link,
+};
 use scoop_seal::SealedLink;
 use scoop_system::System;
 use scoop_watch::Unwatched;
@@ -71,27 +75,50 @@ fn run_in<T: Net>(
     options: &ClientOptions<'_>,
     system: &System,
 ) -> Result<(), Status> {
-    if options.only_cuts {
-        return run_task(rt, net, options, system, false, &mut Cut);
+    match options.lines {
+        LinesChoice::None => run_task(rt, net, options, system, ClientMode::Script, &mut Cut),
+        LinesChoice::Input => {
+            let mode = input_mode(rt);
+            run_task(
+                rt,
+                net,
+                options,
+                system,
+                mode,
+                &mut Input { net, names: &[] },
+            )
+        }
+        LinesChoice::Pipe => {
+            let mode = ClientMode::Piped;
+            run_task(
+                rt,
+                net,
+                options,
+                system,
+                mode,
+                &mut Input { net, names: &[] },
+            )
+        }
+        LinesChoice::File(path) => {
+            let text = read_text(rt, path)?;
+            check_lines(rt, options, system, path, &text)?;
+            let mode = ClientMode::Script;
+            run_task(rt, net, options, system, mode, &mut Script { text: &text })
+        }
     }
-    let Some(path) = options.lines else {
-        let is_typed = rt.stdin().is_terminal();
-        return run_task(
-            rt,
-            net,
-            options,
-            system,
-            is_typed,
-            &mut Input { net, names: &[] },
-        );
-    };
-    let text = read_text(rt, path)?;
-    check_lines(rt, options, system, path, &text)?;
-    run_task(rt, net, options, system, false, &mut Script { text: &text })
 }
 
-/// Runs a program as the client of the options. With `only_cuts` it cuts the block of a run that was killed, and the program
-/// doesn't run. The order of what it opens and refuses is that of [`run_client`].
+/// Where the lines of standard input come from: a user types them, or they are a script.
+pub fn input_mode(rt: &HostRuntime) -> ClientMode {
+    if rt.stdin().is_terminal() {
+        ClientMode::Typed
+    } else {
+        ClientMode::Script
+    }
+}
+
+/// Runs a program as the client of the options. If they choose no lines, it cuts the block of a run that was killed, and the
+/// program doesn't run. The order of what it opens and refuses is that of [`run_client`].
 pub fn run_own_client<T: Net, G: ClientProgram>(
     rt: &HostRuntime,
     net: &T,
@@ -99,10 +126,10 @@ pub fn run_own_client<T: Net, G: ClientProgram>(
     program: &mut G,
 ) -> Result<(), Status> {
     let system = system_of(rt, options)?;
-    if options.only_cuts {
-        run_task(rt, net, options, &system, false, &mut Cut)
-    } else {
-        run_task(rt, net, options, &system, false, &mut Program { program })
+    let mode = ClientMode::Script;
+    match options.lines {
+        LinesChoice::None => run_task(rt, net, options, &system, mode, &mut Cut),
+        _ => run_task(rt, net, options, &system, mode, &mut Program { program }),
     }
 }
 
@@ -114,7 +141,7 @@ fn check_lines(
     path: &str,
     text: &str,
 ) -> Result<(), Status> {
-    let mut lines = TypedLines::new(text.as_bytes());
+    let mut lines = ScriptLines::new(text);
     let client = system.client(ClientId(options.number));
     match check_script(system, client, &mut lines, &mut rt.stderr()) {
         Ok(true) => Ok(()),
@@ -123,18 +150,36 @@ fn check_lines(
     }
 }
 
-// Runs the client for this task, and reports why it ends early. A user may type its lines.
+// Whether a program over a pipe knows from the replies that its client has ended with this error.
+fn is_replied(error: RuntimeError) -> bool {
+    matches!(
+        error,
+        RuntimeError::InsideBlock
+            | RuntimeError::InsideWhen
+            | RuntimeError::NotReady
+            | RuntimeError::Refused(_)
+            | RuntimeError::Input(SourceError {
+                fault: SourceFault::LineTooLong | SourceFault::NoNewline,
+                ..
+            })
+    )
+}
+
+// Runs the client for this task, whose lines come so, and reports why it ends early.
 fn run_task<T: Net, C: ClientTask>(
     rt: &HostRuntime,
     net: &T,
     options: &ClientOptions<'_>,
     system: &System,
-    is_typed: bool,
+    mode: ClientMode,
     task: &mut C,
 ) -> Result<(), Status> {
-    match ClientConfig::read(rt, options, system, is_typed) {
+    match ClientConfig::read(rt, options, system, mode) {
         Ok(config) => match run_journaled(rt, net, &config, task) {
             Ok(()) => Ok(()),
+            Err(End::Lines(stop)) if mode == ClientMode::Piped && is_replied(stop.error) => {
+                Err(Status(stop.error.status()))
+            }
             Err(end) => Err(config.report(rt, end)),
         },
         Err(status) => Err(status),

@@ -5,7 +5,7 @@ use scoop_journal::Owner;
 use scoop_message::ClientId;
 use scoop_opening::{End, Party, check_owner, read_key, report_end, report_fault, report_range};
 use scoop_report::Status;
-use scoop_runtime::{ClientPlan, FileFault};
+use scoop_runtime::{ClientMode, ClientPlan, FileFault};
 use scoop_seal::Key;
 use scoop_system::System;
 
@@ -25,13 +25,13 @@ pub struct ClientConfig<'s, 'o> {
 }
 
 impl<'s, 'o> ClientConfig<'s, 'o> {
-    /// The client of these options in this system. A user may type its lines. Reports what is wrong: the number of a client that
-    /// the file lacks, a number out of its range, the key, a store of another owner.
+    /// The client of these options in this system, and where its lines come from. Reports what is wrong: the number of a client
+    /// that the file lacks, a number out of its range, the key, a store of another owner.
     pub(crate) fn read(
         rt: &HostRuntime,
         options: &ClientOptions<'o>,
         system: &'s System,
-        is_typed: bool,
+        mode: ClientMode,
     ) -> Result<ClientConfig<'s, 'o>, Status> {
         let client = ClientId(options.number);
         let Some(place) = system.client(client) else {
@@ -42,11 +42,7 @@ impl<'s, 'o> ClientConfig<'s, 'o> {
                 FileFault::NoClient,
             ));
         };
-        let made = if options.is_strict {
-            ClientPlan::new_strict(system, *place, options.turns, is_typed)
-        } else {
-            ClientPlan::new(system, *place, options.turns, is_typed)
-        };
+        let made = ClientPlan::new(system, *place, options.turns, mode, options.is_strict);
         let plan = match made {
             Ok(plan) => plan,
             Err(range) => return Err(report_range(rt, range)),

@@ -1,18 +1,17 @@
-//! Standard input of a client, whose next line may end a reservation that waits. It ends when a store is lost that is watched.
+//! Standard input of a client, whose next line may end a wait. It ends when a store is lost that is watched.
 
 ghost use Rattle.std.specs.Prelude.{⊤};
 
-use crate::typed_lines::TypedLines;
 use mio::unix::SourceFd;
 use mio::{Events, Interest, Poll, Token};
 use scoop_files::{NameWatch, StoreName};
-use scoop_lines::{LineBytes, LineSource, SourceError};
+use scoop_lines::{Ahead, LineBytes, LineSource, LinesError, LiveLines, MAX_LINE_LEN, SourceFault};
 use scoop_message::OutOfMemory;
-use scoop_runtime::Interrupt;
+use scoop_runtime::{ClientMode, ClientPlan, Interrupt};
 use scoop_system::{ClientLine, System, read_line};
 use std::alloc::Global;
 use std::io;
-use std::io::{Read, StdinLock};
+use std::io::{Read, StdinLock, Write};
 use std::net::Net;
 use std::os::fd::{AsRawFd, RawFd};
 use std::time::Duration;
@@ -124,66 +123,97 @@ impl Read for Typed<'_> {
     }
 }
 
-// A line that was read while a reservation waited.
-#[derive(Drop)]
-struct Early {
-    line: LineBytes,
-    came: Result<Option<u32>, SourceError>,
-}
-
-/// The lines of standard input. While a reservation waits, the next line is read as soon as it comes. If it is `giveup`, it
-/// ends the reservation. Any other line is kept until it is asked for. When a store that is watched loses its name, the
-/// reservation ends too, and no line comes any more.
+/// The lines of standard input. While the client waits, what comes of the next line is read as soon as it comes. A `giveup` ends a
+/// wait that can be given up, and is given as the next line then. If a user types or the lines come over a pipe, `quit` and the
+/// end of the input end each wait. When a store that is watched loses its name, each wait ends too, and no line comes any more.
 #[derive(Drop)]
 pub struct Keyboard<'a> {
     system: &'a System,
-    lines: TypedLines<Typed<'a>>,
+    mode: ClientMode,
+    lines: LiveLines<Typed<'a>>,
     readiness: Option<Readiness>,
-    early: Option<Early>,
+    // The number of a `giveup` that has ended a wait.
+    gave_up: Option<u32>,
     watches: Watches<'a>,
 }
 
 impl<'a> Keyboard<'a> {
-    /// The lines for a client of this system. The stores of these names are open, and watched.
+    /// The lines for the client of this plan. The stores of these names are open, and watched.
     pub(crate) fn new<T: Net>(
         rt: &'a HostRuntime,
         net: &T,
-        system: &'a System,
+        plan: &ClientPlan<'a>,
         names: &'a [StoreName],
     ) -> Result<Keyboard<'a>, OutOfMemory> {
         let descriptor = rt.stdin().as_raw_fd();
+        let mode = plan.mode();
         let typed = Typed {
             input: rt.reader(),
             readiness: Readiness::of(net, rt.alloc(), descriptor),
             watches: Watches::new(rt, names)?,
         };
         Ok(Keyboard {
-            system,
-            lines: TypedLines::new(typed),
+            system: plan.system(),
+            mode,
+            lines: LiveLines::new(typed, mode == ClientMode::Piped),
             readiness: Readiness::of(net, rt.alloc(), descriptor),
-            early: None,
+            gave_up: None,
             watches: Watches::new(rt, names)?,
         })
     }
 
-    // Whether a line can be read at once, and none was.
-    fn has_line(&mut self) -> bool {
-        match (&self.early, &mut self.readiness) {
-            (None, Some(readiness)) => readiness.is_ready(Duration::ZERO),
-            _ => false,
+    // Whether some bytes of the input can be taken at once.
+    fn has_bytes(&mut self) -> bool {
+        self.lines.has_rest()
+            || match &mut self.readiness {
+                Some(readiness) => readiness.is_ready(Duration::ZERO),
+                None => false,
+            }
+    }
+
+    // Reads what has come of the next line, and returns how much that is.
+    fn look(&mut self) -> Ahead {
+        // (each part has a byte or more)
+        for _ in 0..=MAX_LINE_LEN {
+            if self.lines.ahead() != Ahead::Part || !self.has_bytes() {
+                break;
+            }
+            let _came = self.lines.go_on(&mut io::sink());
         }
+        self.lines.ahead()
+    }
+
+    // Whether the next line has come and gives up.
+    fn gives_up(&mut self) -> bool {
+        self.look() == Ahead::Line
+            && matches!(
+                read_line(self.system, self.lines.line()),
+                Ok(ClientLine::GiveUp)
+            )
+    }
+
+    // Whether the next line has come and ends the client.
+    fn quits(&mut self) -> bool {
+        self.look() == Ahead::Line
+            && matches!(
+                read_line(self.system, self.lines.line()),
+                Ok(ClientLine::Quit)
+            )
     }
 }
 
 impl LineSource for Keyboard<'_> {
-    fn next_line(&mut self, line: &mut LineBytes) -> Result<Option<u32>, SourceError> {
-        let came = match self.early.take() {
-            Some(early) => {
-                *line = early.line;
-                early.came
-            }
-            None => self.lines.next_line(line),
-        };
+    fn next_line<W: Write>(
+        &mut self,
+        line: &mut LineBytes,
+        output: &mut W,
+    ) -> Result<Option<u32>, LinesError> {
+        if let Some(number) = self.gave_up.take() {
+            line.clear();
+            let _fits = line.try_extend_from_slice(b"giveup");
+            return Ok(Some(number));
+        }
+        let came = self.lines.next_line(line, output);
         if self.watches.have_names() {
             came
         } else {
@@ -195,21 +225,28 @@ impl LineSource for Keyboard<'_> {
 impl Interrupt for Keyboard<'_> {
     ghost stops = { λ _ _ _. ⊤ };
 
+    ghost leaves = { λ _ _ _. ⊤ };
+
     fn stops(&mut self) -> bool {
+        if self.gave_up.is_none() && self.gives_up() {
+            let taken = self.lines.next_line(&mut LineBytes::new(), &mut io::sink());
+            self.gave_up = taken.unwrap_or(None);
+            return true;
+        }
+        self.leaves()
+    }
+
+    fn leaves(&mut self) -> bool {
         if !self.watches.have_names() {
             return true;
         }
-        if !self.has_line() {
+        if self.mode == ClientMode::Script {
             return false;
         }
-        let mut line = LineBytes::new();
-        let came = self.lines.next_line(&mut line);
-        if matches!(came, Ok(Some(_)))
-            && matches!(read_line(self.system, &line), Ok(ClientLine::GiveUp))
-        {
-            return true;
+        match self.look() {
+            Ahead::Part | Ahead::Fault(SourceFault::LineTooLong) => false,
+            Ahead::End | Ahead::Fault(_) => true,
+            Ahead::Line => self.quits(),
         }
-        self.early = Some(Early { line, came });
-        false
     }
 }

@@ -10,9 +10,11 @@
 mod asking;
 mod config;
 mod keyboard;
+mod script_lines;
 mod tasks;
-mod typed_lines;
 
-pub use asking::{AskingLink, Papers, client_link, run_client, run_over, run_own_client};
+pub use asking::{
+    AskingLink, Papers, client_link, input_mode, run_client, run_over, run_own_client,
+};
 pub use config::ClientConfig;
 pub use tasks::{ClientTask, Input};

@@ -1,7 +1,7 @@
 //! The tasks of a client: the lines of an input, the cut of a run that was killed, and the calls of a program.
 
 use crate::keyboard::Keyboard;
-use crate::typed_lines::TypedLines;
+use crate::script_lines::ScriptLines;
 use scoop_files::StoreName;
 use scoop_journal::JournalFile;
 use scoop_keeper::Keeper;
@@ -61,7 +61,7 @@ impl<'n, T: Net> ClientTask for Input<'n, T> {
         record: &mut ClientRecord<K, &JournalFile>,
         link: &mut L,
     ) -> Result<(), End> {
-        let lines = Keyboard::new(rt, self.net, plan.system(), self.names)?;
+        let lines = Keyboard::new(rt, self.net, plan, self.names)?;
         run_lines(rt, plan, record, link, lines)
     }
 }
@@ -74,7 +74,7 @@ impl<'t> ClientTask for Script<'t> {
         record: &mut ClientRecord<K, &JournalFile>,
         link: &mut L,
     ) -> Result<(), End> {
-        let lines = TypedLines::new(self.text.as_bytes());
+        let lines = ScriptLines::new(self.text);
         run_lines(rt, plan, record, link, lines)
     }
 }

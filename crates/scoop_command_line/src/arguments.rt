@@ -61,11 +61,21 @@ fn placed<'a>(arg: Arg<'a>, name: &'static str, place: Place) -> Result<Arg<'a>,
         Place::Option => Ok(arg.long(name)),
         Place::RequiredOption => Ok(arg.long(name).required(true)),
         Place::OptionWithout(other) => arg.long(name).conflicts_with(other),
+        Place::OptionWithoutAll(others) => without_all(arg.long(name), others),
         Place::OptionWith(other) => arg.long(name).requires_arg(other),
         Place::OptionWithButWithout(with, one, other) => {
             with_and_without(arg.long(name), with, one, other)
         }
     }
+}
+
+// The argument, which is never taken with the others.
+fn without_all<'a>(arg: Arg<'a>, others: &[&'static str]) -> Result<Arg<'a>, AllocError> {
+    let mut arg = arg;
+    for other in others {
+        arg = arg.conflicts_with(*other)?;
+    }
+    Ok(arg)
 }
 
 // The argument, which is taken only with the first and never with the others.

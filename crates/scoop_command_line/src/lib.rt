@@ -33,9 +33,9 @@ use clap::{ArgMatches, Command, Error};
 use key_command::KEY_MAKER;
 use local_commands::{ANSWER, DEMO, FRAME, WORLD};
 pub use options::{
-    AnswerOptions, Asked, AuditOptions, ClientOptions, DemoOptions, JournalChoice, LogChoice,
-    NodeOptions, StoreChoice, StoreOptions, UpOptions, WorldOptions, asked_in, client_options,
-    node_options,
+    AnswerOptions, Asked, AuditOptions, ClientOptions, DemoOptions, JournalChoice, LinesChoice,
+    LogChoice, NodeOptions, StoreChoice, StoreOptions, UpOptions, WorldOptions, asked_in,
+    client_options, node_options,
 };
 pub use own_commands::{parse_client, parse_node};
 use rows::{ArgumentRow, CommandRow};

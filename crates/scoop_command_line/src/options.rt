@@ -111,6 +111,19 @@ pub struct NodeOptions<'a> {
     pub turns: u64,
 }
 
+/// Where a client's lines come from.
+#[derive(Clone, Copy, Debug, PartialEq, Eq)]
+pub enum LinesChoice<'a> {
+    /// From nowhere: it only cuts the block of a run that was killed.
+    None,
+    /// From standard input.
+    Input,
+    /// From standard input, over a pipe, from a program that reads the replies.
+    Pipe,
+    /// From this file.
+    File(&'a str),
+}
+
 /// The options of `scoop client`.
 #[derive(Clone, Copy)]
 pub struct ClientOptions<'a> {
@@ -125,10 +138,7 @@ pub struct ClientOptions<'a> {
     pub key: Option<&'a str>,
     pub is_strict: bool,
     pub turns: u64,
-    /// The file of its lines. Without it they come from standard input.
-    pub lines: Option<&'a str>,
-    /// Whether it only cuts the block of a run that was killed.
-    pub only_cuts: bool,
+    pub lines: LinesChoice<'a>,
 }
 
 /// The options of `scoop up`.
@@ -283,8 +293,20 @@ pub fn client_options<'a>(given: &'a ArgMatches<'_>) -> ClientOptions<'a> {
         key: given.get_str("key"),
         is_strict: given.get_flag("strict"),
         turns: given.get_one::<u64>("turns").unwrap_or(100_000),
-        lines: given.get_str("lines"),
-        only_cuts: given.get_flag("cut"),
+        lines: lines_choice(given),
+    }
+}
+
+fn lines_choice<'a>(given: &'a ArgMatches<'_>) -> LinesChoice<'a> {
+    if given.get_flag("cut") {
+        return LinesChoice::None;
+    }
+    if given.get_flag("pipe") {
+        return LinesChoice::Pipe;
+    }
+    match given.get_str("lines") {
+        Some(path) => LinesChoice::File(path),
+        None => LinesChoice::Input,
     }
 }
 

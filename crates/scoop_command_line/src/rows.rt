@@ -37,6 +37,8 @@ pub(crate) enum Place {
     RequiredOption,
     /// After `--name`, and never together with this option.
     OptionWithout(&'static str),
+    /// After `--name`, and never together with these options.
+    OptionWithoutAll(&'static [&'static str]),
     /// After `--name`, and only together with this option.
     OptionWith(&'static str),
     /// The same, and never together with the other two. They are named too: clap excuses a missing option that an option

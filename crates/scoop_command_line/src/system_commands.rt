@@ -222,9 +222,12 @@ pub(crate) const CLIENT: CommandRow = CommandRow {
         A line that the client refuses gets `refused` and why (`NotIdle`, `NoBlock`, `NotReserved H`, `Empty`, `TooMany`, \
         `Repeated H`, `Unknown H`, `NotInWhen`, `TooLate`, `Spent`); the client goes on. Empty lines and lines that begin with `#` \
         are skipped; a line may end in a carriage return and a newline.\n\n\
-        However a client ends, it leaves no block behind as long as its handlers answer. It gives up a block that isn't reserved \
-        yet (`given up 7.1.1`), and cuts any other that isn't ended (`cut 7.1.1`): the handlers run what they had received of \
-        it, and are free. If one doesn't answer within four seconds, standard error says which, and --cut frees it later.\n\n\
+        Lines that come while the client waits: `giveup` ends the wait of a `reserve` or of a block's condition. At a terminal and over \
+        a pipe `quit` and the end of the input end every wait. Control-C kills the client; --cut then frees its block.\n\n\
+        However a client ends that isn't killed, it leaves no block behind as long as its handlers answer. It gives up a block that \
+        isn't reserved yet (`given up 7.1.1`), and cuts any other that isn't ended (`cut 7.1.1`): the handlers run what they had \
+        received of it, and are free. If one doesn't answer within four seconds, standard error says which, and --cut frees it \
+        later.\n\n\
         At a terminal, standard error announces that the client is ready and which lines there are. It explains refusals, and \
         counts the tries of a waiting block. When 100 polls bring nothing new, standard error names the handlers that the client \
         waits for, and likely reasons.\n\n\
@@ -241,7 +244,7 @@ pub(crate) const CLIENT: CommandRow = CommandRow {
     arguments: &CLIENT_ARGUMENTS,
 };
 
-pub(crate) const CLIENT_ARGUMENTS: [ArgumentRow; 12] = [
+pub(crate) const CLIENT_ARGUMENTS: [ArgumentRow; 13] = [
     ArgumentRow {
         name: "number",
         place: Place::Word,
@@ -298,6 +301,15 @@ pub(crate) const CLIENT_ARGUMENTS: [ArgumentRow; 12] = [
         default: None,
         help: "Takes the lines from this file. All of it is read and checked first: if it has a fault, nothing is sent, and \
             standard error has each fault with its line",
+    },
+    ArgumentRow {
+        name: "pipe",
+        place: Place::OptionWithoutAll(&["lines", "strict", "cut"]),
+        value: Value::Flag,
+        value_name: "",
+        default: None,
+        help: "Talks to a program over standard input and output: each line gets one reply, a refusal has one form, and the end of \
+            the input ends each wait. The first line is `scoop pipe 1 client C INC`. docs/PROTOCOL.md has the form",
     },
     ArgumentRow {
         name: "cut",

@@ -2,7 +2,7 @@
 -- end: the phase or the answer that it waits for, a turn's error, a refusal, or its last turn. Each of these ends
 -- follows the turns before it, which gives the facts of the whole call.
 use Rattle.std.proofs.Common.{◌≡◌, ℕ, ◌+◌, ◌<◌, ◌≤◌, Bool, true, false, List, [], ◌∷◌, ◌++◌, Option, Some, None, Result, Ok, Err, refl, ap, sym, ◌∙◌, subst}
-use Rattle.std.proofs.Common.{arith, append_assoc, add-zero, zero-add}
+use Rattle.std.proofs.Common.{arith, append_assoc, add-zero, zero-add, inl, inr}
 use Rattle.std.proofs.lemmas.List.{append-nil}
 use Rattle.std.specs.Prelude.{Contains}
 use Rattle.std.proofs.lemmas.List.Elements.{Contains-push}
@@ -20,7 +20,7 @@ use Rattle.scoop_client.specs.Hearing.{heard}
 use Rattle.scoop_client.specs.declared.command.Command.TheVariants.{Reserve, Query as DoQuery, GiveUp}
 use Rattle.scoop_client.specs.Commands as client
 use Rattle.scoop_driver.specs.declared.error.DriverError.{DriverError}
-use Rattle.scoop_driver.specs.declared.error.DriverError.TheVariants.{Client, TurnsOver, LinkFault, ConditionFailed}
+use Rattle.scoop_driver.specs.declared.error.DriverError.TheVariants.{Client, TurnsOver, LinkFault, ConditionFailed, Interrupted as WasInterrupted}
 use Rattle.scoop_client.specs.declared.command.Command.{Command}
 use Rattle.scoop_client.specs.declared.command.Command.TheVariants as given
 use Rattle.scoop_driver.specs.declared.step.Received.{Received}
@@ -29,8 +29,8 @@ use Rattle.scoop_driver.specs.declared.step.Step.{Step}
 use Rattle.scoop_driver.specs.declared.step.Step.TheVariants.{Gave, Turned, Broke}
 use Rattle.scoop_driver.specs.Steps.{after_command, commands_by, faults_at, faults_in, notes_by, turns_in, walk}
 use Rattle.scoop_driver.specs.State.{Seen, Goes}
-use Rattle.scoop_driver.specs.Turning.{TakesTurn, TurnAnswers, StepAnswers}
-use Rattle.scoop_driver.specs.Calls.{GivesCommands, StopsBefore, TellsFault, TakesTurns, Does, Called, Queried, QueryAnswers, RunsNext, Interrupted, IsTakeable, IsRefusal}
+use Rattle.scoop_driver.specs.Turning.{TakesTurn, TakesTurnUnless, TurnAnswers, StepAnswers}
+use Rattle.scoop_driver.specs.Calls.{GivesCommands, StopsBefore, TellsFault, TakesTurns, Does, Called, Queried, QueryAnswers, RunsNext, Interrupted, IsStopped, IsTakeable, IsRefusal}
 use Rattle.scoop_driver.specs.Parts.{RefusesWith, Offered, Reached, Logged, Answered, AnswerComes, IsAcceptedFrom}
 use Rattle.scoop_driver.proofs.StepLists.{goes_nothing, goes_on, commands_by-append, faults_in-append, turns_in-append, notes_by-append}
 use Rattle.scoop_driver.proofs.Refusals.{query_waits, reserve_refuses, give_up_refuses}
@@ -167,6 +167,62 @@ turning_stops left n bound e s t u below (xs, so_far) may (ys, goes, answers) =
       },
     )
 
+-- the error of a result of another type
+pub same_error : {T U : Type 0} (e x : DriverError) → ◌≡◌ {A = Result T DriverError} (Err e) (Err x) → ◌≡◌ {A = Result U DriverError} (Err e) (Err x)
+same_error e x is = (let same : e ≡ x = cc in ap Err same)
+
+-- a turn itself is never interrupted
+never_received : {P : Type 0} (got : Received) (c : ClientState) → StepAnswers c (Turned got) (Err WasInterrupted) → P
+never_received Nothing c is = absurd (let x : of_turn WasInterrupted ≡ Ok None = is in cc)
+never_received (Frame v m) c is = absurd (let x : of_turn WasInterrupted ≡ Ok (Some (heard c m).1) = is in cc)
+never_received (NoFrame d) c is = absurd (let x : of_turn WasInterrupted ≡ Ok None = is in cc)
+never_received Fault c is = absurd (let x : of_turn WasInterrupted ≡ Err LinkFault = is in cc)
+
+never_turned : {P : Type 0} (steps : List Step) (c : ClientState) → TurnAnswers c steps (Err WasInterrupted) → P
+never_turned [] c is = absurd (let x : of_turn WasInterrupted ≡ Err (Client OutOfMemory) = is in cc)
+never_turned (Gave x ∷ []) c is = absurd is
+never_turned (Turned got ∷ []) c is = never_received got c is
+never_turned (Broke place ∷ []) c is = absurd (let x : of_turn WasInterrupted ≡ Err LinkFault = is in cc)
+never_turned (s ∷ r ∷ ss) c is = absurd is
+
+pub turn_never : {P T : Type 0} (e : DriverError) (t u : Seen) → TakesTurn (Err e) t u → ◌≡◌ {A = Result T DriverError} (Err e) (Err WasInterrupted) → P
+turn_never e t u turn is =
+    let same : e ≡ WasInterrupted = cc in
+    let last = subst (λ x. TakesTurn (Err x) t u) same turn in
+    never_turned last.0 t.client last.2
+
+-- a turn's error, as that of a turn that may be interrupted
+pub turn_unless : (e : DriverError) (t u : Seen) → TakesTurn (Err e) t u → TakesTurnUnless (Err e) t u
+turn_unless (Client x) t u turn = turn
+turn_unless TurnsOver t u turn = turn
+turn_unless LinkFault t u turn = turn
+turn_unless (ConditionFailed k) t u turn = turn
+turn_unless WasInterrupted t u (steps, goes, answers) = never_turned steps t.client answers
+
+-- a call that is interrupted after its turns, before these commands
+pub turning_left : (left : List Command) (n bound : ℕ) (s t : Seen) → n ≤ bound → Turning n s t → (steps : List Step)
+    × Does {T = Unit {0}} left bound (Err WasInterrupted) steps s t
+turning_left left n bound s t within (xs, so_far) = (
+  xs,
+  record {
+    goes = so_far.goes;
+    commands = (left, sym (ap (λ zs. zs ++ left) so_far.silent), tt);
+    faults = so_far.sound;
+    bound = omega (arith, so_far.count);
+  },
+)
+
+-- a call that ends by the error of a turn that may be interrupted
+pub turning_leaves : (left : List Command) (n bound : ℕ) (e : DriverError) (s t u : Seen) → n < bound → Turning n s t → MayWant left t.client
+    → TakesTurnUnless (Err e) t u
+    → (steps : List Step) × Does {T = Unit {0}} left bound (Err e) steps s u
+turning_leaves left n bound (Client x) s t u below so_far may turn = turning_stops left n bound (Client x) s t u below so_far may turn
+turning_leaves left n bound TurnsOver s t u below so_far may turn = turning_stops left n bound TurnsOver s t u below so_far may turn
+turning_leaves left n bound LinkFault s t u below so_far may turn = turning_stops left n bound LinkFault s t u below so_far may turn
+turning_leaves left n bound (ConditionFailed k) s t u below so_far may turn = turning_stops left n bound (ConditionFailed k) s t u below so_far may turn
+turning_leaves left n bound WasInterrupted s t u below so_far may turn =
+    turning_left left (n + 1) bound s u (omega (arith, below)) (turning_more n None s t u so_far turn)
+
 -- a call whose turns are over before these commands
 pub turning_over : (left : List Command) (n : ℕ) (s t : Seen) → Turning n s t → (steps : List Step)
     × Does {T = Unit {0}} left n (Err TurnsOver) steps s t
@@ -199,6 +255,12 @@ reached_now phase b n bound s t within so_far there =
     let all = turning_done b n bound s t within so_far in
     (all.0, all.1, λ is. there (let same : b ≡ true = cc in same))
 
+-- turns that an interrupt ended, at a client that waits for no lock
+pub reached_left : (phase : Phase) (n bound : ℕ) (s t : Seen) → n ≤ bound → Turning n s t → Reached phase bound (Err WasInterrupted) s t
+reached_left phase n bound s t within so_far =
+    let all = turning_left [] n bound s t within so_far in
+    (all.0, record { goes = all.1.goes; commands = all.1.commands; faults = all.1.faults; bound = all.1.bound }, λ is. cc)
+
 -- ---- an error ends any call in the same way
 
 pub faults_as : (T U : Type 0) (e : DriverError) (steps : List Step) → TellsFault {T = T} (Err e) steps → TellsFault {T = U} (Err e) steps
@@ -206,12 +268,14 @@ faults_as T U (Client x) steps h = h
 faults_as T U TurnsOver steps h = h
 faults_as T U LinkFault steps h = h
 faults_as T U (ConditionFailed t) steps h = h
+faults_as T U WasInterrupted steps h = h
 
 bound_as : (T U : Type 0) (e : DriverError) (bound : ℕ) (steps : List Step) → TakesTurns {T = T} (Err e) bound steps → TakesTurns {T = U} (Err e) bound steps
 bound_as T U (Client x) bound steps h = h
 bound_as T U TurnsOver bound steps h = h
 bound_as T U LinkFault bound steps h = h
 bound_as T U (ConditionFailed t) bound steps h = h
+bound_as T U WasInterrupted bound steps h = h
 
 pub does_err : (T U : Type 0) (xs : List Command) (bound : ℕ) (e : DriverError) (steps : List Step) (s t : Seen)
     → Does {T = T} xs bound (Err e) steps s t → Does {T = U} xs bound (Err e) steps s t
@@ -225,6 +289,18 @@ does_err T U xs bound e steps s t does = record {
 pub called_err : {T U : Type 0} (x : Command) (turns : ℕ) (e : DriverError) (s t : Seen) → Called {T = T} x turns (Err e) s t
     → Called {T = U} x turns (Err e) s t
 called_err {T} {U} x turns e s t (steps, does) = (steps, does_err T U (x ∷ []) turns e steps s t does)
+
+-- a call that gave its command was interrupted after that
+pub called_left : {T U : Type 0} (v : T) (x : Command) (turns : ℕ) (s t : Seen) → Called x turns (Ok v) s t → Called {T = U} x turns (Err WasInterrupted) s t
+called_left v x turns s t (steps, does) = (
+  steps,
+  record {
+    goes = does.goes;
+    commands = ([], sym (append-nil (commands_by steps) ∙ does.commands), tt);
+    faults = does.faults;
+    bound = does.bound;
+  },
+)
 
 -- and a call that returns a value does as if it returned another
 pub called_ok : {T U : Type 0} (v : T) (w : U) (x : Command) (turns : ℕ) (s t : Seen) → Called x turns (Ok v) s t → Called x turns (Ok w) s t
@@ -249,6 +325,7 @@ faults_on (Err LinkFault) xs ys none h = record {
   fault = h.fault;
 }
 faults_on (Err (ConditionFailed t)) xs ys none h = faults_in-append xs ys ∙ (ap (λ k. k + faults_in ys) none ∙ (zero-add (faults_in ys) ∙ h))
+faults_on (Err WasInterrupted) xs ys none h = faults_in-append xs ys ∙ (ap (λ k. k + faults_in ys) none ∙ (zero-add (faults_in ys) ∙ h))
 
 bound_on : {T : Type 0} (r : Result T DriverError) (n left bound : ℕ) (xs ys : List Step) → turns_in xs ≡ n → n + left ≡ bound → TakesTurns r left ys
     → TakesTurns r bound (xs ++ ys)
@@ -257,6 +334,7 @@ bound_on (Err (Client e)) n left bound xs ys is sum h = omega (arith, turns_in-a
 bound_on (Err TurnsOver) n left bound xs ys is sum h = omega (arith, turns_in-append xs ys, is, sum, h)
 bound_on (Err LinkFault) n left bound xs ys is sum h = omega (arith, turns_in-append xs ys, is, sum, h)
 bound_on (Err (ConditionFailed t)) n left bound xs ys is sum h = omega (arith, turns_in-append xs ys, is, sum, h)
+bound_on (Err WasInterrupted) n left bound xs ys is sum h = omega (arith, turns_in-append xs ys, is, sum, h)
 
 commands_on : {T : Type 0} (r : Result T DriverError) (xs : List Command) (ss ts : List Step) (u : Seen) → commands_by ss ≡ xs → GivesCommands [] r ts u
     → GivesCommands xs r (ss ++ ts) u
@@ -324,6 +402,7 @@ refused_after x n bound (Client y) s t within (xs, so_far) refuses = (
 refused_after x n bound TurnsOver s t within so_far refuses = absurd refuses
 refused_after x n bound LinkFault s t within so_far refuses = absurd refuses
 refused_after x n bound (ConditionFailed k) s t within so_far refuses = absurd refuses
+refused_after x n bound WasInterrupted s t within so_far refuses = absurd refuses
 
 -- a driver that stayed as it was
 pub turning_same : (n : ℕ) (s t u : Seen) → u ≡ t → Turning n s t → Turning n s u
@@ -335,6 +414,13 @@ pub refused_same : (x : Command) (n bound : ℕ) (e : DriverError) (s t u : Seen
 refused_same x n bound e s t u within so_far (refuses, same) =
     let P : Seen → Type 0 = λ v. (steps : List Step) × Does {T = Unit {0}} (x ∷ []) bound (Err e) steps s v in
     subst P (sym same) (refused_after x n bound e s t within so_far refuses)
+
+-- an offer is never interrupted
+pub offer_never : {P T : Type 0} (x : Command) (e : DriverError) (t u : Seen) → Offered x (Err e) t u
+    → ◌≡◌ {A = Result T DriverError} (Err e) (Err WasInterrupted) → P
+offer_never x e t u offered is =
+    let same : e ≡ WasInterrupted = cc in
+    absurd (subst (λ y. RefusesWith (client.command t.client x) y) same offered.0)
 
 -- the facts of an offer that was taken, or that found the window full
 pub offered_true : (x : Command) (b : Bool) (t u : Seen) → b ≡ true → Offered x (Ok b) t u → Goes (Gave x ∷ []) t u
@@ -386,10 +472,10 @@ answered_over h n s t so_far =
     let all = turning_over [] n s t so_far in
     (all.0, does_err (Unit {0}) Answer [] n TurnsOver all.0 s t all.1, tt)
 
-pub answered_not : (h : HandlerId) (n bound : ℕ) (e : DriverError) (s t u : Seen) → n < bound → Turning n s t → TakesTurn (Err e) t u
+pub answered_not : (h : HandlerId) (n bound : ℕ) (e : DriverError) (s t u : Seen) → n < bound → Turning n s t → TakesTurnUnless (Err e) t u
     → Answered h bound (Err e) s u
 answered_not h n bound e s t u below so_far turn =
-    let all = turning_stops [] n bound e s t u below so_far (tt {0}) turn in
+    let all = turning_leaves [] n bound e s t u below so_far (tt {0}) turn in
     (all.0, does_err (Unit {0}) Answer [] bound e all.0 s u all.1, tt)
 
 -- ---- the calls
@@ -421,6 +507,14 @@ reached_there phase turns r s t (ys, does, there) = there
 -- the result of a wait
 abbrev waited : Bool → Result Bool DriverError
 waited b = Ok b
+
+-- an interrupt that never ends a wait didn't
+pub not_interrupted : {P S : Type 0} (s : S) → Interrupted (λ _ stops _. stops ≡ false) s → P
+not_interrupted s was = absurd (let never : true ≡ false = was.1 in cc)
+
+pub not_stopped_so : {P S : Type 0} (s : S) → IsStopped (λ _ stops _. stops ≡ false) (λ _ leaves _. leaves ≡ false) s → P
+not_stopped_so s (inl stopped) = not_interrupted s stopped
+not_stopped_so s (inr left) = not_interrupted s left
 
 -- a wait that no interrupt can end reaches its goal
 pub not_stopped : {S : Type 0} (P : Type 0) (b : Bool) (s : S) → (waited b ≡ Ok true → P) → (waited b ≡ Ok false → Interrupted (λ _ stops _. stops ≡ false) s) → P
@@ -471,6 +565,11 @@ queried_not h q turns e s t (xs, does) = (xs, does_err (Unit {0}) Answer (DoQuer
 -- a call that was logged
 pub called_logged : (x : Command) (left turns : ℕ) (s t : Seen) → Logged x turns (Ok left) s t → Called x turns (Ok (tt {0})) s t
 called_logged x left turns s t (xs, logs) = called_ok left (tt {0}) x turns s t (xs, logs.does)
+
+-- a reserve that returned a value
+pub reserved : {T : Type 0} (v : T) (hs : List HandlerId) (turns : ℕ) (s t : Seen) → Called (Reserve hs) turns (Ok v) s t
+    → Called {T = Unit {0}} (Reserve hs) turns (Ok (tt {0})) s t
+reserved v hs turns s t called = called_ok v (tt {0}) (Reserve hs) turns s t called
 
 -- a reserve of handlers given as a list
 pub reserve_reached : (x : Command) (hs : List HandlerId) (n turns : ℕ) (r : Result Bool DriverError) (s t u : Seen) → x ≡ Reserve hs

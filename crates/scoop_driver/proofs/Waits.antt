@@ -20,14 +20,14 @@ use Rattle.scoop_driver.specs.declared.condition.ConditionPart.{ConditionPart}
 use Rattle.scoop_driver.specs.declared.condition.BodyEntry.{BodyEntry}
 use Rattle.scoop_driver.specs.declared.condition.BodyEntry.TheVariants.{Call, Query}
 use Rattle.scoop_driver.specs.declared.error.DriverError.{DriverError}
-use Rattle.scoop_driver.specs.declared.error.DriverError.TheVariants.{Client, TurnsOver, LinkFault, ConditionFailed}
+use Rattle.scoop_driver.specs.declared.error.DriverError.TheVariants.{Client, TurnsOver, LinkFault, ConditionFailed, Interrupted}
 use Rattle.scoop_driver.specs.declared.step.Step.{Step}
 use Rattle.scoop_driver.specs.Steps.{walk, commands_by, faults_in, turns_in}
 use Rattle.scoop_driver.specs.State.{Seen, Goes}
-use Rattle.scoop_driver.specs.Calls.{GivesCommands, TakesTurns, TellsFault, Does, Called, Queried, IsAnswered, RunsNext}
-use Rattle.scoop_driver.specs.Wishes.{Wish, call_of, calls_in_block, command_of, handler_of, holds, logged, queries, remainder, test_command, wish_for}
-use Rattle.scoop_driver.specs.Waiting.{Tested, Done, StoppedIn, BrokeOff, BreaksOff, Tried, Failures, Waits, WaitsWith, WaitGives, answers_of}
-use Rattle.scoop_driver.specs.Waiting.{Asks, AsksAll, Keeps, LoggedBody, LoggedEntry, Logs, FollowsIf, AnsweredThen, CalledThen, Pauses, PausesAfter, PausesFor}
+use Rattle.scoop_driver.specs.Calls.{TakesTurns, TellsFault, Does, Called, Queried, IsAnswered, RunsNext}
+use Rattle.scoop_driver.specs.Wishes.{Wish, call_of, calls_in_block, command_of, handler_of, holds, logged, queries, test_command, wish_for}
+use Rattle.scoop_driver.specs.Waiting.{Tested, Done, StoppedIn, BrokeOff, BreaksOff, Tried, Failures, Waits, WaitsUpTo, WaitsWith, WaitGives, answers_of}
+use Rattle.scoop_driver.specs.Waiting.{Asks, AsksAll, Keeps, LoggedBody, LoggedEntry, Logs, FollowsIf, Pauses, PausesAfter, PausesFor}
 use Rattle.scoop_driver.proofs.StepLists.{goes_nothing, goes_on, commands_by-append, faults_in-append, turns_in-append}
 use Rattle.scoop_driver.proofs.Calling.{faults_as, faults_on}
 
@@ -37,6 +37,7 @@ within (Err (Client e)) n steps h = h
 within (Err TurnsOver) n steps h = omega (arith, h)
 within (Err LinkFault) n steps h = h
 within (Err (ConditionFailed t)) n steps h = h
+within (Err Interrupted) n steps h = h
 
 both_sound : (xs ys : List Step) → faults_in xs ≡ 0 → faults_in ys ≡ 0 → faults_in (xs ++ ys) ≡ 0
 both_sound xs ys first second = faults_in-append xs ys ∙ (ap (λ k. k + faults_in ys) first ∙ (zero-add (faults_in ys) ∙ second))
@@ -639,6 +640,7 @@ gives_breaks w tries (Client x) answers c d steps last new broke h = h
 gives_breaks w tries TurnsOver answers c d steps last new broke h = h
 gives_breaks w tries LinkFault answers c d steps last new broke h = h
 gives_breaks w tries (ConditionFailed t) answers c d steps last new broke h = never_waits w t d last new broke
+gives_breaks w tries Interrupted answers c d steps last new broke h = h
 
 pub waits_broke : (w : Wish) (turns n tries : ℕ) (answers slots : List Answer) (e : DriverError) (s t u : Seen) → n < tries → Failing w turns n s t
     → Tried w turns (Err e) slots t u → WaitsWith w turns tries (Err e) answers s u
@@ -667,6 +669,25 @@ waits_failed w turns n tries answers s t is (xs, so_far) = (
     blocks = (refl, subst (λ m. Failures w m s.client xs) is so_far.failures);
   },
 )
+
+-- ---- a wait that may be stopped
+
+pub waits_up_to : (Stopped : Type 0) (w : Wish) (turns tries : ℕ) (r : Result ℕ DriverError) (answers : List Answer) (s t : Seen)
+    → WaitsWith w turns tries r answers s t → WaitsUpTo Stopped w turns tries r answers s t
+waits_up_to Stopped w turns tries r answers s t waits = record { limit = tries; within = omega arith; waits = waits; whole = inl refl }
+
+pub waits_stopped : (Stopped : Type 0) (w : Wish) (turns n tries : ℕ) (answers : List Answer) (s t : Seen) → n ≤ tries → Failing w turns n s t → Stopped
+    → WaitsUpTo Stopped w turns tries (Err (ConditionFailed n)) answers s t
+waits_stopped Stopped w turns n tries answers s t within so_far stopped =
+    record { limit = n; within = within; waits = waits_failed w turns n n answers s t refl so_far; whole = inr (refl, stopped) }
+
+-- one that isn't stopped is whole
+pub waits_whole : (Stopped : Type 0) (w : Wish) (turns tries : ℕ) (r : Result ℕ DriverError) (answers : List Answer) (s t : Seen)
+    → ((P : Type 0) → Stopped → P) → WaitsUpTo Stopped w turns tries r answers s t → WaitsWith w turns tries r answers s t
+waits_whole Stopped w turns tries r answers s t never h = elim h.whole [
+  | inl all ↦ subst (λ n. WaitsWith w turns n r answers s t) all h.waits
+  | inr early ↦ never _ early.1
+]
 
 -- an answer of one kind
 pub tried_is : (w : Wish) (turns : ℕ) (is was : Bool) (answers : List Answer) (s t : Seen) → was ≡ is → Tried w turns (Ok was) answers s t
@@ -703,6 +724,7 @@ pauses_broke paused w turns n tries answers (Client e) s t x y below try h = (n,
 pauses_broke paused w turns n tries answers TurnsOver s t x y below try h = (n, below, h)
 pauses_broke paused w turns n tries answers LinkFault s t x y below try h = (n, below, h)
 pauses_broke paused w turns n tries answers (ConditionFailed k) s t x y below (steps, try) h = never_waits w k x.client steps y try.block
+pauses_broke paused w turns n tries answers Interrupted s t x y below try h = (n, below, h)
 
 -- ---- the refusal
 

@@ -1,5 +1,5 @@
 -- The effects and results of a driver's calls.
-use Rattle.std.specs.Prelude.{◌≡◌, ℕ, ◌≤◌, ⊤, List, [], ◌∷◌, ◌++◌, Contains, Some, Bool, true, Result, Ok, Err}
+use Rattle.std.specs.Prelude.{◌≡◌, ℕ, ◌≤◌, ◌⊎◌, ⊤, List, [], ◌∷◌, ◌++◌, Contains, Some, Bool, true, Result, Ok, Err}
 use Rattle.scoop_message.specs.declared.name.HandlerId.{HandlerId}
 use Rattle.scoop_message.specs.declared.request.Answer.{Answer}
 use Rattle.scoop_message.specs.declared.request.Request.{Request}
@@ -13,7 +13,7 @@ use Rattle.scoop_client.specs.declared.command.Command.{Command}
 use Rattle.scoop_client.specs.declared.command.Command.TheVariants.{Query as DoQuery}
 use Rattle.scoop_client.specs.Commands.{Outcome, command, next_block}
 use Rattle.scoop_driver.specs.declared.error.DriverError.{DriverError}
-use Rattle.scoop_driver.specs.declared.error.DriverError.TheVariants.{Client, TurnsOver, LinkFault, ConditionFailed}
+use Rattle.scoop_driver.specs.declared.error.DriverError.TheVariants.{Client, TurnsOver, LinkFault, ConditionFailed, Interrupted as WasInterrupted}
 use Rattle.scoop_driver.specs.declared.step.Step.{Step}
 use Rattle.scoop_driver.specs.Steps.{commands_by, faults_at, faults_in, notes_by, turns_in, walk}
 use Rattle.scoop_driver.specs.State.{Seen, Goes}
@@ -58,6 +58,7 @@ StopsBefore c left (Client e) = RefusesNext c left e
 StopsBefore c left TurnsOver = ⊤
 StopsBefore c left LinkFault = ⊤
 StopsBefore c left (ConditionFailed t) = ⊥
+StopsBefore c left WasInterrupted = ⊤
 
 -- ---- the effect of a call
 
@@ -81,6 +82,7 @@ TellsFault (Err (Client e)) steps = faults_in steps ≡ 0
 TellsFault (Err TurnsOver) steps = faults_in steps ≡ 0
 TellsFault (Err LinkFault) steps = EndsAtFault steps
 TellsFault (Err (ConditionFailed t)) steps = faults_in steps ≡ 0
+TellsFault (Err WasInterrupted) steps = faults_in steps ≡ 0
 
 -- no more turns than this, and all of them if `TurnsOver` is reported
 abbrev pub TakesTurns : {T : Type 0} → Result T DriverError → ℕ → List Step → Type 0
@@ -89,6 +91,7 @@ TakesTurns (Err (Client e)) turns steps = turns_in steps ≤ turns
 TakesTurns (Err TurnsOver) turns steps = turns_in steps ≡ turns
 TakesTurns (Err LinkFault) turns steps = turns_in steps ≤ turns
 TakesTurns (Err (ConditionFailed t)) turns steps = turns_in steps ≤ turns
+TakesTurns (Err WasInterrupted) turns steps = turns_in steps ≤ turns
 
 pub record Does {T : Type 0} (xs : List Command) (turns : ℕ) (r : Result T DriverError) (steps : List Step) (old new : Seen) : Type 0 where
   pub goes : Goes steps old new
@@ -129,3 +132,7 @@ pub record RunsNext (c d : ClientState) : Type 0 where
 -- the last call of the interrupt, which left it so, returned that the wait should end
 abbrev pub Interrupted : {S : Type 0} → (S → Bool → S → Type 0) → S → Type 0
 Interrupted {S} stops new = (old : S) × stops old true new
+
+-- the same of either call of an interrupt
+abbrev pub IsStopped : {S : Type 0} → (S → Bool → S → Type 0) → (S → Bool → S → Type 0) → S → Type 0
+IsStopped stops leaves new = Interrupted stops new ⊎ Interrupted leaves new

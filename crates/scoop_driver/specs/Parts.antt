@@ -9,9 +9,8 @@ use Rattle.scoop_client.specs.declared.error.ClientError.{ClientError}
 use Rattle.scoop_client.specs.State.{ClientState, phase_of}
 use Rattle.scoop_client.specs.Commands as client
 use Rattle.scoop_driver.specs.declared.error.DriverError.{DriverError}
-use Rattle.scoop_driver.specs.declared.error.DriverError.TheVariants.{Client, TurnsOver, LinkFault, ConditionFailed}
+use Rattle.scoop_driver.specs.declared.error.DriverError.TheVariants.{Client, TurnsOver, LinkFault, ConditionFailed, Interrupted}
 use Rattle.scoop_client.specs.declared.command.Command.{Command}
-use Rattle.scoop_client.specs.declared.command.Command.TheVariants.{Reserve, Call, Query, End, GiveUp}
 use Rattle.scoop_driver.specs.declared.step.Step.{Step}
 use Rattle.scoop_driver.specs.declared.step.Step.TheVariants.{Gave}
 use Rattle.scoop_driver.specs.Steps.{noted, notes_by, turns_in}
@@ -34,6 +33,7 @@ RefusesWith outcome (Client e) = IsRefusal outcome e
 RefusesWith outcome TurnsOver = ⊥
 RefusesWith outcome LinkFault = ⊥
 RefusesWith outcome (ConditionFailed t) = ⊥
+RefusesWith outcome Interrupted = ⊥
 
 -- the command is given, or the window is full, or it is refused
 abbrev pub Offered : Command → Result Bool DriverError → Seen → Seen → Type 0

@@ -13,7 +13,6 @@ use Rattle.scoop_client.specs.Due.{due}
 use Rattle.scoop_client.specs.Hearing.{heard}
 use Rattle.scoop_client.specs.Commands as client
 use Rattle.scoop_client.specs.declared.command.Command.{Command}
-use Rattle.scoop_client.specs.declared.command.Command.TheVariants.{Reserve, Call, Query, End, GiveUp}
 use Rattle.scoop_driver.specs.declared.step.Received.{Received}
 use Rattle.scoop_driver.specs.declared.step.Received.TheVariants.{Nothing, Frame, NoFrame, Fault}
 use Rattle.scoop_driver.specs.declared.step.Step.{Step}

@@ -7,7 +7,7 @@ use Rattle.scoop_client.specs.declared.error.ClientError.TheVariants.{OutOfMemor
 use Rattle.scoop_client.specs.State.{ClientState}
 use Rattle.scoop_client.specs.Hearing.{heard}
 use Rattle.scoop_driver.specs.declared.error.DriverError.{DriverError}
-use Rattle.scoop_driver.specs.declared.error.DriverError.TheVariants.{Client, LinkFault}
+use Rattle.scoop_driver.specs.declared.error.DriverError.TheVariants.{Client, LinkFault, Interrupted}
 use Rattle.scoop_driver.specs.declared.step.Received.{Received}
 use Rattle.scoop_driver.specs.declared.step.Received.TheVariants.{Nothing, Frame, NoFrame, Fault}
 use Rattle.scoop_driver.specs.declared.step.Step.{Step}
@@ -64,3 +64,12 @@ TurnAnswers c (s ∷ t ∷ ss) r = ⊥
 
 abbrev pub TakesTurn : Result (Option ClientNote) DriverError → Seen → Seen → Type 0
 TakesTurn r old new = (steps : List Step) × Goes steps old new × TurnAnswers old.client steps r
+
+-- a turn that was interrupted took no frame
+abbrev pub uninterrupted : Result (Option ClientNote) DriverError → Result (Option ClientNote) DriverError
+uninterrupted (Ok told) = Ok told
+uninterrupted (Err Interrupted) = Ok None
+uninterrupted (Err e) = Err e
+
+abbrev pub TakesTurnUnless : Result (Option ClientNote) DriverError → Seen → Seen → Type 0
+TakesTurnUnless r old new = TakesTurn (uninterrupted r) old new

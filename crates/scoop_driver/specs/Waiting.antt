@@ -12,7 +12,7 @@ use Rattle.scoop_driver.specs.declared.condition.ConditionPart.{ConditionPart}
 use Rattle.scoop_driver.specs.declared.condition.BodyEntry.{BodyEntry}
 use Rattle.scoop_driver.specs.declared.condition.BodyEntry.TheVariants.{Call, Query}
 use Rattle.scoop_driver.specs.declared.error.DriverError.{DriverError}
-use Rattle.scoop_driver.specs.declared.error.DriverError.TheVariants.{Client, TurnsOver, LinkFault, ConditionFailed}
+use Rattle.scoop_driver.specs.declared.error.DriverError.TheVariants.{Client, TurnsOver, LinkFault, ConditionFailed, Interrupted}
 use Rattle.scoop_driver.specs.declared.step.Step.{Step}
 use Rattle.scoop_driver.specs.Steps.{walk, commands_by, turns_in}
 use Rattle.scoop_driver.specs.State.{Seen, Goes}
@@ -194,6 +194,7 @@ WaitGives w tries (Err (Client e)) answers c steps new = BreaksOff w tries (Clie
 WaitGives w tries (Err TurnsOver) answers c steps new = BreaksOff w tries TurnsOver c steps new
 WaitGives w tries (Err LinkFault) answers c steps new = BreaksOff w tries LinkFault c steps new
 WaitGives w tries (Err (ConditionFailed t)) answers c steps new = (t ≡ tries) × Failures w t c steps
+WaitGives w tries (Err Interrupted) answers c steps new = BreaksOff w tries Interrupted c steps new
 
 pub record IsWait (w : Wish) (turns tries : ℕ) (r : Result ℕ DriverError) (answers : List Answer) (steps : List Step) (old new : Seen) : Type 0 where
   pub goes : Goes steps old new
@@ -208,6 +209,13 @@ WaitsWith w turns tries r answers old new = (steps : List Step) × IsWait w turn
 -- the body has no query
 abbrev pub Waits : Wish → ℕ → ℕ → Result ℕ DriverError → Seen → Seen → Type 0
 Waits w turns tries r old new = WaitsWith w turns tries r [] old new
+
+-- the wait ends after all tries, or it is one of fewer tries, after which it was stopped
+pub record WaitsUpTo (Stopped : Type 0) (w : Wish) (turns tries : ℕ) (r : Result ℕ DriverError) (answers : List Answer) (old new : Seen) : Type 0 where
+  pub limit : ℕ
+  pub within : limit ≤ tries
+  pub waits : WaitsWith w turns limit r answers old new
+  pub whole : (limit ≡ tries) ⊎ ((r ≡ Err (ConditionFailed limit)) × Stopped)
 
 -- ---- pauses
 
@@ -228,3 +236,4 @@ PausesFor paused tries (Err (Client e)) old new = (failed : ℕ) × (failed < tr
 PausesFor paused tries (Err TurnsOver) old new = (failed : ℕ) × (failed < tries) × Pauses paused failed old new
 PausesFor paused tries (Err LinkFault) old new = (failed : ℕ) × (failed < tries) × Pauses paused failed old new
 PausesFor paused tries (Err (ConditionFailed t)) old new = Pauses paused (t - 1) old new
+PausesFor paused tries (Err Interrupted) old new = (failed : ℕ) × (failed < tries) × Pauses paused failed old new

@@ -1,14 +1,14 @@
 //! A client over its link.
 
-ghost use Rattle.std.specs.Prelude.{◌≡◌, ◌≤◌, false, length, IsErr, Ok, OnOk, true};
+ghost use Rattle.std.specs.Prelude.{◌≡◌, ◌≢◌, ◌≤◌, false, length, Err, IsErr, Ok, OnOk, true};
 ghost use Rattle.scoop_message.specs.declared.limits.TheConstants.{MAX_BLOCK_HANDLERS};
 ghost use Rattle.scoop_client.specs.Due.{due};
 ghost use Rattle.scoop_client.specs.State.{phase_of};
 ghost use Rattle.scoop_client.specs.declared.command.Command.TheVariants.{Reserve, Call as DoCall, End as DoEnd, GiveUp as DoGiveUp};
 ghost use Rattle.scoop_client.specs.declared.phase.Phase.TheVariants.{Idle as AtIdle, Locking as AtLocking};
 ghost use Rattle.scoop_driver.specs.State.{state_of};
-ghost use Rattle.scoop_driver.specs.Turning.{TakesTurn};
-ghost use Rattle.scoop_driver.specs.Calls.{Called, Interrupted, Queried, RunsNext};
+ghost use Rattle.scoop_driver.specs.Turning.{TakesTurn, TakesTurnUnless};
+ghost use Rattle.scoop_driver.specs.Calls.{Called, Interrupted, IsStopped, Queried, RunsNext};
 
 use crate::diary::{Diary, NoDiary};
 use crate::error::DriverError;
@@ -32,8 +32,8 @@ fn list_of(handlers: &[HandlerId]) -> HandlerList
 }
 
 /// A client over its link. In a turn the client sends every due message and receives once. A call takes at most a
-/// fixed number of turns. After `TurnsOver`, `LinkFault` or a refusal that follows turns, the client's state is
-/// that after the messages it has heard.
+/// fixed number of turns. After `TurnsOver`, `LinkFault`, `Interrupted` or a refusal that follows turns, the client's
+/// state is that after the messages it has heard. Only the calls that take an [`Interrupt`] return `Interrupted`.
 ///
 /// Contracts see its client, its link's datagrams if the link records them, the number of the link's calls that
 /// failed, and the steps that its diary keeps. They also see the link, the diary, and the most turns that a call
@@ -140,6 +140,26 @@ impl<L: Link, D: Diary<A>, A: Allocator> Driver<L, D, A> {
     {
         take_turn(&mut self.client, &mut self.link, &mut self.diary)
     }
+
+    /// One turn, as [`Driver::turn`]. If no frame came and the interrupt leaves then, it returns `Interrupted`.
+    pub fn turn_unless<I: Interrupt>(
+        &mut self,
+        interrupt: &mut I,
+    ) -> Result<Option<ClientNote>, DriverError>
+        ensures does { TakesTurnUnless result self.old.seen self.new.seen }
+        ensures left { result ≡ Err DriverError.Interrupted → Interrupted I.leaves interrupt.new }
+        ensures turns { self.new.turns ≡ self.old.turns }
+        ensures memory { result ≡ Err (DriverError.Client ClientError.OutOfMemory) → D.wants_memory }
+    {
+        let note = match self.turn() {
+            Ok(note) => note,
+            Err(error) => return Err(error),
+        };
+        if note.is_none() && interrupt.leaves() {
+            return Err(DriverError::Interrupted);
+        }
+        Ok(note)
+    }
 }
 
 impl<L: Link, D: Diary<A>, A: Allocator + Clone> Driver<L, D, A> {
@@ -148,6 +168,7 @@ impl<L: Link, D: Diary<A>, A: Allocator + Clone> Driver<L, D, A> {
     /// further turns, or be given up.
     pub fn reserve(&mut self, handlers: &[HandlerId]) -> Result<(), DriverError>
         ensures does { Called (Reserve handlers.now) self.old.turns result self.old.seen self.new.seen }
+        ensures whole { result ≢ Err DriverError.Interrupted }
         ensures runs { OnOk result (RunsNext self.old.seen.client self.new.seen.client) }
         ensures turns { self.new.turns ≡ self.old.turns }
     {
@@ -157,10 +178,9 @@ impl<L: Link, D: Diary<A>, A: Allocator + Clone> Driver<L, D, A> {
         }
     }
 
-    /// Begins a block over these handlers, and takes turns until it runs or the interrupt ends the wait. The interrupt
-    /// is asked after each turn in which no frame came, while a handler isn't locked. Returns whether the block runs.
-    /// Refused as `reserve`. After `Ok(false)` a handler isn't locked: the block may go on by further turns, or be
-    /// given up.
+    /// Begins a block over these handlers, and takes turns until it runs or the interrupt ends the wait. Returns whether
+    /// the block runs. Refused as `reserve`. After `Ok(false)` a handler isn't locked: the block may go on by further
+    /// turns, or be given up. When all handlers are locked it may be `Interrupted`, after which only further turns go on.
     pub fn reserve_unless<I: Interrupt>(
         &mut self,
         handlers: &[HandlerId],
@@ -170,6 +190,7 @@ impl<L: Link, D: Diary<A>, A: Allocator + Clone> Driver<L, D, A> {
         ensures runs { result ≡ Ok true → RunsNext self.old.seen.client self.new.seen.client }
         ensures stopped { result ≡ Ok false → Interrupted I.stops interrupt.new }
         ensures waits { result ≡ Ok false → phase_of self.new.seen.client ≡ AtLocking }
+        ensures left { result ≡ Err DriverError.Interrupted → Interrupted I.leaves interrupt.new }
         ensures turns { self.new.turns ≡ self.old.turns }
     {
         let turns = self.turns;
@@ -187,10 +208,26 @@ impl<L: Link, D: Diary<A>, A: Allocator + Clone> Driver<L, D, A> {
     /// this order, as the client refuses it, with `TurnsOver` if there is still no room, and with `LinkFault`.
     pub fn call(&mut self, handler: HandlerId, request: Request) -> Result<(), DriverError>
         ensures does { Called (DoCall handler request) self.old.turns result self.old.seen self.new.seen }
+        ensures whole { result ≢ Err DriverError.Interrupted }
         ensures turns { self.new.turns ≡ self.old.turns }
         ensures memory { result ≡ Err (DriverError.Client ClientError.OutOfMemory) → D.wants_memory }
     {
-        match self.log(&Command::Call(handler, request)) {
+        self.call_unless(handler, request, &mut NoInterrupt)
+    }
+
+    /// The same, unless the interrupt ends the wait for room: then it is `Interrupted`, and the call isn't logged.
+    pub fn call_unless<I: Interrupt>(
+        &mut self,
+        handler: HandlerId,
+        request: Request,
+        interrupt: &mut I,
+    ) -> Result<(), DriverError>
+        ensures does { Called (DoCall handler request) self.old.turns result self.old.seen self.new.seen }
+        ensures left { result ≡ Err DriverError.Interrupted → Interrupted I.leaves interrupt.new }
+        ensures turns { self.new.turns ≡ self.old.turns }
+        ensures memory { result ≡ Err (DriverError.Client ClientError.OutOfMemory) → D.wants_memory }
+    {
+        match self.log(&Command::Call(handler, request), interrupt) {
             Ok(_) => Ok(()),
             Err(error) => Err(error),
         }
@@ -201,11 +238,28 @@ impl<L: Link, D: Diary<A>, A: Allocator + Clone> Driver<L, D, A> {
     /// logged, and further turns go on to its answer.
     pub fn query(&mut self, handler: HandlerId, request: Request) -> Result<Answer, DriverError>
         ensures does { Queried handler request self.old.turns result self.old.seen self.new.seen }
+        ensures whole { result ≢ Err DriverError.Interrupted }
         ensures turns { self.new.turns ≡ self.old.turns }
         ensures memory { result ≡ Err (DriverError.Client ClientError.OutOfMemory) → D.wants_memory }
     {
-        match self.log(&Command::Query(handler, request)) {
-            Ok(turns) => self.answer_of(handler, turns),
+        self.query_unless(handler, request, &mut NoInterrupt)
+    }
+
+    /// The same, unless the interrupt ends the wait. After `Interrupted` the query may be logged, and further turns go on
+    /// to its answer.
+    pub fn query_unless<I: Interrupt>(
+        &mut self,
+        handler: HandlerId,
+        request: Request,
+        interrupt: &mut I,
+    ) -> Result<Answer, DriverError>
+        ensures does { Queried handler request self.old.turns result self.old.seen self.new.seen }
+        ensures left { result ≡ Err DriverError.Interrupted → Interrupted I.leaves interrupt.new }
+        ensures turns { self.new.turns ≡ self.old.turns }
+        ensures memory { result ≡ Err (DriverError.Client ClientError.OutOfMemory) → D.wants_memory }
+    {
+        match self.log(&Command::Query(handler, request), interrupt) {
+            Ok(turns) => self.answer_of(handler, turns, interrupt),
             Err(error) => Err(error),
         }
     }
@@ -215,13 +269,27 @@ impl<L: Link, D: Diary<A>, A: Allocator + Clone> Driver<L, D, A> {
     /// further turns go on until the client is idle.
     pub fn end(&mut self) -> Result<(), DriverError>
         ensures does { Called DoEnd self.old.turns result self.old.seen self.new.seen }
+        ensures whole { result ≢ Err DriverError.Interrupted }
         ensures ends { OnOk result (phase_of self.new.seen.client ≡ AtIdle) }
         ensures turns { self.new.turns ≡ self.old.turns }
         ensures memory { result ≡ Err (DriverError.Client ClientError.OutOfMemory) → D.wants_memory }
     {
-        match self.log(&Command::End) {
-            Ok(turns) => match self.turns_until(Phase::Idle, turns, &mut NoInterrupt) {
-                Ok(_) => Ok(()),
+        self.end_unless(&mut NoInterrupt)
+    }
+
+    /// The same, unless the interrupt ends the wait. After `Interrupted` the block may have ended, and further turns go on
+    /// until the client is idle.
+    pub fn end_unless<I: Interrupt>(&mut self, interrupt: &mut I) -> Result<(), DriverError>
+        ensures does { Called DoEnd self.old.turns result self.old.seen self.new.seen }
+        ensures ends { OnOk result (phase_of self.new.seen.client ≡ AtIdle) }
+        ensures stopped { result ≡ Err DriverError.Interrupted → IsStopped I.stops I.leaves interrupt.new }
+        ensures turns { self.new.turns ≡ self.old.turns }
+        ensures memory { result ≡ Err (DriverError.Client ClientError.OutOfMemory) → D.wants_memory }
+    {
+        match self.log(&Command::End, interrupt) {
+            Ok(turns) => match self.turns_until(Phase::Idle, turns, interrupt) {
+                Ok(true) => Ok(()),
+                Ok(false) => Err(DriverError::Interrupted),
                 Err(error) => Err(error),
             },
             Err(error) => Err(error),
@@ -232,6 +300,7 @@ impl<L: Link, D: Diary<A>, A: Allocator + Clone> Driver<L, D, A> {
     /// it.
     pub fn give_up(&mut self) -> Result<(), DriverError>
         ensures does { Called DoGiveUp 0 result self.old.seen self.new.seen }
+        ensures whole { result ≢ Err DriverError.Interrupted }
         ensures link { self.new.link ≡ self.old.link }
         ensures turns { self.new.turns ≡ self.old.turns }
         ensures memory { result ≡ Err (DriverError.Client ClientError.OutOfMemory) → D.wants_memory }

@@ -19,4 +19,7 @@ pub enum DriverError {
     /// The condition didn't hold in any of this number of tries.
     #[error("ConditionFailed {0}")]
     ConditionFailed(u32),
+    /// The interrupt ended the wait.
+    #[error("Interrupted")]
+    Interrupted,
 }

@@ -2,8 +2,8 @@
 //! takes turns until it has reached its goal.
 //!
 //! [`Driver`] reserves, calls, queries and ends. `when` waits for a condition by trying blocks, and `when_all` for one
-//! of several parts, with a [`Pause`] between tries. `reserve_unless` asks an [`Interrupt`] whether to end its wait. A
-//! [`Diary`] gets each step that a driver makes: [`NoDiary`] keeps none, a [`StepList`] keeps all.
+//! of several parts, with a [`Pause`] between tries. `reserve_unless` and its like ask an [`Interrupt`] whether to end
+//! their waits. A [`Diary`] gets each step that a driver makes: [`NoDiary`] keeps none, a [`StepList`] keeps all.
 //!
 //! ```
 //! // the link leads to handler 1, whose object is an account, and each call takes at most ten turns
@@ -43,3 +43,4 @@ pub use law::steps_are_moves;
 pub use pause::{NoPause, Pause};
 pub use scoop_client::{Command, HandlerList};
 pub use step::{Received, Step};
+pub use wait::WaitingBlock;

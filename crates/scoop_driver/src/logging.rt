@@ -1,6 +1,6 @@
 //! Commands to the client, and the turns that they take.
 
-ghost use Rattle.std.specs.Prelude.{◌≡◌, ◌⊎◌, Ok, false};
+ghost use Rattle.std.specs.Prelude.{◌≡◌, ◌⊎◌, Ok, Err, false};
 ghost use Rattle.scoop_client.specs.Commands.{IsReserve};
 ghost use Rattle.scoop_client.specs.State.{phase_of};
 ghost use Rattle.scoop_client.specs.declared.phase.Phase.TheVariants.{Locking as AtLocking};
@@ -75,8 +75,13 @@ impl<L: Link, D: Diary<A>, A: Allocator + Clone> Driver<L, D, A> {
     }
 
     // Takes turns until the window has room, and gives the command. Returns the number of turns left.
-    pub(crate) fn log(&mut self, command: &Command) -> Result<u64, DriverError>
+    pub(crate) fn log<I: Interrupt>(
+        &mut self,
+        command: &Command,
+        interrupt: &mut I,
+    ) -> Result<u64, DriverError>
         ensures does { Logged command.now self.old.turns result self.old.seen self.new.seen }
+        ensures left { result ≡ Err DriverError.Interrupted → Interrupted I.leaves interrupt.new }
         ensures turns { self.new.turns ≡ self.old.turns }
         ensures memory { result ≡ Err (DriverError.Client ClientError.OutOfMemory) → IsReserve command.now ⊎ D.wants_memory }
     {
@@ -87,7 +92,7 @@ impl<L: Link, D: Diary<A>, A: Allocator + Clone> Driver<L, D, A> {
                 Ok(false) => {}
                 Err(error) => return Err(error),
             }
-            match self.turn() {
+            match self.turn_unless(interrupt) {
                 Ok(_) => {}
                 Err(error) => return Err(error),
             }
@@ -101,7 +106,8 @@ impl<L: Link, D: Diary<A>, A: Allocator + Clone> Driver<L, D, A> {
 }
 
 impl<L: Link, D: Diary<A>, A: Allocator> Driver<L, D, A> {
-    // Takes turns until the client is at this phase or the interrupt ends its wait for a lock. Returns whether it is there.
+    // Takes turns until the client is at this phase or the interrupt ends the wait. Returns whether it is there; else it waits
+    // for a lock. Other waits end with `Interrupted`.
     pub(crate) fn turns_until<I: Interrupt>(
         &mut self,
         phase: Phase,
@@ -111,6 +117,7 @@ impl<L: Link, D: Diary<A>, A: Allocator> Driver<L, D, A> {
         ensures does { Reached phase turns result self.old.seen self.new.seen }
         ensures stopped { result ≡ Ok false → Interrupted I.stops interrupt.new }
         ensures waits { result ≡ Ok false → phase_of self.new.seen.client ≡ AtLocking }
+        ensures left { result ≡ Err DriverError.Interrupted → Interrupted I.leaves interrupt.new }
         ensures turns { self.new.turns ≡ self.old.turns }
         ensures memory { result ≡ Err (DriverError.Client ClientError.OutOfMemory) → D.wants_memory }
     {
@@ -122,8 +129,12 @@ impl<L: Link, D: Diary<A>, A: Allocator> Driver<L, D, A> {
                 Ok(note) => note,
                 Err(error) => return Err(error),
             };
-            if note.is_none() && self.client.phase() == Phase::Locking && interrupt.stops() {
+            let is_locking = self.client.phase() == Phase::Locking;
+            if note.is_none() && is_locking && interrupt.stops() {
                 return Ok(false);
+            }
+            if note.is_none() && !is_locking && interrupt.leaves() {
+                return Err(DriverError::Interrupted);
             }
         }
         if self.client.phase() == phase {
@@ -134,17 +145,19 @@ impl<L: Link, D: Diary<A>, A: Allocator> Driver<L, D, A> {
     }
 
     // Takes turns until an answer of this handler is accepted.
-    pub(crate) fn answer_of(
+    pub(crate) fn answer_of<I: Interrupt>(
         &mut self,
         handler: HandlerId,
         turns: u64,
+        interrupt: &mut I,
     ) -> Result<Answer, DriverError>
         ensures does { Answered handler turns result self.old.seen self.new.seen }
+        ensures left { result ≡ Err DriverError.Interrupted → Interrupted I.leaves interrupt.new }
         ensures turns { self.new.turns ≡ self.old.turns }
         ensures memory { result ≡ Err (DriverError.Client ClientError.OutOfMemory) → D.wants_memory }
     {
         for taken in 0..turns {
-            let note = match self.turn() {
+            let note = match self.turn_unless(interrupt) {
                 Ok(note) => note,
                 Err(error) => return Err(error),
             };

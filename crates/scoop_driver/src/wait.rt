@@ -1,20 +1,33 @@
 //! Blocks that wait for a condition.
 
-ghost use Rattle.std.specs.Prelude.{◌≡◌, ◌<◌, ◌≤◌, Err, None, IfSome, find, if◌then◌else◌, length, map, not, []};
+ghost use Rattle.std.specs.Prelude.{◌≡◌, ◌≢◌, ◌<◌, ◌≤◌, Err, None, IfSome, find, if◌then◌else◌, length, map, not, []};
 ghost use Rattle.scoop_reserve.specs.Handlers.{has as is_among};
+ghost use Rattle.scoop_driver.specs.Calls.{Interrupted, IsStopped};
 ghost use Rattle.scoop_driver.specs.Wishes.{first_outside, handler_of, queries, wish, wish_for};
-ghost use Rattle.scoop_driver.specs.Waiting.{AsksAll, Keeps, LoggedBody, LoggedEntry, PausesAfter, PausesFor, Tried, Waits, WaitsWith};
+ghost use Rattle.scoop_driver.specs.Waiting.{AsksAll, Keeps, LoggedBody, LoggedEntry, PausesAfter, PausesFor, Tried, Waits, WaitsUpTo};
 
 use crate::condition::{AsEntry, BodyEntry, Condition, ConditionPart, Test};
 use crate::diary::Diary;
 use crate::driver::Driver;
 use crate::error::DriverError;
+use crate::interrupt::{Interrupt, NoInterrupt};
 use crate::pause::{NoPause, Pause};
 use scoop_client::ClientError;
 use scoop_link::Link;
 use scoop_message::{Answer, HandlerId, Request};
 use scoop_reserve::has;
 use std::alloc::Allocator;
+
+/// A block that waits for its condition.
+#[derive(Clone, Copy)]
+pub struct WaitingBlock<'a, E = BodyEntry> {
+    /// Its handlers.
+    pub handlers: &'a [HandlerId],
+    /// The parts of its condition, in the order in which they are asked.
+    pub condition: &'a [ConditionPart],
+    /// Its body, in order.
+    pub body: &'a [E],
+}
 
 // The first handler of some entries that the list lacks.
 fn first_unlisted<E: AsEntry>(handlers: &[HandlerId], entries: &[E]) -> Option<HandlerId>
@@ -26,17 +39,13 @@ fn first_unlisted<E: AsEntry>(handlers: &[HandlerId], entries: &[E]) -> Option<H
         .find(|handler| !has(handlers, *handler))
 }
 
-// The first handler that the condition or the body names and the list lacks.
-fn first_outside<E: AsEntry>(
-    handlers: &[HandlerId],
-    condition: &[ConditionPart],
-    body: &[E],
-) -> Option<HandlerId>
-    ensures { result ≡ first_outside (wish_for handlers.now condition.now (map E.entry body.now)) }
+// The first handler that the condition or the body names and the block lacks.
+fn first_outside<E: AsEntry>(block: &WaitingBlock<'_, E>) -> Option<HandlerId>
+    ensures { result ≡ first_outside (wish_for block.now.handlers.now block.now.condition.now (map E.entry block.now.body.now)) }
 {
-    match first_unlisted(handlers, condition) {
+    match first_unlisted(block.handlers, block.condition) {
         Some(handler) => Some(handler),
-        None => first_unlisted(handlers, body),
+        None => first_unlisted(block.handlers, block.body),
     }
 }
 
@@ -88,6 +97,7 @@ impl<L: Link, D: Diary<A>, A: Allocator + Clone> Driver<L, D, A> {
             (λ h. (result ≡ Err (DriverError.Client (ClientError.NotReserved h))) × (self.new ≡ self.old)) }
         ensures waits { first_outside (wish handlers.now condition body.now) ≡ None
             → Waits (wish handlers.now condition body.now) self.old.turns tries result self.old.seen self.new.seen }
+        ensures whole { result ≢ Err DriverError.Interrupted }
         ensures turns { self.new.turns ≡ self.old.turns }
     {
         let part = ConditionPart {
@@ -95,7 +105,12 @@ impl<L: Link, D: Diary<A>, A: Allocator + Clone> Driver<L, D, A> {
             request: condition.request,
             test: Test::Least(condition.least),
         };
-        self.wait(handlers, &[part], body, &mut [], tries, &mut NoPause)
+        let block = WaitingBlock {
+            handlers,
+            condition: &[part],
+            body,
+        };
+        self.wait(&block, &mut [], tries, &mut NoPause, &mut NoInterrupt)
     }
 
     /// Waits for a condition of several parts: tries blocks over these handlers until all parts hold in one, logs the
@@ -105,101 +120,112 @@ impl<L: Link, D: Diary<A>, A: Allocator + Clone> Driver<L, D, A> {
     /// and end takes as many turns as it may take alone.
     ///
     /// Refuses the first handler of the condition and the body that isn't among the handlers with `NotReserved`,
-    /// before anything else. Returns `ConditionFailed` after `tries` tries.
-    pub fn when_all<P: Pause>(
+    /// before anything else. Returns `ConditionFailed` after `tries` tries, or after fewer if the interrupt stops the
+    /// tries. If the interrupt ends a wait inside a try, it is `Interrupted`. Then the try's block may be given up if a
+    /// handler isn't locked; else only further turns go on.
+    pub fn when_all<P: Pause, I: Interrupt>(
         &mut self,
-        handlers: &[HandlerId],
-        condition: &[ConditionPart],
-        body: &[BodyEntry],
+        block: &WaitingBlock<'_>,
         answers: &mut [Answer],
         tries: u32,
         pause: &mut P,
+        interrupt: &mut I,
     ) -> Result<u32, DriverError>
         requires tries { 1 ≤ tries }
-        requires answers { length answers.old ≡ queries body.now }
-        ensures outside { IfSome (first_outside (wish_for handlers.now condition.now body.now))
+        requires answers { length answers.old ≡ queries block.now.body.now }
+        ensures outside { IfSome (first_outside (wish_for block.now.handlers.now block.now.condition.now block.now.body.now))
             (λ h. (result ≡ Err (DriverError.Client (ClientError.NotReserved h))) × (self.new ≡ self.old) × (answers.new ≡ answers.old) × (pause.new ≡ pause.old)) }
-        ensures waits { first_outside (wish_for handlers.now condition.now body.now) ≡ None
-            → WaitsWith (wish_for handlers.now condition.now body.now) self.old.turns tries result answers.new self.old.seen self.new.seen }
-        ensures pauses { first_outside (wish_for handlers.now condition.now body.now) ≡ None → PausesFor P.paused tries result pause.old pause.new }
+        ensures waits { first_outside (wish_for block.now.handlers.now block.now.condition.now block.now.body.now) ≡ None
+            → WaitsUpTo (Interrupted I.stops interrupt.new) (wish_for block.now.handlers.now block.now.condition.now block.now.body.now) self.old.turns tries result answers.new self.old.seen self.new.seen }
+        ensures pauses { first_outside (wish_for block.now.handlers.now block.now.condition.now block.now.body.now) ≡ None → PausesFor P.paused tries result pause.old pause.new }
+        ensures stopped { result ≡ Err DriverError.Interrupted → IsStopped I.stops I.leaves interrupt.new }
         ensures turns { self.new.turns ≡ self.old.turns }
         ensures answers { length answers.new ≡ length answers.old }
     {
-        self.wait(handlers, condition, body, answers, tries, pause)
+        self.wait(block, answers, tries, pause, interrupt)
     }
 
     // The same, with a body in another form.
-    fn wait<E: AsEntry, P: Pause>(
+    fn wait<E: AsEntry, P: Pause, I: Interrupt>(
         &mut self,
-        handlers: &[HandlerId],
-        condition: &[ConditionPart],
-        body: &[E],
+        block: &WaitingBlock<'_, E>,
         answers: &mut [Answer],
         tries: u32,
         pause: &mut P,
+        interrupt: &mut I,
     ) -> Result<u32, DriverError>
         requires tries { 1 ≤ tries }
-        requires answers { length answers.old ≡ queries (map E.entry body.now) }
-        ensures outside { IfSome (first_outside (wish_for handlers.now condition.now (map E.entry body.now)))
+        requires answers { length answers.old ≡ queries (map E.entry block.now.body.now) }
+        ensures outside { IfSome (first_outside (wish_for block.now.handlers.now block.now.condition.now (map E.entry block.now.body.now)))
             (λ h. (result ≡ Err (DriverError.Client (ClientError.NotReserved h))) × (self.new ≡ self.old) × (answers.new ≡ answers.old) × (pause.new ≡ pause.old)) }
-        ensures waits { first_outside (wish_for handlers.now condition.now (map E.entry body.now)) ≡ None
-            → WaitsWith (wish_for handlers.now condition.now (map E.entry body.now)) self.old.turns tries result answers.new self.old.seen self.new.seen }
-        ensures pauses { first_outside (wish_for handlers.now condition.now (map E.entry body.now)) ≡ None → PausesFor P.paused tries result pause.old pause.new }
+        ensures waits { first_outside (wish_for block.now.handlers.now block.now.condition.now (map E.entry block.now.body.now)) ≡ None
+            → WaitsUpTo (Interrupted I.stops interrupt.new) (wish_for block.now.handlers.now block.now.condition.now (map E.entry block.now.body.now)) self.old.turns tries result answers.new self.old.seen self.new.seen }
+        ensures pauses { first_outside (wish_for block.now.handlers.now block.now.condition.now (map E.entry block.now.body.now)) ≡ None → PausesFor P.paused tries result pause.old pause.new }
+        ensures stopped { result ≡ Err DriverError.Interrupted → IsStopped I.stops I.leaves interrupt.new }
         ensures turns { self.new.turns ≡ self.old.turns }
         ensures answers { length answers.new ≡ length answers.old }
     {
-        if let Some(handler) = first_outside(handlers, condition, body) {
+        if let Some(handler) = first_outside(block) {
             return Err(DriverError::Client(ClientError::NotReserved(handler)));
         }
         for tried in 0..tries {
             pause_after(tried, pause);
-            match self.attempt(handlers, condition, body, answers) {
+            match self.attempt(block, answers, interrupt) {
                 Ok(true) => return Ok(tried + 1),
                 Ok(false) => {}
                 Err(error) => return Err(error),
+            }
+            if interrupt.stops() {
+                return Err(DriverError::ConditionFailed(tried + 1));
             }
         }
         Err(DriverError::ConditionFailed(tries))
     }
 
     // One block. Returns whether the condition held.
-    fn attempt<E: AsEntry>(
+    fn attempt<E: AsEntry, I: Interrupt>(
         &mut self,
-        handlers: &[HandlerId],
-        condition: &[ConditionPart],
-        body: &[E],
+        block: &WaitingBlock<'_, E>,
         answers: &mut [Answer],
+        interrupt: &mut I,
     ) -> Result<bool, DriverError>
-        requires { queries (map E.entry body.now) ≤ length answers.old }
-        ensures does { Tried (wish_for handlers.now condition.now (map E.entry body.now)) self.old.turns result answers.new self.old.seen self.new.seen }
+        requires { queries (map E.entry block.now.body.now) ≤ length answers.old }
+        ensures does { Tried (wish_for block.now.handlers.now block.now.condition.now (map E.entry block.now.body.now)) self.old.turns result answers.new self.old.seen self.new.seen }
+        ensures stopped { result ≡ Err DriverError.Interrupted → IsStopped I.stops I.leaves interrupt.new }
         ensures turns { self.new.turns ≡ self.old.turns }
         ensures answers { length answers.new ≡ length answers.old }
     {
-        match self.reserve(handlers) {
-            Ok(()) => {}
+        match self.reserve_unless(block.handlers, interrupt) {
+            Ok(true) => {}
+            Ok(false) => return Err(DriverError::Interrupted),
             Err(error) => return Err(error),
         }
-        let held = match self.ask_all(condition) {
+        let held = match self.ask_all(block.condition, interrupt) {
             Ok(held) => held,
             Err(error) => return Err(error),
         };
-        match self.log_all(logged(held, body), answers) {
+        match self.log_all(logged(held, block.body), answers, interrupt) {
             Ok(()) => {}
             Err(error) => return Err(error),
         }
-        match self.end() {
+        match self.end_unless(interrupt) {
             Ok(()) => Ok(held),
             Err(error) => Err(error),
         }
     }
 
     // Asks the parts of a condition, in order, up to the first that doesn't hold. Returns whether all hold.
-    fn ask_all(&mut self, condition: &[ConditionPart]) -> Result<bool, DriverError>
+    fn ask_all<I: Interrupt>(
+        &mut self,
+        condition: &[ConditionPart],
+        interrupt: &mut I,
+    ) -> Result<bool, DriverError>
         ensures does { AsksAll condition.now self.old.turns result self.old.seen self.new.seen }
+        ensures left { result ≡ Err DriverError.Interrupted → Interrupted I.leaves interrupt.new }
         ensures turns { self.new.turns ≡ self.old.turns }
     {
         for part in condition {
-            let answer = match self.query(part.handler, part.request) {
+            let answer = match self.query_unless(part.handler, part.request, interrupt) {
                 Ok(answer) => answer,
                 Err(error) => return Err(error),
             };
@@ -211,15 +237,21 @@ impl<L: Link, D: Diary<A>, A: Allocator + Clone> Driver<L, D, A> {
     }
 
     // Logs the entries, in order, and writes the answers to the queries.
-    fn log_all<E: AsEntry>(&mut self, body: &[E], answers: &mut [Answer]) -> Result<(), DriverError>
+    fn log_all<E: AsEntry, I: Interrupt>(
+        &mut self,
+        body: &[E],
+        answers: &mut [Answer],
+        interrupt: &mut I,
+    ) -> Result<(), DriverError>
         requires { queries (map E.entry body.now) ≤ length answers.old }
         ensures does { LoggedBody (map E.entry body.now) self.old.turns result answers.new self.old.seen self.new.seen }
+        ensures left { result ≡ Err DriverError.Interrupted → Interrupted I.leaves interrupt.new }
         ensures turns { self.new.turns ≡ self.old.turns }
         ensures answers { length answers.new ≡ length answers.old }
     {
         let mut kept = 0;
         for entry in body {
-            let answer = match self.log_entry(entry.as_entry()) {
+            let answer = match self.log_entry(entry.as_entry(), interrupt) {
                 Ok(answer) => answer,
                 Err(error) => return Err(error),
             };
@@ -229,19 +261,28 @@ impl<L: Link, D: Diary<A>, A: Allocator + Clone> Driver<L, D, A> {
     }
 
     // Logs an entry. Returns the answer to a query.
-    fn log_entry(&mut self, entry: BodyEntry) -> Result<Option<Answer>, DriverError>
+    fn log_entry<I: Interrupt>(
+        &mut self,
+        entry: BodyEntry,
+        interrupt: &mut I,
+    ) -> Result<Option<Answer>, DriverError>
         ensures does { LoggedEntry entry self.old.turns result self.old.seen self.new.seen }
+        ensures left { result ≡ Err DriverError.Interrupted → Interrupted I.leaves interrupt.new }
         ensures turns { self.new.turns ≡ self.old.turns }
     {
         match entry {
-            BodyEntry::Call(handler, request) => match self.call(handler, request) {
-                Ok(()) => Ok(None),
-                Err(error) => Err(error),
-            },
-            BodyEntry::Query(handler, request) => match self.query(handler, request) {
-                Ok(answer) => Ok(Some(answer)),
-                Err(error) => Err(error),
-            },
+            BodyEntry::Call(handler, request) => {
+                match self.call_unless(handler, request, interrupt) {
+                    Ok(()) => Ok(None),
+                    Err(error) => Err(error),
+                }
+            }
+            BodyEntry::Query(handler, request) => {
+                match self.query_unless(handler, request, interrupt) {
+                    Ok(answer) => Ok(Some(answer)),
+                    Err(error) => Err(error),
+                }
+            }
         }
     }
 }

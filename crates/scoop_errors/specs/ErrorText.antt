@@ -58,12 +58,14 @@ driver_name (driver.Client e) = client_name e
 driver_name driver.TurnsOver = codes "TurnsOver"
 driver_name driver.LinkFault = codes "LinkFault"
 driver_name (driver.ConditionFailed tries) = codes "ConditionFailed"
+driver_name driver.Interrupted = codes "Interrupted"
 
 abbrev pub driver_number : DriverError → Option ℕ
 driver_number (driver.Client e) = client_number e
 driver_number driver.TurnsOver = None
 driver_number driver.LinkFault = None
 driver_number (driver.ConditionFailed tries) = Some tries
+driver_number driver.Interrupted = None
 
 abbrev pub loop_name : ServeEnd → List ℕ
 loop_name served.Stopped = codes "Stopped"

@@ -21,6 +21,7 @@ pub(crate) fn driver_name(error: &DriverError) -> &'static str
         DriverError::TurnsOver => "TurnsOver",
         DriverError::LinkFault => "LinkFault",
         DriverError::ConditionFailed(_) => "ConditionFailed",
+        DriverError::Interrupted => "Interrupted",
     }
 }
 
@@ -31,7 +32,7 @@ pub(crate) fn driver_number(error: &DriverError) -> Option<u32>
     match error {
         DriverError::Client(error) => client_number(error),
         DriverError::ConditionFailed(tries) => Some(*tries),
-        DriverError::TurnsOver | DriverError::LinkFault => None,
+        DriverError::TurnsOver | DriverError::LinkFault | DriverError::Interrupted => None,
     }
 }
 

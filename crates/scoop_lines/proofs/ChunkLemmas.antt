@@ -1,5 +1,5 @@
 -- The bytes that are left of an input: those of the chunk that were not taken, and those that the reader has.
-use Rattle.std.proofs.Common.{◌≡◌, ℕ, ◌+◌, ◌-◌, ◌<◌, ◌≤◌, List, [], ◌∷◌, ◌++◌, length, take, drop, ap, refl, sym, ◌∙◌, arith, append_assoc, append-nil}
+use Rattle.std.proofs.Common.{◌≡◌, ℕ, ◌+◌, ◌-◌, ◌<◌, ◌≤◌, List, ◌++◌, length, take, drop, ap, refl, sym, ◌∙◌, arith, append_assoc, append-nil}
 use Rattle.std.proofs.Common.{drop-drop, length-append, length-drop, length-take, length-take-le, take-append-drop, take_all, true, false, unwrap_or}
 use Rattle.std.proofs.Common.{slice_range, Bool, Option, Some, None, Result, Ok, Err, OnErr}
 use Rattle.std.proofs.lemmas.List.{drop-take}

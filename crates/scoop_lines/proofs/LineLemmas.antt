@@ -3,7 +3,7 @@
 -- - A piece with a newline ends the line. Then exactly the first line of the input was taken.
 -- - The end of the input ends the last line, unless that is empty.
 -- - A line that has grown too long is too long in the input as well.
-use Rattle.std.proofs.Common.{◌≡◌, ℕ, zero, suc, ◌+◌, ◌<◌, ◌≤◌, List, [], ◌∷◌, ◌++◌, length, take, slice_index, refl, sym, ◌∙◌, ap, arith, Option, Some, None}
+use Rattle.std.proofs.Common.{◌≡◌, ℕ, zero, suc, ◌+◌, ◌<◌, List, [], ◌∷◌, ◌++◌, length, take, slice_index, refl, sym, ◌∙◌, ap, arith, Option, Some, None}
 use Rattle.std.proofs.Common.{Result, Ok, Err, nat_eq, Bool, true, false, not, ◌==◌, append_assoc, append-nil, length-append, take_all}
 use Rattle.std.proofs.lemmas.Bool.{eqb-true}
 use Rattle.std.proofs.lemmas.Bool.Decides.{nat_tests}
@@ -15,7 +15,7 @@ use Rattle.scoop_lines.specs.declared.source.Stop.{Stop}
 use Rattle.scoop_lines.specs.Line.{line_limit, lines_of, BeginsTooLong, TakesFirst}
 use Rattle.scoop_lines.specs.Piece.{Extends, HasNoNewline, IsNothing, Overflows, newline_of}
 
-HasNoNewline-append : (xs ys : List ℕ) → HasNoNewline xs → HasNoNewline ys → HasNoNewline (xs ++ ys)
+pub HasNoNewline-append : (xs ys : List ℕ) → HasNoNewline xs → HasNoNewline ys → HasNoNewline (xs ++ ys)
 HasNoNewline-append [] ys h g = g
 HasNoNewline-append (x ∷ xs) ys h g = (h.0, HasNoNewline-append xs ys h.1 g)
 
@@ -68,7 +68,7 @@ Keeps-keeps (Some xs) (Some ys) None f s = absurd s
 Keeps-keeps (Some xs) (Some ys) (Some zs) f s = s ∙ f
 
 -- a line and the newline after it were taken
-takes_line : (a c : Option (List ℕ)) (line : List ℕ) → HasNoNewline line → Consumes a c (line ++ 10 ∷ []) → TakesFirst a line c
+pub takes_line : (a c : Option (List ℕ)) (line : List ℕ) → HasNoNewline line → Consumes a c (line ++ 10 ∷ []) → TakesFirst a line c
 takes_line None c line h f = tt
 takes_line (Some xs) None line h f = absurd f
 takes_line (Some xs) (Some zs) line h f = ap lines_of (f ∙ append_assoc line (10 ∷ []) zs) ∙ lines_of-line line zs h

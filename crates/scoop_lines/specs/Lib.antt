@@ -5,3 +5,4 @@ pub mod SourceText
 pub mod Line
 pub mod Piece
 pub mod Input
+pub mod Live

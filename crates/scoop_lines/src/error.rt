@@ -19,8 +19,10 @@ pub enum SourceFault {
     LineTooLong,
     /// The input has more lines than an input may have.
     TooManyLines,
-    /// The reader failed, or it was called too often.
+    /// The reader failed, or too many of its calls in a row were interrupted.
     ReadFault,
+    /// The input ended inside the line.
+    NoNewline,
 }
 
 impl SourceFault {
@@ -36,10 +38,8 @@ impl SourceFault {
             SourceFault::TooManyLines => {
                 "an input has at most 1000000 lines: give the rest to another run"
             }
-            SourceFault::ReadFault => {
-                "check that the input is readable and not a folder; it is read at most 10000000 times, so give it in larger \
-                pieces"
-            }
+            SourceFault::ReadFault => "check that the input is readable and not a folder",
+            SourceFault::NoNewline => "end each line with a newline",
         }
     }
 }
@@ -55,6 +55,7 @@ impl fmt::Display for SourceFault {
             SourceFault::LineTooLong => "line too long",
             SourceFault::TooManyLines => "too many lines",
             SourceFault::ReadFault => "read fault",
+            SourceFault::NoNewline => "no newline at its end",
         })
     }
 }

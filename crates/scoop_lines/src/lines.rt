@@ -59,7 +59,7 @@ impl<R: Read> Lines<R> {
     /// The first fault of the next line, with its number. After an error the rest of the line may be lost.
     /// - `LineTooLong`: it has more than `MAX_LINE_LEN` bytes.
     /// - `TooManyLines`: `MAX_LINES` lines came before it.
-    /// - `ReadFault`: the reader failed, or was called `MAX_READS` times.
+    /// - `ReadFault`: the reader failed, or `MAX_INTERRUPTED` of its calls in a row were interrupted.
     /// - `Flush`: the output can't be flushed.
     pub fn next_line<W: Write>(
         &mut self,
@@ -101,6 +101,11 @@ fn error_at(line: u32, stop: Stop) -> LinesError
 
 /// Gives the lines of a client, one after another.
 pub trait LineSource: Drop {
-    /// Reads the next line, and returns its number, counted from 1. `None` at the end of the input.
-    fn next_line(&mut self, line: &mut LineBytes) -> Result<Option<u32>, SourceError>;
+    /// Reads the next line, and returns its number, counted from 1. `None` at the end of the input. The output is flushed
+    /// before each read, which may wait for the user.
+    fn next_line<W: Write>(
+        &mut self,
+        line: &mut LineBytes,
+        output: &mut W,
+    ) -> Result<Option<u32>, LinesError>;
 }

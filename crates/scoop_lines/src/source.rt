@@ -1,6 +1,6 @@
 //! The bytes of an input, read in chunks.
 
-ghost use Rattle.std.specs.Prelude.{◌≡◌, ◌≢◌, ◌≤◌, ℕ, List, Option, None, Ok, Some, Err, false, IfOk, IfErr, IfSome, MatchOption, OnErr, slice_range};
+ghost use Rattle.std.specs.Prelude.{◌≡◌, ◌≢◌, ◌≤◌, ℕ, List, Option, None, Ok, Some, Err, false, IfOk, IfErr, IfSome, MatchOption, IfNone, OnErr, slice_range};
 ghost use Rattle.std.specs.Bool.{OnTrue};
 ghost use Rattle.std.specs.Io.{ReadsAtMost};
 ghost use Rattle.std.specs.Io.KnownBytes.{prepend_known, Keeps, IsAtEnd, ReadConsumes};
@@ -15,8 +15,8 @@ use std::marker::Model;
 /// Bytes of one line without its newline, at most.
 pub const MAX_LINE_LEN: usize = 4096;
 
-/// Calls of the reader of one input, at most.
-pub const MAX_READS: u32 = 10_000_000;
+/// Calls of the reader that may be interrupted in a row, at most.
+pub const MAX_INTERRUPTED: u32 = 10_000_000;
 
 const CHUNK_LEN: usize = 4096;
 
@@ -32,7 +32,7 @@ pub(crate) enum Stop {
 }
 
 /// A piece of a line that was read.
-enum Piece {
+pub(crate) enum Piece {
     /// A part of the line, which may go on.
     Part,
     /// The rest of the line, with its newline.
@@ -45,7 +45,6 @@ enum Piece {
 #[derive(Drop)]
 pub struct Source<R: Read> {
     reader: R,
-    reads: u32,
     chunk: [u8; CHUNK_LEN],
     start: usize,
     end: usize,
@@ -66,7 +65,6 @@ impl<R: Read> Source<R> {
     {
         Source {
             reader,
-            reads: 0,
             chunk: [0; CHUNK_LEN],
             start: 0,
             end: 0,
@@ -97,18 +95,31 @@ impl<R: Read> Source<R> {
         }
     }
 
-    // Appends the chunk's part of a line to the line. Reads the next chunk if nothing is left of this one.
-    fn next_piece<W: Write>(&mut self, line: &mut LineBytes, output: &mut W) -> Result<Piece, Stop>
+    /// Whether some bytes are left of the chunk.
+    pub(crate) fn has_rest(&self) -> bool {
+        self.start < self.end
+    }
+
+    /// Appends the chunk's part of a line to the line. Reads the next chunk if nothing is left of this one.
+    pub(crate) fn next_piece<W: Write>(
+        &mut self,
+        line: &mut LineBytes,
+        output: &mut W,
+    ) -> Result<Piece, Stop>
         ensures piece { IfOk result (λ piece. IsPiece piece self.old line.old.items line.new.items self.new) }
         ensures within { IsWithin line.old.items → IsWithin line.new.items }
+        ensures ends { result ≡ Ok Piece.Nothing → IsAtEnd self.new }
         ensures long { result ≡ Err Stop.LineTooLong → Overflows self.old line.old.items }
+        ensures overflows { result ≡ Err Stop.LineTooLong → Overflows self.new line.new.items }
+        ensures left { OnErr result (Keeps self.old self.new) }
+        ensures line { OnErr result (line.new.items ≡ line.old.items) }
         ensures output { Keeps (W.contents output.old) (W.contents output.new) }
     {
         if self.start == self.end {
             if output.flush().is_err() {
                 return Err(Stop::Flush);
             }
-            let len = read_some(&mut self.reader, &mut self.reads, &mut self.chunk)?;
+            let len = read_some(&mut self.reader, &mut self.chunk)?;
             self.start = 0;
             self.end = len;
             if len == 0 {
@@ -130,6 +141,7 @@ impl<R: Read> Source<R> {
 // the newline, and whether there was one. `None` if the line would be too long.
 fn take_piece(bytes: &[u8], line: &mut LineBytes) -> Option<(usize, bool)>
     ensures piece { MatchOption result (IsTooMuch bytes.now line.old.items) (λ t. IsFront bytes.now line.old.items line.new.items t.0 t.1) }
+    ensures kept { IfNone result (line.new.items ≡ line.old.items) }
     ensures within { IsWithin line.old.items → IsWithin line.new.items }
 {
     let newline = memchr(b'\n', bytes);
@@ -145,13 +157,12 @@ fn take_piece(bytes: &[u8], line: &mut LineBytes) -> Option<(usize, bool)>
 }
 
 // Reads some bytes, and none at the end of the input. Repeats an interrupted read.
-fn read_some<R: Read>(reader: &mut R, reads: &mut u32, chunk: &mut [u8]) -> Result<usize, Stop>
+fn read_some<R: Read>(reader: &mut R, chunk: &mut [u8]) -> Result<usize, Stop>
     ensures bound { ReadsAtMost result chunk.new }
     ensures bytes { ReadConsumes (R.remaining reader.old) (R.remaining reader.new) result chunk.new }
     ensures err { IfErr result (λ e. e ≡ Stop.Read) }
 {
-    for made in *reads..MAX_READS {
-        *reads = made + 1;
+    for _ in 0..MAX_INTERRUPTED {
         match reader.read(chunk) {
             Ok(len) => return Ok(len),
             Err(error) if error.kind() == ErrorKind::Interrupted => {}

@@ -63,9 +63,15 @@ impl Interrupt for AtTime {
 
     ghost stops = { λ _ _ _. ⊤ };
 
+    ghost leaves = { λ _ _ _. ⊤ };
+
     fn stops(&mut self) -> bool {
         self.asked = self.asked.saturating_add(1);
         self.asked >= self.last
+    }
+
+    fn leaves(&mut self) -> bool {
+        false
     }
 }
 

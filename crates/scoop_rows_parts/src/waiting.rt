@@ -6,7 +6,7 @@
 //!   tries at which it paused.
 
 use crate::drivers::HeapDriver;
-use scoop_driver::{BodyEntry, ConditionPart, Pause, Test};
+use scoop_driver::{BodyEntry, ConditionPart, NoInterrupt, Pause, Test, WaitingBlock};
 use scoop_message::{Answer, Args, Entry, HandlerId, Request};
 use scoop_row_player::Bad;
 use scoop_row_player::answers::tells_either;
@@ -88,8 +88,13 @@ pub fn waits(driver: &mut HeapDriver<'_>, line: &[u8], answer: &mut Vec<u8>) -> 
     }
     let mut answers = [Answer::Refused; 2];
     let mut sum = Sum(0);
-    let block = driver.when_all(&[ONE], &condition, &body, &mut answers, tries, &mut sum);
-    tells_either(block, answer)?;
+    let block = WaitingBlock {
+        handlers: &[ONE],
+        condition: &condition,
+        body: &body,
+    };
+    let ended = driver.when_all(&block, &mut answers, tries, &mut sum, &mut NoInterrupt);
+    tells_either(ended, answer)?;
     write!(answer, " {} {} pauses {}", answers[0], answers[1], sum.0)?;
     Ok(())
 }

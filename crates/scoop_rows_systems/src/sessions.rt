@@ -3,7 +3,7 @@
 //! - `heard MESSAGE` adds a message to the tape, in the words of `scoop frame`. Each session plays the whole tape.
 //! - `store N` begins with a new store, and with a new journal that fails after N writes.
 //! - `client NUMBER TURNS KIND LINES` runs the client with these lines, each of which takes at most this many turns. The kind
-//!   is `script`, `strict` or `typed`. It answers the client's output and its error, if there is one. `cut NUMBER TURNS KIND`
+//!   is `script`, `strict`, `typed` or `piped`. It answers the client's output and its error, if there is one. `cut NUMBER TURNS KIND`
 //!   runs `client --cut`.
 //! - `program NUMBER TURNS KIND THEN` runs a program that asks for the balance of handler 1 in a block, and then `ends` the
 //!   block, `returns` or `reserves` again. It answers the balance, the notes and how it ended. `let-go` in its place makes the
@@ -26,8 +26,8 @@ use scoop_row_player::answers::{has, tells, without_last};
 use scoop_row_player::words::{first_three, last, long, number, read_text};
 use scoop_rows_parts::printing::message;
 use scoop_runtime::{
-    Caller, ClientPlan, ClientProgram, ClientRecord, Console, ProgramRun, Progress, RuntimeError,
-    client_cut, client_run, program_run,
+    Caller, ClientMode, ClientPlan, ClientProgram, ClientRecord, Console, ProgramRun, Progress,
+    RuntimeError, client_cut, client_run, program_run,
 };
 use scoop_system::System;
 use std::alloc::Global;
@@ -283,12 +283,12 @@ fn plan_of<'s>(system: &'s System, line: &[u8]) -> Result<ClientPlan<'s>, Bad> {
     let (client, turns, kind, _) = first_three(line)?;
     let place = *system.client(ClientId(number(client)?)).ok_or(Bad::Number)?;
     let turns = long(turns)?;
-    let plan = match kind {
-        b"strict" => ClientPlan::new_strict(system, place, turns, false),
-        b"typed" => ClientPlan::new(system, place, turns, true),
-        _ => ClientPlan::new(system, place, turns, false),
+    let mode = match kind {
+        b"typed" => ClientMode::Typed,
+        b"piped" => ClientMode::Piped,
+        _ => ClientMode::Script,
     };
-    match plan {
+    match ClientPlan::new(system, place, turns, mode, is(kind, "strict")) {
         Ok(plan) => Ok(plan),
         Err(_) => Err(Bad::Number),
     }

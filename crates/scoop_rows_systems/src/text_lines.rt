@@ -2,9 +2,9 @@
 
 ghost use Rattle.std.specs.Prelude.{⊤};
 
-use scoop_lines::{LineBytes, LineSource, Lines, LinesError, SourceError, SourceFault};
+use scoop_lines::{LineBytes, LineSource, Lines, LinesError};
 use scoop_runtime::Interrupt;
-use std::io;
+use std::io::Write;
 
 /// The lines of a text. They stand there from the beginning, so none of them ends a wait.
 #[derive(Drop)]
@@ -21,15 +21,15 @@ impl<'a> TextLines<'a> {
 }
 
 impl LineSource for TextLines<'_> {
-    fn next_line(&mut self, line: &mut LineBytes) -> Result<Option<u32>, SourceError> {
-        match self.lines.next_line(line, &mut io::sink()) {
+    fn next_line<W: Write>(
+        &mut self,
+        line: &mut LineBytes,
+        output: &mut W,
+    ) -> Result<Option<u32>, LinesError> {
+        match self.lines.next_line(line, output) {
             Ok(true) => Ok(Some(self.lines.number())),
             Ok(false) => Ok(None),
-            Err(LinesError::Source(error)) => Err(error),
-            Err(LinesError::Flush) => Err(SourceError {
-                line: self.lines.number(),
-                fault: SourceFault::ReadFault,
-            }),
+            Err(error) => Err(error),
         }
     }
 }
@@ -37,7 +37,13 @@ impl LineSource for TextLines<'_> {
 impl Interrupt for TextLines<'_> {
     ghost stops = { λ _ _ _. ⊤ };
 
+    ghost leaves = { λ _ _ _. ⊤ };
+
     fn stops(&mut self) -> bool {
+        false
+    }
+
+    fn leaves(&mut self) -> bool {
         false
     }
 }

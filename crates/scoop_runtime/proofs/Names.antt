@@ -1,2 +1,2 @@
--- A lemma of the session, for the tactics of this crate.
-pub use Rattle.scoop_session.proofs.Driven.{drives_turned}
+-- Lemmas of the session, for the tactics of this crate.
+pub use Rattle.scoop_session.proofs.Driven.{drives_nothing, drives_turned}

@@ -1,5 +1,5 @@
 -- Cuts of a client's blocks, and their texts.
-use Rattle.std.specs.Prelude.{◌≡◌, ℕ, ⊤, List, [], ◌∷◌, ◌++◌, codes, false, Option, Some, None}
+use Rattle.std.specs.Prelude.{◌≡◌, ℕ, ⊤, List, [], ◌∷◌, ◌++◌, codes, Bool, false, if◌then◌else◌, Option, Some, None}
 use Rattle.std.specs.Fmt.{decimal}
 use Rattle.scoop_message.specs.declared.name.Block.{Block}
 use Rattle.scoop_message.specs.declared.name.ClientId.{ClientId}
@@ -73,13 +73,13 @@ freeing_text client =
 abbrev pub held_text : ClientId → List HandlerId → List ℕ
 held_text client hs = codes "scoop: handlers" ++ numbers_text hs ++ freeing_text client
 
--- the line of a block that a client left, if it is gone
-abbrev pub unended_line : Unended → List ℕ
-unended_line (unended.Cut b) = codes "cut " ++ block_text b ++ 10 ∷ []
-unended_line (unended.GivenUp b) = codes "given up " ++ block_text b ++ 10 ∷ []
-unended_line (unended.Held b) = []
-unended_line unended.Nothing = []
-unended_line unended.When = []
+-- the line of a block that a client left, if it is gone; over a pipe also of one that handlers may hold
+abbrev pub unended_line : Bool → Unended → List ℕ
+unended_line is_piped (unended.Cut b) = codes "cut " ++ block_text b ++ 10 ∷ []
+unended_line is_piped (unended.GivenUp b) = codes "given up " ++ block_text b ++ 10 ∷ []
+unended_line is_piped (unended.Held b) = if is_piped then codes "held " ++ block_text b ++ 10 ∷ [] else []
+unended_line is_piped unended.Nothing = []
+unended_line is_piped unended.When = []
 
 abbrev pub cut_text : ClientId → List HandlerId → List ℕ
 cut_text client hs = codes "cut client " ++ decimal client.0 ++ codes " at handlers" ++ numbers_text hs ++ 10 ∷ []

@@ -2,6 +2,7 @@ pub mod Backoff
 pub mod Beginnings
 pub mod Calling
 pub mod Members
+pub mod Modes
 pub mod ClientLives
 pub mod Cutting
 pub mod NodeLives

@@ -16,7 +16,7 @@ use crate::client::begin_client;
 use crate::client_parts::{ClientRecord, Setting};
 use crate::cutting::{Remains, cut_left, tell_unended};
 use crate::plan::ClientPlan;
-use scoop_driver::{BodyEntry, ConditionPart, DriverError, Pause};
+use scoop_driver::{BodyEntry, ConditionPart, DriverError, NoInterrupt, Pause};
 use scoop_keeper::Keeper;
 use scoop_link::Link;
 use scoop_message::{Answer, Args, Block, HandlerId, Request};
@@ -143,7 +143,9 @@ where
 
     // Greets the handlers that the client knows.
     fn greet(&mut self) -> Result<(), RuntimeError> {
-        let greeted = self.session.greet(&self.known, self.plan.turns());
+        let greeted = self
+            .session
+            .greet(&self.known, self.plan.turns(), &mut NoInterrupt);
         self.told(greeted)
     }
 
@@ -181,7 +183,7 @@ where
             known: &known,
         };
         let unended = cut_left(&setting, keeper, journal, &mut link, remains, &mut notes);
-        tell_unended(unended, &mut notes);
+        tell_unended(false, unended, &mut notes);
         unended
     }
 }

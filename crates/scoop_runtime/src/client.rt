@@ -13,7 +13,7 @@ ghost use Rattle.scoop_session.specs.Settling.{HasFor};
 
 use crate::client_parts::{ClientRecord, Console, Setting};
 use crate::cutting::{Remains, cut_left, tell_unended};
-use crate::plan::ClientPlan;
+use crate::plan::{ClientMode, ClientPlan};
 use crate::trying::Between;
 use arrayvec::ArrayVec;
 use scoop_client::{BeginError, Client};
@@ -21,15 +21,15 @@ use scoop_driver::{Interrupt, Pause};
 use scoop_errors::PartyError;
 use scoop_journal::{Journal, Line};
 use scoop_keeper::{Keeper, KeeperError};
-use scoop_lines::{LineBytes, LineSource};
+use scoop_lines::{LineBytes, LineSource, LinesError, next_word};
 use scoop_link::Link;
 use scoop_links::LentLink;
 use scoop_message::{Answer, HandlerId, OutOfMemory};
 use scoop_session::{Session, unwritten};
-use scoop_system::{ClientLine, ClientPlace, read_line};
+use scoop_system::{ClientLine, ClientPlace, LineFault, ShownWord, read_line};
 use scoop_texts::{
-    ClientStop, Progress, Reply, RuntimeError, Unended, print_replies, tell_error, tell_help,
-    tell_misread, tell_note, tell_ready,
+    ClientStop, Progress, Reply, RuntimeError, Unended, print_first, print_refused, print_replies,
+    tell_error, tell_help, tell_misread, tell_note, tell_ready,
 };
 use std::alloc::Global;
 use std::io::Write;
@@ -127,18 +127,23 @@ enum Next {
     Line,
     // The next line, after one that was refused.
     LineAfterRefusal,
+    // The next line, after a wait that was given up. If a `giveup` has ended it, that is the next line.
+    LineAfterWait,
+    // The end of the client, since the line was refused.
+    Refused,
     // The end of the client.
     End,
 }
 
-// Does what the line of this number asks, and writes the reply to it.
+// Does what the line of this number asks, and writes the reply to it. `last` is what the line before led to.
+#[tactic(auto, using(crate::proofs::Names::drives_nothing))]
 fn read_and_obey<L, J, I, W, N, P>(
     plan: &ClientPlan<'_>,
     session: &mut Session<'_, L, J>,
     line: &LineBytes,
     number: u32,
+    last: Next,
     console: &mut Console<I, W, N, P>,
-    progress: &mut Progress,
 ) -> Result<Next, RuntimeError>
 where
     L: Link,
@@ -149,36 +154,114 @@ where
     P: Pause + Drop,
     ensures { Drives session.old.driver.seen session.new.driver.seen }
 {
-    match read_line(plan.system(), line) {
-        Ok(asked) => match plan.place().unused(&asked) {
-            Some(handler) => {
-                let error = RuntimeError::NotUsed(number, handler);
-                refuse_line(plan, error, &mut console.notes)
-            }
-            None => {
-                progress.has_begun = true;
-                obey_line(plan, session, &asked, console)
-            }
-        },
-        Err(fault) if plan.is_typed() => {
-            tell_misread(plan.system(), number, fault, &mut console.notes);
-            Ok(Next::Line)
+    let error = match asked_by(plan, line) {
+        Ok(ClientLine::GiveUp) if last == Next::LineAfterWait => {
+            return give_up_again(plan, &mut console.output);
         }
-        Err(fault) => Err(RuntimeError::Line(number, fault)),
+        Ok(asked) => match plan.place().unused(&asked) {
+            Some(handler) => RuntimeError::NotUsed(number, handler),
+            None => return obey_line(plan, session, &asked, console),
+        },
+        Err(fault) => RuntimeError::Line(number, fault),
+    };
+    let is_inside = session.input_ended().is_err();
+    refuse_line(
+        plan,
+        is_inside,
+        error,
+        &mut console.output,
+        &mut console.notes,
+    )
+}
+
+// What a line asks. Over a pipe a remark, a line without words and `help` are unknown.
+fn asked_by(plan: &ClientPlan<'_>, line: &[u8]) -> Result<ClientLine, LineFault> {
+    match read_line(plan.system(), line) {
+        Ok(ClientLine::Blank | ClientLine::Help) if plan.is_piped() => {
+            let word = match next_word(line) {
+                Some((word, _)) => word,
+                None => &[],
+            };
+            Err(LineFault::UnknownLine(ShownWord::of(word)))
+        }
+        asked => asked,
     }
 }
 
-// Ends the client with the error of a line, unless a user types.
-fn refuse_line<N: Write>(
+// Writes the reply to a `giveup` that has ended a wait. Only over a pipe it is one of its own.
+fn give_up_again<W: Write>(plan: &ClientPlan<'_>, output: &mut W) -> Result<Next, RuntimeError> {
+    if plan.is_piped() {
+        print_reply_lines(plan, &[], &Reply::GivenUp, output)?;
+    }
+    Ok(Next::Line)
+}
+
+// Refuses a line with this error. That ends a script. A user reads about it, and over a pipe the program does.
+fn refuse_line<W: Write, N: Write>(
     plan: &ClientPlan<'_>,
+    is_inside: bool,
     error: RuntimeError,
+    output: &mut W,
     notes: &mut N,
 ) -> Result<Next, RuntimeError> {
-    if !plan.is_typed() {
-        return Err(error);
+    match (plan.mode(), error) {
+        (ClientMode::Script, error) => Err(error),
+        (ClientMode::Typed, RuntimeError::Line(number, fault)) => {
+            tell_misread(plan.system(), number, fault, notes);
+            Ok(Next::Line)
+        }
+        (ClientMode::Typed, error) => {
+            tell_error(error, notes);
+            Ok(Next::Line)
+        }
+        (ClientMode::Piped, error) => {
+            tell_refused(error, output)?;
+            Ok(after_refused(is_inside))
+        }
     }
-    tell_error(error, notes);
-    Ok(Next::Line)
+}
+
+// Writes the refusal of a line over a pipe.
+fn tell_refused<W: Write>(error: RuntimeError, output: &mut W) -> Result<(), RuntimeError> {
+    match print_refused(&error, output) {
+        Ok(()) => Ok(()),
+        Err(_) => Err(RuntimeError::from(PartyError::Write)),
+    }
+}
+
+// The next action after a line over a pipe that was refused.
+fn after_refused(is_inside: bool) -> Next {
+    if is_inside { Next::Refused } else { Next::Line }
+}
+
+// The next action after this reply to a line. `is_inside` tells whether the client has a block then.
+fn next_after(plan: &ClientPlan<'_>, line: &ClientLine, reply: &Reply, is_inside: bool) -> Next {
+    let gives_up = matches!(line, ClientLine::GiveUp);
+    match reply {
+        Reply::GivenUp if !gives_up => Next::LineAfterWait,
+        Reply::Refused(_) | Reply::NotInWhen if plan.is_piped() && !gives_up => {
+            after_refused(is_inside)
+        }
+        reply if plan.is_piped() || !reply.is_refusal() => Next::Line,
+        _ if plan.is_strict() => Next::Refused,
+        _ => Next::LineAfterRefusal,
+    }
+}
+
+// Whether the line was begun at which a client has ended with this error.
+fn has_begun(error: RuntimeError) -> bool {
+    !matches!(error, RuntimeError::Line(..) | RuntimeError::NotUsed(..))
+}
+
+// The error of an input that has no next line. Over a pipe a line that the input doesn't give whole is refused.
+fn unread<W: Write>(plan: &ClientPlan<'_>, error: LinesError, output: &mut W) -> RuntimeError {
+    let error = RuntimeError::from(error);
+    if plan.is_piped() {
+        if let Err(unwritten) = tell_refused(error, output) {
+            return unwritten;
+        }
+    }
+    error
 }
 
 // Does what each line of the input asks, writes one reply for each, and records the progress. Returns the lines that were
@@ -200,25 +283,26 @@ where
 {
     let mut line = ArrayVec::new();
     let mut refusals = None;
+    let mut last = Next::Line;
     for _ in 0..u64::MAX {
-        let number = match console.lines.next_line(&mut line) {
+        let number = match console.lines.next_line(&mut line, &mut console.output) {
             Ok(Some(number)) => number,
             Ok(None) => break,
-            Err(error) => return Err(RuntimeError::Input(error)),
+            Err(error) => return Err(unread(plan, error, &mut console.output)),
         };
-        let obeyed = read_and_obey(plan, session, &line, number, console, progress);
-        let next = match obeyed {
+        let obeyed = read_and_obey(plan, session, &line, number, last, console);
+        last = match obeyed {
             Ok(next) => next,
-            Err(error) => return Err(error),
-        };
-        progress.has_begun = false;
-        progress.answered = Some(number);
-        match next {
-            Next::Line => {}
-            Next::LineAfterRefusal if plan.is_strict() => {
-                return Err(RuntimeError::Refused(number));
+            Err(error) => {
+                progress.has_begun = has_begun(error);
+                return Err(error);
             }
+        };
+        progress.answered = Some(number);
+        match last {
+            Next::Line | Next::LineAfterWait => {}
             Next::LineAfterRefusal => refusals = Some(Refusals::add(refusals, number)),
+            Next::Refused => return Err(RuntimeError::Refused(number)),
             Next::End => break,
         }
     }
@@ -255,13 +339,16 @@ where
     }
 }
 
-// Writes the reply to a line, and flushes.
+// Writes the reply to a line, and flushes. Over a pipe the output is flushed before the client waits for a line.
 fn print_reply_lines<W: Write>(
+    plan: &ClientPlan<'_>,
     answers: &[Answer],
     reply: &Reply,
     output: &mut W,
 ) -> Result<(), RuntimeError> {
-    if print_replies(answers, reply, output).is_err() || output.flush().is_err() {
+    let is_piped = plan.is_piped();
+    let written = print_replies(is_piped, answers, reply, output);
+    if written.is_err() || !is_piped && output.flush().is_err() {
         return Err(RuntimeError::from(PartyError::Write));
     }
     Ok(())
@@ -295,30 +382,28 @@ where
     let Some(reply) = replied else {
         return Ok(Next::Line);
     };
-    match print_reply_lines(session.answers(), &reply, &mut console.output) {
+    match print_reply_lines(plan, session.answers(), &reply, &mut console.output) {
         Ok(()) => {}
         Err(error) => return Err(error),
     }
     tell_note(&reply, plan.is_typed(), &mut console.notes);
-    if reply.is_refusal() {
-        Ok(Next::LineAfterRefusal)
-    } else {
-        Ok(Next::Line)
-    }
+    let is_inside = session.input_ended().is_err();
+    Ok(next_after(plan, line, &reply, is_inside))
 }
 
 /// Greets these handlers. Returns the error with which the client ends, also if a line of its journal isn't written.
-pub(crate) fn greet_all<L: Link, J: Write + Drop>(
+pub(crate) fn greet_all<L: Link, J: Write + Drop, I: Interrupt>(
     plan: &ClientPlan<'_>,
     session: &mut Session<'_, L, J>,
     handlers: &[HandlerId],
     turns: u64,
+    interrupt: &mut I,
 ) -> Result<(), RuntimeError>
     ensures greeted { OnOk result (IsFalse (owes session.new.driver.seen.client handlers.now)) }
     ensures turned { TakesTurnsOnly session.old.driver.seen session.new.driver.seen }
     ensures written { OnOk result (session.new.driver.diary.failure ≡ None) }
 {
-    let greeted = session.greet(handlers, turns);
+    let greeted = session.greet(handlers, turns, interrupt);
     if let Some(unwritten) = session.unwritten() {
         return Err(unwritten);
     }
@@ -328,10 +413,27 @@ pub(crate) fn greet_all<L: Link, J: Write + Drop>(
     }
 }
 
-// Greets, and does what the lines ask. Borrows the session, so that no early return has to drop it.
+// Writes the first line of a client over a pipe. A user reads that the client is ready.
+fn tell_begun<W: Write, N: Write>(
+    plan: &ClientPlan<'_>,
+    inc: u32,
+    output: &mut W,
+    notes: &mut N,
+) -> Result<(), RuntimeError> {
+    let client = plan.place().client;
+    if plan.is_piped() && print_first(client, inc, output).is_err() {
+        return Err(RuntimeError::from(PartyError::Write));
+    }
+    tell_ready(client, plan.is_typed(), notes);
+    Ok(())
+}
+
+// Greets, and does what the lines ask, as the client of this incarnation. Borrows the session, so that no early return has to
+// drop it.
 #[tactic(auto, using(crate::proofs::Names::drives_turned))]
 fn run_session<L, J, I, W, N, P>(
     setting: &Setting<'_, '_>,
+    inc: u32,
     session: &mut Session<'_, L, J>,
     console: &mut Console<I, W, N, P>,
     progress: &mut Progress,
@@ -347,11 +449,20 @@ where
     ensures ended { OnOk result (input_ended (is_some session.new.wish) (phase_of session.new.driver.seen.client) ≡ Ok (tt {0})) }
 {
     let plan = setting.plan;
-    match greet_all(plan, session, setting.known, plan.turns()) {
+    match greet_all(
+        plan,
+        session,
+        setting.known,
+        plan.turns(),
+        &mut console.lines,
+    ) {
         Ok(()) => progress.is_ready = true,
         Err(error) => return Err(error),
     }
-    tell_ready(plan.place().client, plan.is_typed(), &mut console.notes);
+    match tell_begun(plan, inc, &mut console.output, &mut console.notes) {
+        Ok(()) => {}
+        Err(error) => return Err(error),
+    }
     let refusals = match obey_lines(plan, session, console, progress) {
         Ok(refusals) => refusals,
         Err(error) => return Err(error),
@@ -382,8 +493,9 @@ where
 {
     let link = LentLink::new(link);
     let turns = setting.plan.turns();
+    let inc = client.inc();
     let mut session = Session::new(setting.alloc, client, link, turns, journal);
-    let ended = run_session(setting, &mut session, console, progress);
+    let ended = run_session(setting, inc, &mut session, console, progress);
     let left = session.leave();
     let last = session.last_block();
     (ended, Remains { left, last })
@@ -447,7 +559,7 @@ where
         remains,
         &mut console.notes,
     );
-    tell_unended(unended, &mut console.output);
+    tell_unended(setting.plan.is_piped(), unended, &mut console.output);
     Ran { ended, unended }
 }
 
@@ -487,13 +599,15 @@ where
 
 /// Runs a client over a link. It takes its next incarnation from the store, greets every handler that it uses, and then does what
 /// each line of the console asks. It writes one line for each, at once; for a refusal it writes `refused` and why, and goes on.
+/// Over a pipe its lines are those of docs/PROTOCOL.md, "Over a pipe".
 /// It writes its journal, if there is one: a command and what it received before it sends a new message for them, and before it
 /// answers. It repeats a datagram at each turn until it is answered, and ends at the first failed call of the link: a
 /// [`ClientLink`](scoop_links::ClientLink) limits repeats, and tolerates failed calls. Between the tries of a waiting block it
 /// pauses.
 ///
-/// While a `reserve` waits for its locks, the input is asked whether its next line is `giveup` ([`Interrupt`]). Then the
-/// locks are given back, and `given up` is the reply to both lines. The input doesn't give that `giveup` again.
+/// While the client waits, the input is asked whether it ends the wait ([`Interrupt`]). If it stops a `reserve` that waits for
+/// its locks, or the tries of a waiting block, the locks are given back, and the reply is `given up`. A `giveup` that did so is
+/// the next line, and has this reply too. If the input leaves, the client ends as at the end of its input.
 ///
 /// At its end the client leaves no block behind. It gives up a block whose handlers aren't all locked, and writes
 /// `given up 7.1.1`. It cuts every other unended block by greeting the block's handlers with its next incarnation, and writes
@@ -509,10 +623,10 @@ where
 /// Refused, each with the progress so far:
 /// - the store's refusal, before anything is sent;
 /// - `NotWelcomed` and `NotAnswered` when the turns are over, and `link: LinkFault`;
-/// - the first line that can't be read or names a handler that the client doesn't use, unless a user types;
-/// - for a strict client the first line that is refused;
+/// - the first line of a script that can't be read or names a handler that the client doesn't use;
+/// - for a strict client the first line that is refused; over a pipe the first one inside a block;
 /// - a fault of the input;
-/// - `InsideBlock` and `InsideWhen` if the input ends inside a block;
+/// - `InsideBlock` and `InsideWhen` if the input ends inside a block, and `NotReady` if it ends before the client is ready;
 /// - `SomeRefused` after the last line of a script, if lines of it were refused;
 /// - `write fault`, also of the journal, and `out of memory`.
 #[tactic(auto, using(crate::proofs::ClientLives::client_ran_well, crate::proofs::ClientLives::client_ran_early))]

@@ -25,7 +25,7 @@ where
     N: Write + Drop,
     P: Pause + Drop,
 {
-    /// The lines that the client obeys. They may also end a reservation that waits.
+    /// The lines that the client obeys. They may also end its waits.
     pub lines: I,
     /// The replies, one line for each.
     pub output: W,

@@ -11,6 +11,7 @@ use crate::client::{begin_client, greet_all};
 use crate::client_parts::{ClientRecord, Setting};
 use crate::plan::ClientPlan;
 use scoop_client::HandlerList;
+use scoop_driver::NoInterrupt;
 use scoop_errors::PartyError;
 use scoop_journal::Journal;
 use scoop_keeper::Keeper;
@@ -94,7 +95,7 @@ fn greet_anew<K: Keeper<Global>, L: Link, J: Write + Drop, N: Write>(
     let Greeting { handlers, turns } = *greeting;
     let client = begin_client(setting, keeper, journal)?;
     let mut session = Session::new(alloc, client, LentLink::new(link), turns, journal);
-    match greet_all(plan, &mut session, handlers, turns) {
+    match greet_all(plan, &mut session, handlers, turns, &mut NoInterrupt) {
         Ok(()) => Ok(()),
         Err(error) => {
             tell_held(alloc, plan.place().client, &session, handlers, notes);
@@ -150,20 +151,21 @@ pub(crate) fn cut_left<K: Keeper<Global>, L: Link, J: Write + Drop, N: Write>(
     }
 }
 
-// Writes that a block is cut, or given up. Nothing is written of other blocks.
-fn print_unended<W: Write>(unended: Unended, writer: &mut W) -> io::Result<()>
-    ensures { OnOk result (Appends (W.contents writer.old) (W.contents writer.new) (unended_line unended)) }
+// Writes that a block is cut, or given up, and over a pipe that its handlers may hold it. Nothing is written of other blocks.
+fn print_unended<W: Write>(is_piped: bool, unended: Unended, writer: &mut W) -> io::Result<()>
+    ensures { OnOk result (Appends (W.contents writer.old) (W.contents writer.new) (unended_line is_piped unended)) }
 {
     match unended {
         Unended::Cut(block) => writeln!(writer, "cut {block}"),
         Unended::GivenUp(block) => writeln!(writer, "given up {block}"),
+        Unended::Held(block) if is_piped => writeln!(writer, "held {block}"),
         Unended::Nothing | Unended::When | Unended::Held(_) => Ok(()),
     }
 }
 
 /// Writes the same, and flushes. The client has another error by then, so a line that can't be written is lost.
-pub(crate) fn tell_unended<W: Write>(unended: Unended, writer: &mut W) {
-    let written = print_unended(unended, writer);
+pub(crate) fn tell_unended<W: Write>(is_piped: bool, unended: Unended, writer: &mut W) {
+    let written = print_unended(is_piped, unended, writer);
     send_out(written, writer);
 }
 

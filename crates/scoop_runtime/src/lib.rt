@@ -2,7 +2,7 @@
 //!
 //! The call [`node_run`] serves a node with threads over a record. When the history is full, it closes the node and
 //! opens it again over the same record and link. The call [`client_run`] runs a client whose commands are the lines of
-//! an input, which may end a reservation that waits ([`Interrupt`]). The client takes its next incarnation, greets
+//! an input, which may end the client's waits ([`Interrupt`]). The client takes its next incarnation, greets
 //! every handler that it uses, and replies line by line. At its end it leaves no block behind. The call [`client_cut`]
 //! cuts the block of a client that was killed. The call [`program_run`] runs a program as a client, whose commands are the
 //! calls of the program ([`Calls`]). The calls [`open_node_link`] and [`open_client_link`] bind their addresses, and a
@@ -19,7 +19,7 @@
 //! let mut around = Around { lines: &mut output, ending: &Ending::new() };
 //! let ended = node_run(rt, alloc, &plan, keeper, &mut link, &mut around);
 //! // a client of it, whose commands are these lines
-//! let plan = ClientPlan::new(system, place, TURNS, is_typed).ok()?;
+//! let plan = ClientPlan::new(system, place, TURNS, ClientMode::Script, is_strict).ok()?;
 //! let notes = ClientNotes { waits, faults };
 //! let mut link = ClientLink::new(alloc, link, clock, notes, system, seed)?;
 //! let mut record = ClientRecord { store, journal };
@@ -53,7 +53,7 @@ pub use ending::Ending;
 pub use links::{open_client_link, open_node_link};
 pub use node::{Around, node_run};
 pub use objects::{Native, Objects, Tables};
-pub use plan::{ClientPlan, NodePlan};
+pub use plan::{ClientMode, ClientPlan, NodePlan};
 pub use program::{ClientProgram, ProgramEnd, ProgramRun, program_run};
 pub use scoop_driver::Interrupt;
 pub use scoop_links::{ClientLink, ClientNotes};

@@ -1,9 +1,10 @@
 //! The plans of a node that is served and of a client that runs.
 
-ghost use Rattle.std.specs.Prelude.{◌≡◌, ◌≤◌, true, false, length, map, IfOk, MatchResult, Some, None};
+ghost use Rattle.std.specs.Prelude.{◌≡◌, ◌≤◌, length, map, IfOk, MatchResult, Some, None};
 ghost use Rattle.scoop_message.specs.declared.limits.TheConstants.{MAX_ENTRIES, MAX_HANDLERS};
 ghost use Rattle.std.specs.List.{AllZip};
 ghost use Rattle.scoop_runtime.specs.Members.{AreMembersOf, IsMemberOf, IsPlanOf};
+ghost use Rattle.scoop_runtime.specs.Modes.{is_piped, is_typed};
 ghost use Rattle.scoop_runtime.specs.NodeLives.{IsMemberObject};
 ghost use Rattle.scoop_texts.specs.Ranges.{client_fault};
 
@@ -164,58 +165,44 @@ impl<O: Objects> NodePlan<O> {
     }
 }
 
+/// Where the lines of a client come from.
+#[derive(Clone, Copy, Debug, PartialEq, Eq)]
+pub enum ClientMode {
+    /// A script.
+    Script,
+    /// A user, who types them.
+    Typed,
+    /// A program, over a pipe.
+    Piped,
+}
+
 /// A client of a system, and the settings with which it runs.
 #[derive(Clone, Copy)]
 pub struct ClientPlan<'a> {
     system: &'a System,
     place: ClientPlace,
     turns: u64,
-    is_typed: bool,
+    mode: ClientMode,
     is_strict: bool,
     ghost some: { 1 ≤ place.batch },
     ghost limit: { place.batch ≤ MAX_ENTRIES },
 }
 
 impl<'a> ClientPlan<'a> {
-    /// The client at this place of the system. Each of its commands takes at most `turns`, at least 1. If a user types its
-    /// lines, it reports a line that can't be read, and goes on. It goes on after a refused line too.
+    /// The client at this place of the system. Each of its commands takes at most `turns`, at least 1. A script's line that can't
+    /// be read ends the client. It goes on after one that is refused or whose condition fails, unless it is strict. A user
+    /// reads which line can't be read. Over a pipe the client does what docs/PROTOCOL.md says, strict or not.
     ///
     /// Refused: the first number that is out of its range, the turns or the batch of the client's place.
     pub fn new(
         system: &'a System,
         place: ClientPlace,
         turns: u64,
-        is_typed: bool,
-    ) -> Result<ClientPlan<'a>, OutOfRange>
-        ensures ranges { MatchResult result (λ p. client_fault turns place.batch ≡ None) (λ range. client_fault turns place.batch ≡ Some range) }
-        ensures kept { IfOk result (λ p. (p.place ≡ place) × (p.turns ≡ turns) × (p.is_typed ≡ is_typed) × (p.is_strict ≡ false)) }
-    {
-        ClientPlan::made(system, place, turns, is_typed, false)
-    }
-
-    /// The same for a client that ends after the first line that is refused or whose condition fails.
-    pub fn new_strict(
-        system: &'a System,
-        place: ClientPlace,
-        turns: u64,
-        is_typed: bool,
-    ) -> Result<ClientPlan<'a>, OutOfRange>
-        ensures ranges { MatchResult result (λ p. client_fault turns place.batch ≡ None) (λ range. client_fault turns place.batch ≡ Some range) }
-        ensures kept { IfOk result (λ p. (p.place ≡ place) × (p.turns ≡ turns) × (p.is_typed ≡ is_typed) × (p.is_strict ≡ true)) }
-    {
-        ClientPlan::made(system, place, turns, is_typed, true)
-    }
-
-    // The client with these settings, if they are in their ranges.
-    fn made(
-        system: &'a System,
-        place: ClientPlace,
-        turns: u64,
-        is_typed: bool,
+        mode: ClientMode,
         is_strict: bool,
     ) -> Result<ClientPlan<'a>, OutOfRange>
         ensures ranges { MatchResult result (λ p. client_fault turns place.batch ≡ None) (λ range. client_fault turns place.batch ≡ Some range) }
-        ensures kept { IfOk result (λ p. (p.place ≡ place) × (p.turns ≡ turns) × (p.is_typed ≡ is_typed) × (p.is_strict ≡ is_strict)) }
+        ensures kept { IfOk result (λ p. (p.place ≡ place) × (p.turns ≡ turns) × (p.mode ≡ mode) × (p.is_strict ≡ is_strict)) }
     {
         if !OutOfRange::Turns.is_within(turns) {
             return Err(OutOfRange::Turns);
@@ -227,7 +214,7 @@ impl<'a> ClientPlan<'a> {
             system,
             place,
             turns,
-            is_typed,
+            mode,
             is_strict,
         })
     }
@@ -248,6 +235,13 @@ impl<'a> ClientPlan<'a> {
         self.place
     }
 
+    /// Where the client's lines come from.
+    pub fn mode(&self) -> ClientMode
+        ensures { result ≡ self.now.mode }
+    {
+        self.mode
+    }
+
     /// The turns that each command takes at most.
     pub(crate) fn turns(&self) -> u64
         ensures { result ≡ self.now.turns }
@@ -264,8 +258,15 @@ impl<'a> ClientPlan<'a> {
 
     /// Whether a user types the lines.
     pub(crate) fn is_typed(&self) -> bool
-        ensures { result ≡ self.now.is_typed }
+        ensures { result ≡ is_typed self.now.mode }
     {
-        self.is_typed
+        matches!(self.mode, ClientMode::Typed)
+    }
+
+    /// Whether the lines come over a pipe.
+    pub(crate) fn is_piped(&self) -> bool
+        ensures { result ≡ is_piped self.now.mode }
+    {
+        matches!(self.mode, ClientMode::Piped)
     }
 }

@@ -1,6 +1,6 @@
 -- Each line of a client takes steps of its driver, whatever its outcome.
-use Rattle.std.proofs.Common.{◌≡◌, ℕ, Bool, false, List, [], ◌++◌, Option, Some, None, Result, Ok, Err, inl, inr, refl, sym, subst}
-use Rattle.std.specs.Prelude.{OnOk}
+use Rattle.std.proofs.Common.{◌≡◌, ℕ, Bool, false, List, [], ◌++◌, Option, Some, None, Result, Ok, Err, refl, sym, subst}
+use Rattle.std.specs.Prelude.{IfErr, OnOk}
 use Rattle.scoop_message.specs.declared.name.HandlerId.{HandlerId}
 use Rattle.scoop_message.specs.declared.request.Answer.{Answer}
 use Rattle.scoop_message.specs.declared.request.Request.{Request}
@@ -9,9 +9,10 @@ use Rattle.scoop_client.specs.declared.command.Command.TheVariants.{Reserve as D
 use Rattle.scoop_client.specs.declared.phase.Phase.TheVariants.{Idle}
 use Rattle.scoop_client.specs.State.{phase_of}
 use Rattle.scoop_driver.specs.declared.error.DriverError.{DriverError}
+use Rattle.scoop_driver.specs.declared.error.DriverError.TheVariants.{Client, TurnsOver, LinkFault, ConditionFailed, Interrupted}
 use Rattle.scoop_driver.specs.State.{Seen}
 use Rattle.scoop_driver.specs.Calls.{Called, Queried}
-use Rattle.scoop_driver.specs.Waiting.{WaitsWith}
+use Rattle.scoop_driver.specs.Waiting.{WaitsUpTo}
 use Rattle.scoop_driver.specs.Wishes.{Wish as Waited}
 use Rattle.scoop_driver.proofs.StepLists.{goes_nothing, goes_on}
 use Rattle.scoop_system.specs.declared.line.ClientLine.{ClientLine}
@@ -20,7 +21,9 @@ use Rattle.scoop_texts.specs.declared.reply.Reply.{Reply}
 use Rattle.scoop_texts.specs.declared.reply.Reply.TheVariants.{Reserved, Logged, Answered, Ended, Noted, EndedAt, GivenUp}
 use Rattle.scoop_session.specs.declared.wish.Wish.{Wish}
 use Rattle.scoop_session.specs.Obeying.{BeganAndGaveUp, CallDoes, Does, DoesInside, DoesOutside, Drives, EndDoes, GaveUp, GiveUpDoes, GivesUp, Obeys, QueryDoes, ReserveDoes}
-use Rattle.scoop_session.specs.Obeying.{RunsBlock, TakesTurnsOnly, TryDoes, WhenDoes}
+use Rattle.scoop_session.specs.Obeying.{FailsTrying, RunsBlock, SaysNoTries, StopsTrying, TakesTurnsOnly, TriesOut, TryDoes, WhenDoes, tried_as}
+use Rattle.scoop_session.specs.Obeying.{tried, refused, left, kept}
+use Rattle.scoop_session.specs.Obeying.{between, locking}
 
 pub drives_nothing : (s : Seen) → Drives s s
 drives_nothing s = ([], goes_nothing s)
@@ -60,19 +63,27 @@ drives_given s t gave = drives_turning DoGiveUp 0 (Ok (tt {0})) s gave.given t g
 
 -- a block is given up, and turns follow
 pub gives_up_then : (r : Result (Unit {0}) DriverError) (s t u : Seen) → Called {T = Unit {0}} DoGiveUp 0 (Ok (tt {0})) s t
-    → OnOk r (phase_of u.client ≡ Idle) → TakesTurnsOnly t u → GivesUp r s u
-gives_up_then (Ok done) s t u gives idle turned = record { given = t; gives = gives; turned = turned; idle = idle }
-gives_up_then (Err e) s t u gives idle turned = drives_turning DoGiveUp 0 (Ok (tt {0})) s t u gives turned
+    → OnOk r (phase_of u.client ≡ Idle) → IfErr r SaysNoTries → TakesTurnsOnly t u → GivesUp r s u
+gives_up_then (Ok done) s t u gives idle tries turned = record { given = t; gives = gives; turned = turned; idle = idle }
+gives_up_then (Err e) s t u gives idle tries turned = (tries, drives_turning DoGiveUp 0 (Ok (tt {0})) s t u gives turned)
+
+-- a command that isn't given
+pub says_no_tries : {T : Type 0} (x : Command) (turns : ℕ) (e : DriverError) (s t : Seen) → Called {T = T} x turns (Err e) s t → SaysNoTries e
+says_no_tries x turns (Client e) s t called = tt
+says_no_tries x turns TurnsOver s t called = tt
+says_no_tries x turns LinkFault s t called = tt
+says_no_tries x turns (ConditionFailed k) s t (steps, does) = absurd does.commands.2
+says_no_tries x turns Interrupted s t called = tt
 
 pub drives_gave_up : (r : Result (Unit {0}) DriverError) (s t : Seen) → GivesUp r s t → Drives s t
 drives_gave_up (Ok done) s t gave = drives_given s t gave
-drives_gave_up (Err e) s t drives = drives
+drives_gave_up (Err e) s t (tries, drives) = drives
 
 -- a wait for a condition, unless a handler of it is outside its block
-pub drives_waited : (outside : Option HandlerId) (w : Waited) (turns tries : ℕ) (r : Result ℕ DriverError) (answers : List Answer) (s t : Seen)
-    → ((h : HandlerId) → outside ≡ Some h → t ≡ s) → (outside ≡ None → WaitsWith w turns tries r answers s t) → Drives s t
-drives_waited None w turns tries r answers s t stays waits = let waited = waits refl in (waited.0, waited.1.goes)
-drives_waited (Some h) w turns tries r answers s t stays waits = drives_same s t (stays h refl)
+pub drives_waited : (Stopped : Type 0) (outside : Option HandlerId) (w : Waited) (turns tries : ℕ) (r : Result ℕ DriverError) (answers : List Answer) (s t : Seen)
+    → ((h : HandlerId) → outside ≡ Some h → t ≡ s) → (outside ≡ None → WaitsUpTo Stopped w turns tries r answers s t) → Drives s t
+drives_waited Stopped None w turns tries r answers s t stays waits = let waited = (waits refl).waits in (waited.0, waited.1.goes)
+drives_waited Stopped (Some h) w turns tries r answers s t stays waits = drives_same s t (stays h refl)
 
 -- ---- outside a block that waits for its condition
 
@@ -84,7 +95,8 @@ begun_then hs turns b (Ok GivenUp) s t u is begins gave = record {
   begins = subst (λ c. Called {T = Bool} (DoReserve hs) turns (Ok c) s t) is begins;
   gave_up = gave;
 }
-begun_then hs turns b (Err e) s t u is begins drives = drives_both s t u (drives_called {T = Bool} (DoReserve hs) turns (Ok b) s t begins) drives
+begun_then hs turns b (Err e) s t u is begins (tries, drives) =
+    drives_both s t u (drives_called {T = Bool} (DoReserve hs) turns (Ok b) s t begins) drives
 begun_then hs turns b (Ok reply) s t u is begins gave = absurd gave
 
 drives_begun : (hs : List HandlerId) (turns : ℕ) (s t : Seen) → BeganAndGaveUp hs turns s t → Drives s t
@@ -114,7 +126,7 @@ drives_end turns (Ok reply) s t does = absurd does
 
 drives_give_up : (o : Result Reply DriverError) (s t : Seen) → GiveUpDoes o s t → Drives s t
 drives_give_up (Ok GivenUp) s t does = drives_given s t does
-drives_give_up (Err e) s t does = does
+drives_give_up (Err e) s t does = does.1
 drives_give_up (Ok reply) s t does = absurd does
 
 drives_when : (o : Result Reply DriverError) (s t : Seen) → WhenDoes o s t → Drives s t
@@ -135,10 +147,25 @@ drives_outside (line.ReserveWhen hs conditions tries) turns o s t does = drives_
 
 -- ---- inside such a block
 
+drives_out : (w : Waited) (tries : ℕ) (r : Result ℕ DriverError) (answers : List Answer) (s t : Seen) → TriesOut w tries r answers s t → Drives s t
+drives_out w tries r answers s t (xs, goes, gives) = (xs, goes)
+
+drives_stopped : (w : Waited) (tries : ℕ) (s t : Seen) → StopsTrying w tries s t → Drives s t
+drives_stopped w tries s t (between {failed} below out) = drives_out w failed (Err (ConditionFailed failed)) [] s t out
+drives_stopped w tries s t (locking {begun} out gave) =
+    drives_both s begun t (drives_out w tries (Err Interrupted) [] s begun out) (drives_given begun t gave)
+
+drives_failed : (w : Waited) (tries : ℕ) (e : DriverError) (answers : List Answer) (s t : Seen) → FailsTrying w tries e answers s t → Drives s t
+drives_failed w tries e answers s t (tried out) = drives_out w tries (Err e) answers s t out
+drives_failed w tries e answers s t (refused memory same) = drives_same s t same
+drives_failed w tries e answers s t (left is stops) = drives_stopped w tries s t stops
+drives_failed w tries e answers s t (kept {begun} says out drives) =
+    drives_both s begun t (drives_out w tries (Err Interrupted) [] s begun out) drives
+
 drives_tries : (w : Wish) (o : Result Reply DriverError) (answers : List Answer) (s t : Seen) → TryDoes w o answers s t → Drives s t
-drives_tries w (Ok (EndedAt tried)) answers s t (xs, goes, gives) = (xs, goes)
-drives_tries w (Err e) answers s t (inl (xs, goes, gives)) = (xs, goes)
-drives_tries w (Err e) answers s t (inr (memory, same)) = drives_same s t same
+drives_tries w (Ok (EndedAt k)) answers s t (xs, goes, gives) = (xs, goes)
+drives_tries w (Ok GivenUp) answers s t (none, stops) = drives_stopped (tried_as w) w.tries s t stops
+drives_tries w (Err e) answers s t fails = drives_failed (tried_as w) w.tries e answers s t fails
 drives_tries w (Ok reply) answers s t does = absurd does
 
 drives_inside : (l : ClientLine) (w : Wish) (o : Result Reply DriverError) (answers : List Answer) (s t : Seen) → DoesInside l w o answers s t → Drives s t

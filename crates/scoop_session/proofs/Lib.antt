@@ -1,4 +1,5 @@
 pub mod Driven
 mod Gathered
 mod Inside
+mod Tried
 mod Turned

@@ -6,13 +6,13 @@ use Rattle.scoop_client.specs.declared.phase.Phase.TheVariants.{Greeting, Idle}
 use Rattle.scoop_client.specs.State.{ClientState, phase_of}
 use Rattle.scoop_client.specs.Due.{due}
 use Rattle.scoop_driver.specs.declared.error.DriverError.{DriverError}
-use Rattle.scoop_driver.specs.declared.error.DriverError.TheVariants.{TurnsOver}
+use Rattle.scoop_driver.specs.declared.error.DriverError.TheVariants.{TurnsOver, Interrupted}
 use Rattle.scoop_errors.specs.declared.party_error.PartyError.TheVariants.{Driver, OutOfMemory, Write}
 use Rattle.scoop_journal.specs.declared.journal.AppendError.{AppendError}
 use Rattle.scoop_journal.specs.declared.journal.AppendError.TheVariants as append
 use Rattle.scoop_system.specs.declared.place.HandlerPlace.{HandlerPlace}
 use Rattle.scoop_texts.specs.declared.error.RuntimeError.{RuntimeError}
-use Rattle.scoop_texts.specs.declared.error.RuntimeError.TheVariants.{InsideBlock, InsideWhen, NotWelcomed, NotAnswered, Ended}
+use Rattle.scoop_texts.specs.declared.error.RuntimeError.TheVariants.{InsideBlock, InsideWhen, NotReady, NotWelcomed, NotAnswered, Ended}
 
 -- the first handler to which a message is due
 abbrev pub first_awaited : ClientState → List HandlerPlace → Option HandlerId
@@ -23,11 +23,6 @@ abbrev pub over_at : Phase → Option HandlerId → RuntimeError
 over_at phase None = Ended (Driver TurnsOver)
 over_at Greeting (Some h) = NotWelcomed h
 over_at phase (Some h) = NotAnswered h
-
--- the error of a session after an error of its driver
-abbrev pub ended_by : ClientState → DriverError → List HandlerPlace → RuntimeError
-ended_by c TurnsOver places = over_at (phase_of c) (first_awaited c places)
-ended_by c error places = Ended (Driver error)
 
 -- the error for a line of the journal that isn't written
 abbrev pub unwritten : AppendError → RuntimeError
@@ -40,4 +35,16 @@ unwritten append.Write = Ended Write
 abbrev pub input_ended : Bool → Phase → Result (Unit {0}) RuntimeError
 input_ended true phase = Err InsideWhen
 input_ended false Idle = Ok (tt {0})
+input_ended false Greeting = Err NotReady
 input_ended false phase = Err InsideBlock
+
+-- a wait that was interrupted was inside a block or before the client was ready
+abbrev pub interrupted_by : Result (Unit {0}) RuntimeError → RuntimeError
+interrupted_by (Ok u) = InsideBlock
+interrupted_by (Err e) = e
+
+-- the error of a session after an error of its driver; `waits` says whether it has noted a block that waits for its condition
+abbrev pub ended_by : Bool → ClientState → DriverError → List HandlerPlace → RuntimeError
+ended_by waits c TurnsOver places = over_at (phase_of c) (first_awaited c places)
+ended_by waits c Interrupted places = interrupted_by (input_ended waits (phase_of c))
+ended_by waits c error places = Ended (Driver error)

@@ -1,5 +1,5 @@
 -- The commands and turns of a client for one line, by the reply to it.
-use Rattle.std.specs.Prelude.{◌≡◌, ℕ, ◌⊎◌, Bool, true, false, List, [], ◌∷◌, ◌++◌, Option, Some, None, Result, Ok, Err}
+use Rattle.std.specs.Prelude.{◌≡◌, ℕ, ◌<◌, ◌≤◌, ◌⊎◌, Bool, true, false, List, [], ◌∷◌, ◌++◌, Option, Some, None, Result, Ok, Err, ⊤}
 use Rattle.scoop_message.specs.declared.name.HandlerId.{HandlerId}
 use Rattle.scoop_message.specs.declared.request.Answer.{Answer}
 use Rattle.scoop_message.specs.declared.request.Request.{Request}
@@ -8,7 +8,7 @@ use Rattle.scoop_client.specs.declared.command.Command.TheVariants.{Reserve as D
 use Rattle.scoop_client.specs.declared.phase.Phase.TheVariants.{Idle}
 use Rattle.scoop_client.specs.State.{phase_of}
 use Rattle.scoop_driver.specs.declared.error.DriverError.{DriverError}
-use Rattle.scoop_driver.specs.declared.error.DriverError.TheVariants.{Client}
+use Rattle.scoop_driver.specs.declared.error.DriverError.TheVariants.{Client, TurnsOver, LinkFault, ConditionFailed, Interrupted}
 use Rattle.scoop_driver.specs.declared.step.Step.{Step}
 use Rattle.scoop_driver.specs.Steps.{commands_by}
 use Rattle.scoop_driver.specs.State.{Seen, Goes}
@@ -53,9 +53,17 @@ pub record BeganAndGaveUp (hs : List HandlerId) (turns : ℕ) (old new : Seen) :
   pub begins : Called {T = Bool} (DoReserve hs) turns (Ok false) old begun
   pub gave_up : GaveUp begun new
 
+-- an error that says nothing of a condition
+abbrev pub SaysNoTries : DriverError → Type 0
+SaysNoTries (Client e) = ⊤
+SaysNoTries TurnsOver = ⊤
+SaysNoTries LinkFault = ⊤
+SaysNoTries (ConditionFailed t) = ⊥
+SaysNoTries Interrupted = ⊤
+
 abbrev pub GivesUp : Result (Unit {0}) DriverError → Seen → Seen → Type 0
 GivesUp (Ok u) old new = GaveUp old new
-GivesUp (Err e) old new = Drives old new
+GivesUp (Err e) old new = SaysNoTries e × Drives old new
 
 abbrev pub ReserveDoes : List HandlerId → ℕ → Result Reply DriverError → Seen → Seen → Type 0
 ReserveDoes hs turns (Ok (Reserved block)) old new = RunsBlock hs turns old new
@@ -82,7 +90,7 @@ EndDoes turns (Err e) old new = Called {T = Unit {0}} DoEnd turns (Err e) old ne
 abbrev pub GiveUpDoes : Result Reply DriverError → Seen → Seen → Type 0
 GiveUpDoes (Ok GivenUp) old new = GaveUp old new
 GiveUpDoes (Ok reply) old new = ⊥
-GiveUpDoes (Err e) old new = Drives old new
+GiveUpDoes (Err e) old new = SaysNoTries e × Drives old new
 
 -- nothing is sent yet
 abbrev pub WhenDoes : Result Reply DriverError → Seen → Seen → Type 0
@@ -129,10 +137,34 @@ NoteDoes old new entry (Err e) = e ≡ Client OutOfMemory
 abbrev pub TriesOut : Waited → ℕ → Result ℕ DriverError → List Answer → Seen → Seen → Type 0
 TriesOut w tries r answers old new = (steps : List Step) × Goes steps old new × WaitGives w tries r answers old.client steps new
 
+-- all tries, or fewer if they were stopped after this many
+pub record TriesUpTo (w : Waited) (tries : ℕ) (r : Result ℕ DriverError) (answers : List Answer) (old new : Seen) : Type 0 where
+  pub limit : ℕ
+  pub within : limit ≤ tries
+  pub whole : (limit ≡ tries) ⊎ (r ≡ Err (ConditionFailed limit))
+  pub out : TriesOut w limit r answers old new
+
+-- the same, unless there is no room for the answers
+abbrev pub TriesIn : Waited → ℕ → Result ℕ DriverError → List Answer → Seen → Seen → Type 0
+TriesIn w tries r answers old new = TriesUpTo w tries r answers old new ⊎ ((r ≡ Err (Client OutOfMemory)) × (new ≡ old))
+
+-- the tries were stopped: after one that failed, or while one waited for a lock, whose block was then given up
+pub data StopsTrying (w : Waited) (tries : ℕ) (old new : Seen) : Type 0 where
+  between : {failed : ℕ} → failed < tries → TriesOut w failed (Err (ConditionFailed failed)) [] old new → StopsTrying w tries old new
+  locking : {begun : Seen} → TriesOut w tries (Err Interrupted) [] old begun → GaveUp begun new → StopsTrying w tries old new
+
+-- the tries ended with an error, or they were stopped before it
+pub data FailsTrying (w : Waited) (tries : ℕ) (e : DriverError) (answers : List Answer) (old new : Seen) : Type 0 where
+  tried : TriesOut w tries (Err e) answers old new → FailsTrying w tries e answers old new
+  refused : e ≡ Client OutOfMemory → new ≡ old → FailsTrying w tries e answers old new
+  left : e ≡ Interrupted → StopsTrying w tries old new → FailsTrying w tries e answers old new
+  kept : {begun : Seen} → SaysNoTries e → TriesOut w tries (Err Interrupted) [] old begun → Drives begun new → FailsTrying w tries e answers old new
+
 abbrev pub TryDoes : Wish → Result Reply DriverError → List Answer → Seen → Seen → Type 0
-TryDoes w (Ok (EndedAt tried)) answers old new = TriesOut (tried_as w) w.tries (Ok tried) answers old new
+TryDoes w (Ok (EndedAt k)) answers old new = TriesOut (tried_as w) w.tries (Ok k) answers old new
+TryDoes w (Ok GivenUp) answers old new = (answers ≡ []) × StopsTrying (tried_as w) w.tries old new
 TryDoes w (Ok reply) answers old new = ⊥
-TryDoes w (Err e) answers old new = (TriesOut (tried_as w) w.tries (Err e) answers old new ⊎ ((e ≡ Client OutOfMemory) × (new ≡ old)))
+TryDoes w (Err e) answers old new = FailsTrying (tried_as w) w.tries e answers old new
 
 abbrev pub DoesInside : ClientLine → Wish → Result Reply DriverError → List Answer → Seen → Seen → Type 0
 DoesInside line.Blank w outcome answers old new = (outcome ≡ Ok NotInWhen) × (new ≡ old)

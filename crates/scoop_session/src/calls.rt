@@ -1,7 +1,7 @@
 //! The calls of a program that holds a session. When one returns an answer, ends a block or fails, the journal has all lines so
 //! far, unless one isn't written ([`Session::unwritten`]).
 
-ghost use Rattle.std.specs.Prelude.{◌≡◌, ◌≤◌, length, IfOk, OnErr, OnOk};
+ghost use Rattle.std.specs.Prelude.{◌≡◌, ◌≢◌, ◌≤◌, length, Err, IfOk, OnErr, OnOk};
 ghost use Rattle.scoop_client.specs.State.{phase_of};
 ghost use Rattle.scoop_client.specs.declared.command.Command.TheVariants.{Call as DoCall, End as DoEnd};
 ghost use Rattle.scoop_client.specs.declared.phase.Phase.TheVariants.{Idle};
@@ -12,7 +12,7 @@ ghost use Rattle.scoop_session.specs.Diary.{IsSettled};
 ghost use Rattle.scoop_session.specs.Obeying.{Drives, RunsBlock};
 
 use crate::session::Session;
-use scoop_driver::{BodyEntry, ConditionPart, DriverError, NoInterrupt, Pause};
+use scoop_driver::{BodyEntry, ConditionPart, DriverError, NoInterrupt, Pause, WaitingBlock};
 use scoop_journal::Journal;
 use scoop_link::Link;
 use scoop_message::{Answer, Block, HandlerId, Request};
@@ -42,6 +42,7 @@ impl<'j, L: Link, J: Write + Drop> Session<'j, L, J> {
     /// [`scoop_driver::Driver::call`].
     pub fn log_call(&mut self, handler: HandlerId, request: Request) -> Result<(), DriverError>
         ensures does { Called (DoCall handler request) self.old.driver.turns result self.old.driver.seen self.new.driver.seen }
+        ensures whole { result ≢ Err DriverError.Interrupted }
         ensures turns { self.new.driver.turns ≡ self.old.driver.turns }
         ensures settled { OnErr result (IsSettled self.new.driver.diary.failure self.new.driver.diary.journal.now) }
     {
@@ -55,6 +56,7 @@ impl<'j, L: Link, J: Write + Drop> Session<'j, L, J> {
     /// Logs a query, and takes turns until its answer is accepted. Refused as [`scoop_driver::Driver::query`].
     pub fn ask(&mut self, handler: HandlerId, request: Request) -> Result<Answer, DriverError>
         ensures does { Queried handler request self.old.driver.turns result self.old.driver.seen self.new.driver.seen }
+        ensures whole { result ≢ Err DriverError.Interrupted }
         ensures turns { self.new.driver.turns ≡ self.old.driver.turns }
         ensures settled { IsSettled self.new.driver.diary.failure self.new.driver.diary.journal.now }
     {
@@ -66,6 +68,7 @@ impl<'j, L: Link, J: Write + Drop> Session<'j, L, J> {
     /// Ends the block, and takes turns until all of it is acknowledged. Refused as [`scoop_driver::Driver::end`].
     pub fn end_block(&mut self) -> Result<(), DriverError>
         ensures does { Called DoEnd self.old.driver.turns result self.old.driver.seen self.new.driver.seen }
+        ensures whole { result ≢ Err DriverError.Interrupted }
         ensures ends { OnOk result (phase_of self.new.driver.seen.client ≡ Idle) }
         ensures turns { self.new.driver.turns ≡ self.old.driver.turns }
         ensures settled { IsSettled self.new.driver.diary.failure self.new.driver.diary.journal.now }
@@ -95,9 +98,14 @@ impl<'j, L: Link, J: Write + Drop> Session<'j, L, J> {
         ensures answers { length answers.new ≡ length answers.old }
         ensures settled { IsSettled self.new.driver.diary.failure self.new.driver.diary.journal.now }
     {
+        let block = WaitingBlock {
+            handlers,
+            condition,
+            body,
+        };
         let waited = self
             .driver
-            .when_all(handlers, condition, body, answers, tries, pause);
+            .when_all(&block, answers, tries, pause, &mut NoInterrupt);
         self.settle();
         waited
     }

@@ -6,7 +6,7 @@
 //!
 //! ```
 //! let mut session = Session::new(alloc, client, link, TURNS, &mut journal);
-//! session.greet(&known, TURNS)?;
+//! session.greet(&known, TURNS, &mut NoInterrupt)?;
 //! // of `reserve 1 2`: Some(Reply::Reserved(block))
 //! let replied = session.obey(&line, &mut pause, &mut NoInterrupt)?;
 //! let left = session.leave();
@@ -16,6 +16,7 @@
 mod calls;
 mod last_block;
 mod parting;
+mod patience;
 mod said;
 mod session;
 mod wish;

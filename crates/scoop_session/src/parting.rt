@@ -1,16 +1,16 @@
 //! The end of a session: the block that it leaves.
 
-ghost use Rattle.std.specs.Prelude.{◌≡◌, ◌++◌, ◌∷◌, [], None, Ok, OnOk, IfOk, IsFalse, IsTrue, is_some, filter};
+ghost use Rattle.std.specs.Prelude.{◌≡◌, ◌++◌, ◌∷◌, [], None, Ok, OnOk, IfErr, IfOk, IsFalse, IsTrue, is_some, filter};
 ghost use Rattle.scoop_client.specs.State.{phase_of};
 ghost use Rattle.scoop_client.specs.declared.phase.Phase.TheVariants.{Idle};
 ghost use Rattle.scoop_session.specs.Diary.{IsSettled, IsWritten};
-ghost use Rattle.scoop_session.specs.Obeying.{Drives, GivesUp, TakesTurnsOnly};
+ghost use Rattle.scoop_session.specs.Obeying.{Drives, GivesUp, SaysNoTries, TakesTurnsOnly};
 ghost use Rattle.scoop_session.specs.Parting.{Leaves, is_awaited, last_of, owes};
 ghost use Rattle.scoop_session.specs.Endings.{input_ended};
 
 use crate::session::Session;
 use scoop_client::{HandlerList, Phase};
-use scoop_driver::DriverError;
+use scoop_driver::{DriverError, Interrupt, NoInterrupt};
 use scoop_link::Link;
 use scoop_message::{Block, HandlerId, OutOfMemory};
 use std::alloc::Global;
@@ -43,19 +43,30 @@ impl<'j, L: Link, J: Write + Drop> Session<'j, L, J> {
     }
 
     /// Takes turns until nothing is due to any of these handlers. If the client has no block, each of them has welcomed
-    /// it then. The journal has the lines of these turns, unless one isn't written ([`Session::unwritten`]).
-    pub fn greet(&mut self, handlers: &[HandlerId], turns: u64) -> Result<(), DriverError>
+    /// it then. It is `Interrupted` if the interrupt leaves this wait. The journal has the lines of these turns, unless one
+    /// isn't written ([`Session::unwritten`]).
+    pub fn greet<I: Interrupt>(
+        &mut self,
+        handlers: &[HandlerId],
+        turns: u64,
+        interrupt: &mut I,
+    ) -> Result<(), DriverError>
         ensures greeted { OnOk result (IsFalse (owes self.new.driver.seen.client handlers.now)) }
         ensures turned { TakesTurnsOnly self.old.driver.seen self.new.driver.seen }
         ensures settled { IsSettled self.new.driver.diary.failure self.new.driver.diary.journal.now }
     {
-        let greeted = self.turn_until_welcomed(handlers, turns);
+        let greeted = self.turn_until_welcomed(handlers, turns, interrupt);
         self.settle();
         greeted
     }
 
     // Takes turns until nothing is due to any of these handlers.
-    fn turn_until_welcomed(&mut self, handlers: &[HandlerId], turns: u64) -> Result<(), DriverError>
+    fn turn_until_welcomed<I: Interrupt>(
+        &mut self,
+        handlers: &[HandlerId],
+        turns: u64,
+        interrupt: &mut I,
+    ) -> Result<(), DriverError>
         ensures greeted { OnOk result (IsFalse (owes self.new.driver.seen.client handlers.now)) }
         ensures turned { TakesTurnsOnly self.old.driver.seen self.new.driver.seen }
     {
@@ -63,7 +74,7 @@ impl<'j, L: Link, J: Write + Drop> Session<'j, L, J> {
             if !self.owes(handlers) {
                 return Ok(());
             }
-            match self.driver.turn() {
+            match self.driver.turn_unless(interrupt) {
                 Ok(_) => {}
                 Err(error) => return Err(error),
             }
@@ -105,15 +116,16 @@ impl<'j, L: Link, J: Write + Drop> Session<'j, L, J> {
     }
 
     // Takes turns until the client is idle.
-    fn rest(&mut self, turns: u64) -> Result<(), DriverError>
+    fn rest<I: Interrupt>(&mut self, turns: u64, interrupt: &mut I) -> Result<(), DriverError>
         ensures idle { OnOk result (phase_of self.new.driver.seen.client ≡ Idle) }
+        ensures tries { IfErr result SaysNoTries }
         ensures turned { TakesTurnsOnly self.old.driver.seen self.new.driver.seen }
     {
         for taken in 0..turns {
             if self.driver.phase() == Phase::Idle {
                 return Ok(());
             }
-            match self.driver.turn() {
+            match self.driver.turn_unless(interrupt) {
                 Ok(_) => {}
                 Err(error) => return Err(error),
             }
@@ -126,11 +138,15 @@ impl<'j, L: Link, J: Write + Drop> Session<'j, L, J> {
     }
 
     /// Gives the block up, and takes turns until the client is idle.
-    pub(crate) fn give_up(&mut self, turns: u64) -> Result<(), DriverError>
+    pub(crate) fn give_up<I: Interrupt>(
+        &mut self,
+        turns: u64,
+        interrupt: &mut I,
+    ) -> Result<(), DriverError>
         ensures { GivesUp result self.old.driver.seen self.new.driver.seen }
     {
         match self.driver.give_up() {
-            Ok(()) => self.rest(turns),
+            Ok(()) => self.rest(turns, interrupt),
             Err(error) => Err(error),
         }
     }
@@ -148,8 +164,8 @@ impl<'j, L: Link, J: Write + Drop> Session<'j, L, J> {
         }
         let gave_up = match self.driver.phase() {
             Phase::Greeting | Phase::Idle => return Left::Nothing,
-            Phase::Locking => self.give_up(PARTING_TURNS),
-            Phase::GivingUp => self.rest(PARTING_TURNS),
+            Phase::Locking => self.give_up(PARTING_TURNS, &mut NoInterrupt),
+            Phase::GivingUp => self.rest(PARTING_TURNS, &mut NoInterrupt),
             Phase::Opening | Phase::Running | Phase::Ending => return Left::Open,
         };
         self.settle();

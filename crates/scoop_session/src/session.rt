@@ -1,21 +1,22 @@
 //! A client session driven by text lines.
 
-ghost use Rattle.std.specs.Prelude.{◌≡◌, None, Ok, Err, OnOk, IsFalse, IsTrue, IfOk, IfErr, IfSome, ◌≤◌, false, is_some};
+ghost use Rattle.std.specs.Prelude.{◌≡◌, ◌⊎◌, [], None, Ok, Err, OnOk, IsFalse, IsTrue, IfOk, IfErr, IfSome, ◌≤◌, false, is_some};
 ghost use Rattle.scoop_client.specs.State.{phase_of};
 ghost use Rattle.scoop_client.specs.declared.command.Command.TheVariants.{Reserve as DoReserve};
 ghost use Rattle.scoop_driver.specs.Calls.{Called, Interrupted};
 ghost use Rattle.scoop_session.specs.Answering.{answered};
 ghost use Rattle.scoop_session.specs.Obeying.{CallDoes, DoesInside, DoesOutside, Drives, EndDoes, GiveUpDoes, NoteDoes, Obeys, QueryDoes, ReserveDoes, RunsBlock};
-ghost use Rattle.scoop_session.specs.Obeying.{TakesTurnsOnly, TryDoes, WhenDoes, is_quiet};
+ghost use Rattle.scoop_session.specs.Obeying.{TakesTurnsOnly, TriesIn, TryDoes, WhenDoes, is_quiet, tried_as};
 ghost use Rattle.scoop_session.specs.Endings.{ended_by, first_awaited, input_ended, over_at, unwritten};
 ghost use Rattle.scoop_session.specs.Diary.{Ends, IsSettled};
 ghost use Rattle.scoop_session.specs.Settling.{Settles, SettlesFor, may_wait};
 ghost use Rattle.scoop_session.specs.Unlocking.{is_unlock, owes_unlock};
 
 use crate::last_block::LastBlock;
+use crate::patience::Patient;
 use crate::wish::Wish;
 use scoop_client::{Client, ClientError, Phase};
-use scoop_driver::{BodyEntry, Driver, DriverError, Interrupt, Pause};
+use scoop_driver::{BodyEntry, Driver, DriverError, Interrupt, Pause, WaitingBlock};
 use scoop_errors::PartyError;
 use scoop_journal::{AppendError, Journal};
 use scoop_link::Link;
@@ -62,7 +63,7 @@ fn answered(error: DriverError) -> Result<Reply, DriverError>
         | DriverError::Client(ClientError::Reserve(ReserveError::OutOfMemory)) => Err(error),
         DriverError::Client(error) => Ok(Reply::Refused(error)),
         DriverError::ConditionFailed(tries) => Ok(Reply::ConditionFailed(tries)),
-        DriverError::TurnsOver | DriverError::LinkFault => Err(error),
+        DriverError::TurnsOver | DriverError::LinkFault | DriverError::Interrupted => Err(error),
     }
 }
 
@@ -158,7 +159,7 @@ impl<'j, L: Link, J: Write + Drop> Session<'j, L, J> {
         }
     }
 
-    /// The end of the input: refused inside a block.
+    /// The end of the input: refused inside a block, and before each handler has welcomed the client.
     pub fn input_ended(&self) -> Result<(), RuntimeError>
         ensures { result ≡ input_ended (is_some self.now.wish) (phase_of self.now.driver.seen.client) }
     {
@@ -167,6 +168,7 @@ impl<'j, L: Link, J: Write + Drop> Session<'j, L, J> {
         }
         match self.driver.phase() {
             Phase::Idle => Ok(()),
+            Phase::Greeting => Err(RuntimeError::NotReady),
             _ => Err(RuntimeError::InsideBlock),
         }
     }
@@ -179,12 +181,16 @@ impl<'j, L: Link, J: Write + Drop> Session<'j, L, J> {
     }
 
     /// The error with which the session ends after an error of the driver. When the turns are over, it names the first of
-    /// these handlers that the client waits for.
+    /// these handlers that the client waits for. A wait that was interrupted ends the session as the end of the input does.
     pub fn ended_by(&self, error: DriverError, places: &[HandlerPlace]) -> RuntimeError
-        ensures { result ≡ ended_by self.now.driver.seen.client error places.now }
+        ensures { result ≡ ended_by (is_some self.now.wish) self.now.driver.seen.client error places.now }
     {
         match error {
             DriverError::TurnsOver => over_at(self.driver.phase(), self.first_awaited(places)),
+            DriverError::Interrupted => match self.input_ended() {
+                Ok(()) => RuntimeError::InsideBlock,
+                Err(error) => error,
+            },
             error => RuntimeError::Ended(PartyError::Driver(error)),
         }
     }
@@ -200,10 +206,15 @@ impl<'j, L: Link, J: Write + Drop> Session<'j, L, J> {
     }
 
     /// Does what a line asks, and returns the reply to it; a line without words has none. A refusal of the client is a
-    /// reply too. Pauses between the tries of a waiting block. A `reserve` that the interrupt ends gives its locks back, and
-    /// the reply is `GivenUp`. The errors are those after which the session can't go on. When it returns, the journal has all
-    /// lines so far, unless one isn't written ([`Session::unwritten`]). Only those that led to `Logged`, `Reserved` or `Noted`
-    /// may wait: they are written before the client sends a message that it hasn't said.
+    /// reply too. Pauses between the tries of a waiting block. The errors are those after which the session can't go on. When
+    /// it returns, the journal has all lines so far, unless one isn't written ([`Session::unwritten`]). Only those that led to
+    /// `Logged`, `Reserved` or `Noted` may wait: they are written before the client sends a message that it hasn't said.
+    ///
+    /// The interrupt may end each wait:
+    /// - if it stops a `reserve` that waits for a lock, or the tries of a waiting block, the locks are given back, and the
+    ///   reply is `GivenUp`;
+    /// - if it leaves, the error is `Interrupted`. Locks are given back and the end of a block is awaited before, for at most
+    ///   `PARTING_TURNS` polls. A waiting block of which nothing is done waits still.
     pub fn obey<P: Pause, I: Interrupt>(
         &mut self,
         line: &ClientLine,
@@ -261,7 +272,7 @@ impl<'j, L: Link, J: Write + Drop> Session<'j, L, J> {
         ensures { Obeys line.now self.old.wish self.old.driver.turns result self.new.answers.items self.old.driver.seen self.new.driver.seen }
     {
         let outcome = match self.wish.take() {
-            Some(wish) => self.obey_inside(wish, line, pause),
+            Some(wish) => self.obey_inside(wish, line, pause, interrupt),
             None => self.obey_outside(line, interrupt),
         };
         match outcome {
@@ -271,16 +282,17 @@ impl<'j, L: Link, J: Write + Drop> Session<'j, L, J> {
     }
 
     // Does what a line asks inside a block that waits for its condition.
-    fn obey_inside<P: Pause>(
+    fn obey_inside<P: Pause, I: Interrupt>(
         &mut self,
         mut wish: Wish,
         line: &ClientLine,
         pause: &mut P,
+        interrupt: &mut I,
     ) -> Result<Reply, DriverError>
         ensures { DoesInside line.now wish result self.new.answers.items self.old.driver.seen self.new.driver.seen }
     {
         let reply = match line {
-            ClientLine::End => return self.end_wish(&wish, pause),
+            ClientLine::End => return self.end_wish(wish, pause, interrupt),
             ClientLine::Call(handler, request) => {
                 noted(&mut wish, &BodyEntry::Call(*handler, *request))?
             }
@@ -307,10 +319,10 @@ impl<'j, L: Link, J: Write + Drop> Session<'j, L, J> {
         match line {
             ClientLine::Blank | ClientLine::Help | ClientLine::Quit => Ok(Reply::Noted),
             ClientLine::Reserve(handlers) => self.reserve(handlers, interrupt),
-            ClientLine::Call(handler, request) => self.call(*handler, *request),
-            ClientLine::Query(handler, request) => self.query(*handler, *request),
-            ClientLine::End => self.end(),
-            ClientLine::GiveUp => self.give_back(),
+            ClientLine::Call(handler, request) => self.call(*handler, *request, interrupt),
+            ClientLine::Query(handler, request) => self.query(*handler, *request, interrupt),
+            ClientLine::End => self.end(interrupt),
+            ClientLine::GiveUp => self.give_back(interrupt),
             ClientLine::ReserveWhen {
                 handlers,
                 conditions,
@@ -320,38 +332,43 @@ impl<'j, L: Link, J: Write + Drop> Session<'j, L, J> {
     }
 
     // Asks a query.
-    fn query(&mut self, handler: HandlerId, request: Request) -> Result<Reply, DriverError>
+    fn query<I: Interrupt>(
+        &mut self,
+        handler: HandlerId,
+        request: Request,
+        interrupt: &mut I,
+    ) -> Result<Reply, DriverError>
         ensures { QueryDoes handler request self.old.driver.turns result self.old.driver.seen self.new.driver.seen }
     {
-        match self.driver.query(handler, request) {
+        match self.driver.query_unless(handler, request, interrupt) {
             Ok(answer) => Ok(Reply::Answered(answer)),
             Err(error) => Err(error),
         }
     }
 
     // Ends the block.
-    fn end(&mut self) -> Result<Reply, DriverError>
+    fn end<I: Interrupt>(&mut self, interrupt: &mut I) -> Result<Reply, DriverError>
         ensures { EndDoes self.old.driver.turns result self.old.driver.seen self.new.driver.seen }
     {
-        match self.driver.end() {
+        match self.driver.end_unless(&mut Patient::new(interrupt)) {
             Ok(()) => Ok(Reply::Ended),
             Err(error) => Err(error),
         }
     }
 
     // Gives up the block, and takes turns until its locks are given back.
-    fn give_back(&mut self) -> Result<Reply, DriverError>
+    fn give_back<I: Interrupt>(&mut self, interrupt: &mut I) -> Result<Reply, DriverError>
         ensures { GiveUpDoes result self.old.driver.seen self.new.driver.seen }
     {
-        match self.give_up(self.turns) {
+        match self.give_up(self.turns, &mut Patient::new(interrupt)) {
             Ok(()) => Ok(Reply::GivenUp),
             Err(error) => Err(error),
         }
     }
 
     // Reserves the handlers, and gives their locks back before it returns, so that no other client waits for them until this
-    // client's next call. If the turns don't suffice, the later calls go on with it. Returns the block, or `None` if the
-    // interrupt ended the wait for the locks.
+    // client's next call. If the turns don't suffice or the interrupt leaves, the later calls go on with it. Returns the block,
+    // or `None` if the interrupt ended the wait for the locks.
     pub(crate) fn lock<I: Interrupt>(
         &mut self,
         handlers: &[HandlerId],
@@ -371,8 +388,11 @@ impl<'j, L: Link, J: Write + Drop> Session<'j, L, J> {
         let Some(block) = self.driver.diary().block() else {
             return Err(DriverError::Client(ClientError::NoBlock));
         };
-        match self.unlock(handlers) {
-            Ok(()) | Err(DriverError::TurnsOver | DriverError::LinkFault) => Ok(Some(block)),
+        match self.unlock(handlers, interrupt) {
+            Ok(())
+            | Err(DriverError::TurnsOver | DriverError::LinkFault | DriverError::Interrupted) => {
+                Ok(Some(block))
+            }
             Err(error) => Err(error),
         }
     }
@@ -387,13 +407,17 @@ impl<'j, L: Link, J: Write + Drop> Session<'j, L, J> {
     {
         match self.lock(handlers.as_slice(), interrupt) {
             Ok(Some(block)) => Ok(Reply::Reserved(block)),
-            Ok(None) => self.give_back(),
+            Ok(None) => self.give_back(interrupt),
             Err(error) => Err(error),
         }
     }
 
     // Takes turns until no Unlock is due to any of the handlers.
-    fn unlock(&mut self, handlers: &[HandlerId]) -> Result<(), DriverError>
+    fn unlock<I: Interrupt>(
+        &mut self,
+        handlers: &[HandlerId],
+        interrupt: &mut I,
+    ) -> Result<(), DriverError>
         ensures unlocked { OnOk result (IsFalse (owes_unlock self.new.driver.seen.client handlers.now)) }
         ensures turned { TakesTurnsOnly self.old.driver.seen self.new.driver.seen }
         ensures turns { self.new.driver.turns ≡ self.old.driver.turns }
@@ -402,7 +426,7 @@ impl<'j, L: Link, J: Write + Drop> Session<'j, L, J> {
             if !self.owes_unlock(handlers) {
                 return Ok(());
             }
-            match self.driver.turn() {
+            match self.driver.turn_unless(interrupt) {
                 Ok(_) => {}
                 Err(error) => return Err(error),
             }
@@ -424,10 +448,15 @@ impl<'j, L: Link, J: Write + Drop> Session<'j, L, J> {
     }
 
     // Logs a call. Later turns send it and get its acknowledgement; the end of the block waits for that.
-    fn call(&mut self, handler: HandlerId, request: Request) -> Result<Reply, DriverError>
+    fn call<I: Interrupt>(
+        &mut self,
+        handler: HandlerId,
+        request: Request,
+        interrupt: &mut I,
+    ) -> Result<Reply, DriverError>
         ensures { CallDoes handler request self.old.driver.turns result self.old.driver.seen self.new.driver.seen }
     {
-        match self.driver.call(handler, request) {
+        match self.driver.call_unless(handler, request, interrupt) {
             Ok(()) => {}
             Err(error) => return Err(error),
         }
@@ -457,30 +486,83 @@ impl<'j, L: Link, J: Write + Drop> Session<'j, L, J> {
     }
 
     // Ends the lines of a block that waits for its condition: tries it.
-    fn end_wish<P: Pause>(&mut self, wish: &Wish, pause: &mut P) -> Result<Reply, DriverError>
-        ensures { TryDoes wish.now result self.new.answers.items self.old.driver.seen self.new.driver.seen }
+    fn end_wish<P: Pause, I: Interrupt>(
+        &mut self,
+        wish: Wish,
+        pause: &mut P,
+        interrupt: &mut I,
+    ) -> Result<Reply, DriverError>
+        ensures { TryDoes wish result self.new.answers.items self.old.driver.seen self.new.driver.seen }
     {
-        if wish.tries() == 0 {
+        let error = match self.try_wish(&wish, pause, interrupt) {
+            Ok(tried) => return Ok(Reply::EndedAt(tried)),
+            Err(error) => error,
+        };
+        self.answers.clear();
+        match error {
+            DriverError::ConditionFailed(tried) => {
+                if tried < wish.tries() {
+                    self.stop_wish(wish, interrupt)
+                } else {
+                    Err(error)
+                }
+            }
+            DriverError::Interrupted => {
+                if self.driver.phase() != Phase::Locking {
+                    return Err(error);
+                }
+                match self.give_up(self.turns, &mut Patient::new(interrupt)) {
+                    Ok(()) => self.stop_wish(wish, interrupt),
+                    Err(error) => Err(error),
+                }
+            }
+            DriverError::Client(_) | DriverError::TurnsOver | DriverError::LinkFault => Err(error),
+        }
+    }
+
+    // Tries a block that waits for its condition. Returns the try at which it held, and writes the answers.
+    #[tactic(auto, using(crate::proofs::Tried::tries_in, crate::proofs::Tried::tries_none))]
+    fn try_wish<P: Pause, I: Interrupt>(
+        &mut self,
+        wish: &Wish,
+        pause: &mut P,
+        interrupt: &mut I,
+    ) -> Result<u32, DriverError>
+        ensures { TriesIn (tried_as wish.now) wish.now.tries result self.new.answers.items self.old.driver.seen self.new.driver.seen }
+    {
+        let tries = wish.tries();
+        if tries == 0 {
             return Err(DriverError::ConditionFailed(0));
         }
         match self.answers.resize(wish.queries(), Answer::Refused) {
             Ok(()) => {}
             Err(_) => return Err(DriverError::Client(ClientError::OutOfMemory)),
         }
-        let ended = self.driver.when_all(
-            wish.handlers(),
-            wish.condition(),
-            wish.body(),
-            &mut self.answers,
-            wish.tries(),
-            pause,
-        );
-        match ended {
-            Ok(tried) => Ok(Reply::EndedAt(tried)),
-            Err(error) => {
-                self.answers.clear();
-                Err(error)
-            }
+        let block = WaitingBlock {
+            handlers: wish.handlers(),
+            condition: wish.condition(),
+            body: wish.body(),
+        };
+        self.driver
+            .when_all(&block, &mut self.answers, tries, pause, interrupt)
+    }
+
+    // The reply to the end of a waiting block whose tries were stopped, without answers. If the interrupt leaves, the block waits
+    // still.
+    fn stop_wish<I: Interrupt>(
+        &mut self,
+        wish: Wish,
+        interrupt: &mut I,
+    ) -> Result<Reply, DriverError>
+        ensures stops { (result ≡ Ok Reply.GivenUp) ⊎ (result ≡ Err DriverError.Interrupted) }
+        ensures answers { self.new.answers.items ≡ [] }
+        ensures driver { self.new.driver ≡ self.old.driver }
+    {
+        self.answers.clear();
+        if interrupt.leaves() {
+            self.wish = Some(wish);
+            return Err(DriverError::Interrupted);
         }
+        Ok(Reply::GivenUp)
     }
 }

@@ -22,7 +22,7 @@ use Rattle.scoop_texts.specs.declared.advice.About.TheVariants.{Store, Address, 
 use Rattle.scoop_texts.specs.declared.advice.FileFault.{FileFault}
 use Rattle.scoop_texts.specs.declared.advice.FileFault.TheVariants as file
 use Rattle.scoop_texts.specs.declared.error.RuntimeError.{RuntimeError}
-use Rattle.scoop_texts.specs.declared.error.RuntimeError.TheVariants.{Line, Input, InsideBlock, InsideWhen, Handlers, NoHandler, OtherStates, Ended}
+use Rattle.scoop_texts.specs.declared.error.RuntimeError.TheVariants.{Line, Input, InsideBlock, InsideWhen, NotReady, Handlers, NoHandler, OtherStates, Ended}
 use Rattle.scoop_texts.specs.declared.error.RuntimeError.TheVariants.{NotUsed, NotWelcomed, NotAnswered, Refused, SomeRefused}
 
 -- for an error that no run leads to
@@ -71,6 +71,7 @@ driver_advice (driver.Client client.OutOfMemory) = memory_advice
 driver_advice (driver.Client (client.Reserve reserve.OutOfMemory)) = memory_advice
 driver_advice (driver.Client e) = never_advice
 driver_advice (driver.ConditionFailed tries) = never_advice
+driver_advice driver.Interrupted = never_advice
 
 abbrev pub party_advice : PartyError → List ℕ
 party_advice party.NoLink =
@@ -93,6 +94,7 @@ advice_text (Input error) = source_advice error.fault
 advice_text InsideBlock =
     codes "write end after the last line: a block without it is cut, and runs only what its handlers had received"
 advice_text InsideWhen = codes "write end after the last line, and repeat all lines of this block: nothing of it is done"
+advice_text NotReady = codes "each of the client's handlers has to welcome it first: check that their nodes run"
 advice_text (Handlers error) = begin_advice error
 advice_text (NoHandler h) =
     codes "it belongs to another party or to a node that was never ready, or the system's file gained the handler later. Name this node's store, or remove the handler from the file. Use --new only if the node was never ready"

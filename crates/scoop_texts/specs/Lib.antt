@@ -1,6 +1,7 @@
 pub mod Advice
 pub mod Errors
 pub mod NodeTexts
+pub mod Piping
 pub mod Progress
 pub mod Ranges
 pub mod Refusals

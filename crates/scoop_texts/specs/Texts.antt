@@ -1,5 +1,5 @@
 -- The texts of a node and a client.
-use Rattle.std.specs.Prelude.{ℕ, List, [], ◌∷◌, ◌++◌, codes, Option, Some, None}
+use Rattle.std.specs.Prelude.{ℕ, List, [], ◌∷◌, ◌++◌, codes, Bool, true, false, Option, Some, None}
 use Rattle.std.specs.Fmt.{decimal}
 use Rattle.scoop_message.specs.declared.request.Answer.{Answer}
 use Rattle.scoop_message.specs.Text.{answer_text, block_text}
@@ -29,11 +29,19 @@ reply_text GivenUp = codes "given up" ++ 10 ∷ []
 reply_text (Refused e) = refusal_text e
 reply_text NotInWhen = codes "refused NotInWhen" ++ 10 ∷ []
 
+-- over a pipe, the mark of a line before the last one of a reply
+abbrev pub mark_of : Bool → List ℕ
+mark_of false = []
+mark_of true = codes "+ "
+
+abbrev pub marked_answer : Bool → Answer → List ℕ
+marked_answer is_piped answer = mark_of is_piped ++ (codes "answer " ++ (answer_text answer ++ 10 ∷ []))
+
 -- an answer line for each answer
-abbrev pub answers_text : List Answer → List ℕ
-answers_text [] = []
-answers_text (a ∷ answers) = reply_text (Answered a) ++ answers_text answers
+abbrev pub answers_text : Bool → List Answer → List ℕ
+answers_text is_piped [] = []
+answers_text is_piped (a ∷ answers) = marked_answer is_piped a ++ answers_text is_piped answers
 
 -- the answers to a waiting block's queries, and then the reply
-abbrev pub replies_text : List Answer → Reply → List ℕ
-replies_text answers reply = answers_text answers ++ reply_text reply
+abbrev pub replies_text : Bool → List Answer → Reply → List ℕ
+replies_text is_piped answers reply = answers_text is_piped answers ++ reply_text reply

@@ -93,6 +93,9 @@ impl RuntimeError {
             RuntimeError::InsideWhen => {
                 "write end after the last line, and repeat all lines of this block: nothing of it is done"
             }
+            RuntimeError::NotReady => {
+                "each of the client's handlers has to welcome it first: check that their nodes run"
+            }
             RuntimeError::Handlers(error) => begin_advice(error),
             RuntimeError::NoHandler(_) => {
                 "it belongs to another party or to a node that was never ready, or the system's file gained the handler later. \
@@ -254,7 +257,9 @@ fn driver_advice(error: DriverError) -> &'static str
             "a datagram could not be sent or received: check the addresses and the network",
         DriverError::Client(ClientError::OutOfMemory)
         | DriverError::Client(ClientError::Reserve(ReserveError::OutOfMemory)) => memory_advice(),
-        DriverError::Client(_) | DriverError::ConditionFailed(_) => NEVER,
+        DriverError::Client(_) | DriverError::ConditionFailed(_) | DriverError::Interrupted => {
+            NEVER
+        }
     }
 }
 

@@ -6,7 +6,7 @@ use scoop_client::BeginError;
 use scoop_driver::DriverError;
 use scoop_errors::PartyError;
 use scoop_keeper::KeeperError;
-use scoop_lines::SourceError;
+use scoop_lines::{LinesError, SourceError};
 use scoop_message::{HandlerId, OutOfMemory};
 use scoop_netloop::ServeEnd;
 use scoop_system::LineFault;
@@ -26,6 +26,8 @@ pub enum RuntimeError {
     InsideBlock,
     /// The input ended inside a block that waits for its condition. Nothing of it is done.
     InsideWhen,
+    /// The input ended before each handler had welcomed the client.
+    NotReady,
     /// A client can't begin with the handlers of the system, or a node can't open with its own.
     Handlers(BeginError),
     /// A node that resumes has no record of this handler.
@@ -47,14 +49,14 @@ pub enum RuntimeError {
 impl RuntimeError {
     ghost use Rattle.scoop_texts.specs.Errors.{status_of};
 
-    /// The program's exit status. It is 1 after a fault of the input, an input that ends inside a block, or refused lines;
-    /// else 3.
+    /// The program's exit status. It is 1 after a fault of the input, an input that ends inside a block or before the
+    /// client is ready, or refused lines; else 3.
     pub fn status(self) -> u8
         ensures { result ≡ status_of self }
     {
         match self {
             RuntimeError::Line(..) | RuntimeError::NotUsed(..) | RuntimeError::Input(_) => 1,
-            RuntimeError::InsideBlock | RuntimeError::InsideWhen => 1,
+            RuntimeError::InsideBlock | RuntimeError::InsideWhen | RuntimeError::NotReady => 1,
             RuntimeError::Refused(_) | RuntimeError::SomeRefused(..) => 1,
             RuntimeError::Handlers(_) => 3,
             RuntimeError::NoHandler(_) | RuntimeError::OtherStates => 3,
@@ -84,6 +86,7 @@ impl fmt::Display for RuntimeError {
             RuntimeError::InsideWhen => f.write_str(
                 "the input ended inside a waiting block, and nothing of it is done",
             ),
+            RuntimeError::NotReady => f.write_str("the input ended before the client was ready"),
             RuntimeError::Handlers(BeginError::NoHandlers) => f.write_str("handlers: NoHandlers"),
             RuntimeError::Handlers(BeginError::TooManyHandlers) => {
                 f.write_str("handlers: TooManyHandlers")
@@ -108,13 +111,12 @@ impl fmt::Display for RuntimeError {
 
 impl Error for RuntimeError {}
 
-impl From<SourceError> for RuntimeError {
-    ghost use Rattle.scoop_texts.specs.declared.error.RuntimeError.TheVariants as variants;
-
-    ghost from_gives = { λ error e. e ≡ variants.Input error };
-
-    fn from(error: SourceError) -> RuntimeError {
-        RuntimeError::Input(error)
+impl From<LinesError> for RuntimeError {
+    fn from(error: LinesError) -> RuntimeError {
+        match error {
+            LinesError::Source(error) => RuntimeError::Input(error),
+            LinesError::Flush => RuntimeError::Ended(PartyError::Write),
+        }
     }
 }
 

@@ -14,6 +14,7 @@
 
 mod advice;
 mod error;
+mod piping;
 mod printing;
 mod progress;
 mod ranges;
@@ -24,6 +25,7 @@ mod typing;
 
 pub use advice::{About, FileFault};
 pub use error::RuntimeError;
+pub use piping::{print_first, print_refused};
 pub use printing::{print_closed, print_ready, print_reopened};
 pub use progress::{ClientStop, Progress, Unended};
 pub use ranges::{MAX_EXECUTORS, MIN_HISTORY, OutOfRange};

@@ -3,7 +3,7 @@
 ghost use Rattle.std.specs.Prelude.{◌≡◌, OnOk};
 ghost use Rattle.std.specs.Io.KnownBytes.{Appends};
 ghost use Rattle.scoop_texts.specs.Refusals.{is_refusal};
-ghost use Rattle.scoop_texts.specs.Texts.{answers_text, refusal_text, replies_text, reply_text};
+ghost use Rattle.scoop_texts.specs.Texts.{answers_text, mark_of, refusal_text, replies_text, reply_text};
 
 use scoop_client::ClientError;
 use scoop_errors::{client_name, client_number};
@@ -82,20 +82,33 @@ pub fn print_reply<W: Write>(reply: &Reply, writer: &mut W) -> io::Result<()>
     }
 }
 
-// Writes an answer line for each answer.
-fn print_answers<W: Write>(answers: &[Answer], writer: &mut W) -> io::Result<()>
-    ensures { OnOk result (Appends (W.contents writer.old) (W.contents writer.new) (answers_text answers.now)) }
+// The mark of a line before the last one of a reply.
+fn mark_of(is_piped: bool) -> &'static str
+    ensures { result.now ≡ mark_of is_piped }
 {
+    if is_piped { "+ " } else { "" }
+}
+
+// Writes an answer line for each answer.
+fn print_answers<W: Write>(is_piped: bool, answers: &[Answer], writer: &mut W) -> io::Result<()>
+    ensures { OnOk result (Appends (W.contents writer.old) (W.contents writer.new) (answers_text is_piped answers.now)) }
+{
+    let mark = mark_of(is_piped);
     for answer in answers {
-        print_reply(&Reply::Answered(*answer), writer)?;
+        writeln!(writer, "{mark}answer {answer}")?;
     }
     Ok(())
 }
 
-/// Writes an answer line for each answer, and then the line of the reply.
-pub fn print_replies<W: Write>(answers: &[Answer], reply: &Reply, writer: &mut W) -> io::Result<()>
-    ensures { OnOk result (Appends (W.contents writer.old) (W.contents writer.new) (replies_text answers.now reply.now)) }
+/// Writes an answer line for each answer, and then the line of the reply. Over a pipe `+ ` stands before the answers.
+pub fn print_replies<W: Write>(
+    is_piped: bool,
+    answers: &[Answer],
+    reply: &Reply,
+    writer: &mut W,
+) -> io::Result<()>
+    ensures { OnOk result (Appends (W.contents writer.old) (W.contents writer.new) (replies_text is_piped answers.now reply.now)) }
 {
-    print_answers(answers, writer)?;
+    print_answers(is_piped, answers, writer)?;
     print_reply(reply, writer)
 }

@@ -8,6 +8,7 @@ use crate::typing::{tell_error, tell_misread};
 use arrayvec::ArrayVec;
 use scoop_lines::LineSource;
 use scoop_system::{ClientLine, ClientPlace, System, read_line};
+use std::io;
 use std::io::Write;
 
 // The error for a script that ends after this line. `so_far` is the one before it.
@@ -57,8 +58,10 @@ pub fn check_script<I: LineSource, N: Write>(
     let mut is_right = true;
     let mut unended = None;
     for _ in 0..u64::MAX {
-        let Some(number) = lines.next_line(&mut line)? else {
-            break;
+        let number = match lines.next_line(&mut line, &mut io::sink()) {
+            Ok(Some(number)) => number,
+            Ok(None) => break,
+            Err(error) => return Err(RuntimeError::from(error)),
         };
         match read_line(system, &line) {
             Ok(ClientLine::Quit) => break,

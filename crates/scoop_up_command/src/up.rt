@@ -1,7 +1,9 @@
 //! `scoop up`: all nodes of a system in one process, and a client.
 
 use crate::hosted::{Ran, lost, run_hosts};
-use scoop_client_command::{AskingLink, ClientConfig, Input, Papers, client_link, run_over};
+use scoop_client_command::{
+    AskingLink, ClientConfig, Input, Papers, client_link, input_mode, run_over,
+};
 use scoop_command_line::{JournalChoice, StoreChoice, UpOptions};
 use scoop_etcd_place::begins_as_etcd;
 use scoop_etcd_stores::Fate;
@@ -19,7 +21,6 @@ use scoop_report::{Hints, Status, hint, report};
 use scoop_runtime::{ClientPlan, FileFault, OutOfRange, RuntimeError, Serving, Tables};
 use scoop_system::{ClientPlace, System};
 use sqlite::{Alter, File, FileStore};
-use std::io::IsTerminal;
 use std::net::Net;
 use std::sync::Wait;
 use std::thread::Threads;
@@ -90,12 +91,7 @@ fn plan_of<'a>(
     place: &ClientPlace,
     is_strict: bool,
 ) -> Result<ClientPlan<'a>, OutOfRange> {
-    let is_typed = rt.stdin().is_terminal();
-    if is_strict {
-        ClientPlan::new_strict(system, *place, TURNS, is_typed)
-    } else {
-        ClientPlan::new(system, *place, TURNS, is_typed)
-    }
+    ClientPlan::new(system, *place, TURNS, input_mode(rt), is_strict)
 }
 
 // Runs the parties over stores in the folder of the options, or over memory alone.

@@ -1,6 +1,6 @@
 -- A block over two handlers waits until the first has at least 30 and the second at most 4. Then it takes 30 from the
 -- first, and asks what is left there.
-use Rattle.std.specs.Prelude.{◌≡◌, ℕ, ◌+◌, Bool, true, false, List, [], ◌∷◌, Some, None}
+use Rattle.std.specs.Prelude.{◌≡◌, ℕ, ◌+◌, true, false, List, [], ◌∷◌, Some, None}
 use Rattle.scoop_message.specs.declared.name.HandlerId.{HandlerId}
 use Rattle.scoop_message.specs.declared.request.Answer.TheVariants.{Refused, Value}
 use Rattle.scoop_message.specs.declared.request.Request.{Request}

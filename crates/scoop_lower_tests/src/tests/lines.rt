@@ -1,7 +1,7 @@
-//! The number of reads of an input.
+//! The number of reads of an input that may be interrupted.
 
 use super::are_equal;
-use scoop_lines::{LineBytes, Lines, LinesError, MAX_READS, SourceError, SourceFault};
+use scoop_lines::{LineBytes, Lines, LinesError, MAX_INTERRUPTED, SourceError, SourceFault};
 use std::io;
 use std::io::{ErrorKind, Read};
 
@@ -29,10 +29,14 @@ fn first_line(interrupted: u32) -> Result<bool, LinesError> {
 
 #[test]
 fn reads_up_to_the_limit(rt: HostRuntime) {
-    are_equal(&rt, first_line(MAX_READS - 1), Ok(false));
+    are_equal(&rt, first_line(MAX_INTERRUPTED - 1), Ok(false));
     let fault = SourceError {
         line: 1,
         fault: SourceFault::ReadFault,
     };
-    are_equal(&rt, first_line(MAX_READS), Err(LinesError::Source(fault)));
+    are_equal(
+        &rt,
+        first_line(MAX_INTERRUPTED),
+        Err(LinesError::Source(fault)),
+    );
 }

@@ -10,8 +10,8 @@ loop-preserved g c = drives_both _ _ _ c.loop.invariant c.read_and_obey-obeyed.e
 pub returns-in-Err-obeyed : goal.returns-in-Err-obeyed
 returns-in-Err-obeyed g c = drives_both _ _ _ c.loop.invariant c.read_and_obey-obeyed.ensures
 
-pub returns-in-LineAfterRefusal : goal.returns-in-LineAfterRefusal
-returns-in-LineAfterRefusal g c = drives_both _ _ _ c.loop.invariant c.read_and_obey-obeyed.ensures
+pub returns-in-Refused : goal.returns-in-Refused
+returns-in-Refused g c = drives_both _ _ _ c.loop.invariant c.read_and_obey-obeyed.ensures
 
 pub returns-in-End : goal.returns-in-End
 returns-in-End g c = drives_both _ _ _ c.loop.invariant c.read_and_obey-obeyed.ensures

@@ -4,5 +4,5 @@ use Rattle.scoop_texts.proofs.reply.print_replies.Goals as goal
 
 pub returns : goal.returns
 returns g c =
-    appends_behind c.print_reply.result _ _ _ (answers_text c.args.answers.now) (reply_text c.args.reply.now) c.in_ok-print_answers.ensures
+    appends_behind c.print_reply.result _ _ _ (answers_text c.args.is_piped c.args.answers.now) (reply_text c.args.reply.now) c.in_ok-print_answers.ensures
     c.print_reply.ensures

@@ -1,5 +1,5 @@
 use Rattle.std.proofs.Common.{◌∙◌}
-use Rattle.scoop_driver.proofs.Calling.{turning_more, answered_from, answered_not}
+use Rattle.scoop_driver.proofs.Calling.{turning_more, answered_from, answered_not, same_error}
 use Rattle.scoop_driver.proofs.driver.Driver.answer_of.Goals as goal
 
 pub returns-in-Err-clause-does : goal.returns-in-Err-clause-does
@@ -13,3 +13,6 @@ pub returns-in-Some-clause-does : goal.returns-in-Some-clause-does
 returns-in-Some-clause-does g c =
     answered_from c.args.handler c.in-Ok.note c.in-Some.answer _ c.args.turns _ _ _ c.loop-taken-test.true c.loop-taken.invariant.0 c.in-Ok.ensures.does
     c.in-Some.ensures
+
+pub returns-in-Err-clause-left : goal.returns-in-Err-clause-left
+returns-in-Err-clause-left g c = λ is. c.in-Err.ensures.left (same_error c.in-Err.error _ is)

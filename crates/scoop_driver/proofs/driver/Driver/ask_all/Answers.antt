@@ -1,5 +1,6 @@
 use Rattle.std.proofs.Common.{◌∙◌, sym, refl, arith}
 use Rattle.scoop_driver.proofs.Waits.{asking_none, asking_next, asking_more, asking_all, asking_fails, asking_stops}
+use Rattle.scoop_driver.proofs.Calling.{same_error}
 use Rattle.scoop_driver.proofs.driver.Driver.ask_all.Goals as goal
 
 pub loop-part-init : goal.loop-part-init
@@ -27,3 +28,6 @@ returns-then-not-holds-clause-does g c =
 pub returns-clause-does : goal.returns-clause-does
 returns-clause-does g c =
     asking_all _ _ _ _ _ (omega (arith, c.loop-part.auto.part-index-end)) (omega (arith, c.loop-part-test.false)) c.loop-part.invariant.0
+
+pub returns-in-Err-clause-left : goal.returns-in-Err-clause-left
+returns-in-Err-clause-left g c = λ is. c.in-Err.ensures.left (same_error c.in-Err.error _ is)

@@ -1,5 +1,6 @@
 use Rattle.std.proofs.Common.{◌∙◌, refl, arith, zero-add}
 use Rattle.scoop_driver.proofs.Waits.{body_all, body_more, body_room, body_stops, logging_none}
+use Rattle.scoop_driver.proofs.Calling.{same_error}
 use Rattle.scoop_driver.proofs.driver.Driver.log_all.Goals as goal
 
 pub loop-entry-init : goal.loop-entry-init
@@ -25,3 +26,6 @@ pub returns-clause-does : goal.returns-clause-does
 returns-clause-does g c =
     body_all g.E.AsEntry.entry c.args.body.now _ _ _ _ _ _ (omega (arith, c.loop-entry.auto.entry-index-end)) (omega (arith, c.loop-entry-test.false))
     c.loop-entry.invariant.2 c.loop-entry.invariant.0
+
+pub returns-in-Err-clause-left : goal.returns-in-Err-clause-left
+returns-in-Err-clause-left g c = λ is. c.in-Err.ensures.left (same_error c.in-Err.error _ is)

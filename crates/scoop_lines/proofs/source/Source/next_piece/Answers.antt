@@ -1,5 +1,6 @@
 use Rattle.std.proofs.Common.{◌<◌, ◌≤◌, arith, length}
-use Rattle.scoop_lines.proofs.ChunkLemmas.{extends_by, extends_kept, left_of_empty, overflows_by, overflows_kept, part_by, part_kept, refilled}
+use Rattle.std.specs.Io.KnownBytes.{Keeps}
+use Rattle.scoop_lines.proofs.ChunkLemmas.{extends_by, extends_kept, left_of_empty, on_err, overflows_by, overflows_kept, part_by, part_kept, refilled}
 use Rattle.scoop_lines.proofs.source.Source.next_piece.Goals as goal
 use Rattle.scoop_lines.proofs.source.Source.next_piece.Goals.{then-self+else-is_err+in_ok-len+else-len-eq0, else-self}
 
@@ -49,4 +50,27 @@ returns-clause-piece g c =
           let front = rw (w.self-inside-is, c.if-ended.false) at c.in-Some.ensures.piece in
           rw (w.self-inside-is, ← c.self.view_is)
           (part_by c.self.inside.chunk c.self.inside.start c.self.inside.end (g.R.Read.remaining c.self.inside.reader) _ _ _ some fits front)
+    ]
+
+pub returns-in_err-len-clause-left : goal.returns-in_err-len-clause-left
+returns-in_err-len-clause-left g c =
+    let reader = g.R.Read.remaining c.read_some.new.reader in
+    let kept : Keeps (g.R.Read.remaining c.self.inside.reader) reader = c.in_err-len.ensures.bytes in
+    on_err c.from_residual.result
+    (rw (
+      ← c.self.view_is,
+      c.if-self.true,
+      left_of_empty c.self.inside.chunk c.self.inside.end (g.R.Read.remaining c.self.inside.reader),
+      left_of_empty c.read_some.new.chunk c.self.inside.end reader,
+    ) kept)
+
+pub returns-in_default-clause-overflows : goal.returns-in_default-clause-overflows
+returns-in_default-clause-overflows g c =
+    elim c.if-self.branch [
+      | then-self+else-is_err+in_ok-len+else-len-eq0 w ↦
+          let more = rw w.self-inside-is at c.in_default.ensures.piece in
+          λ _. rw (w.self-inside-is, c.in_default.ensures.kept) (overflows_by _ (g.R.Read.remaining w.read_some.new.reader) _ more)
+      | else-self w ↦
+          let more = rw w.self-inside-is at c.in_default.ensures.piece in
+          λ _. rw (w.self-inside-is, c.in_default.ensures.kept) (overflows_by _ (g.R.Read.remaining c.self.inside.reader) _ more)
     ]

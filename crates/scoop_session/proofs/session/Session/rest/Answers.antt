@@ -1,4 +1,4 @@
-use Rattle.scoop_session.proofs.Turned.{turned_more}
+use Rattle.scoop_session.proofs.Turned.{turn_says, turned_more}
 use Rattle.scoop_session.proofs.session.Session.rest.Goals as goal
 
 pub returns-in-Err-clause-turned : goal.returns-in-Err-clause-turned
@@ -6,3 +6,6 @@ returns-in-Err-clause-turned g c = turned_more _ _ _ _ c.loop-taken.invariant c.
 
 pub loop-taken-preserved : goal.loop-taken-preserved
 loop-taken-preserved g c = turned_more _ _ _ _ c.loop-taken.invariant c.in-Ok.ensures.does
+
+pub returns-in-Err-clause-tries : goal.returns-in-Err-clause-tries
+returns-in-Err-clause-tries g c = turn_says _ _ _ c.in-Err.ensures.does
