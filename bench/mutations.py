@@ -3,7 +3,8 @@
 
 Without --rows, the prover has to refuse those that the gate leaves out, in bench/mutations/CRATE. A gate checks a crate with
 mutations twice, so it tries those of a few cheap crates alone. The script puts the others into crates/CRATE/must-fail, calls
-`rt must-fail CRATE`, and takes them out again. It ends with 1 if a mutation isn't refused.
+`rt must-fail CRATE`, and takes them out again. It ends with 1 if a mutation isn't refused. Those in a folder `rows` are left
+out: no clause speaks of what they change, so only rows notice them.
 
 With --rows, it shows which of them rows notice, and which of the gate's own, in must-fail. It compiles the program of rows
 without proof, with all mutations in them (bench/mutants.py), and plays all rows with each. It prints a line for each mutation:
@@ -42,7 +43,7 @@ def refused(crate):
     own = to.with_name('must-fail-of-the-gate')
     if to.exists():
         to.rename(own)
-    shutil.copytree(KEPT / crate, to)
+    shutil.copytree(KEPT / crate, to, ignore=shutil.ignore_patterns('rows'))
     try:
         return subprocess.run(['rt', 'must-fail', crate], cwd=TOP).returncode == 0
     finally:
@@ -53,7 +54,7 @@ def refused(crate):
 
 def edits():
     """The mutations of all crates: crate and file, in the order of their numbers, which begin with 1."""
-    kept = [(it.parent.name, it) for it in KEPT.glob('*/*.edit')]
+    kept = [(it.relative_to(KEPT).parts[0], it) for it in KEPT.glob('**/*.edit')]
     own = [(it.parent.parent.name, it) for it in TOP.glob('crates/*/must-fail/*.edit')]
     return sorted(kept + own)
 

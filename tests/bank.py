@@ -212,3 +212,28 @@ def check_prints_what_the_file_says():
         for line in ("node 1 127.0.0.1:47101", "  handler 1 purse 100 0 0 name ann", "client 8 127.0.0.1:47108 batch 4",
                      "class stock 4 words", "  1 order: a0 <= w0; w0 := w0 + 0 - a0, w1 := w1 + a0 - 0, w2 := w2 + 1 - 0; w0", "  3 left: w0"):
             holds(f"a line {line!r}", line in ran.output.splitlines(), ran.output)
+
+
+# What is put into the bank's file in place of what, and the faults that this makes, each with the known word that is nearest.
+FAULTS = [
+    ('answer = "w3"', 'answer = "w4"', {'operation 6 of class "stock": w4 is not a word': ""}),
+    ('address = "127.0.0.1:47102"', 'adress = "127.0.0.1:47102"', {'node 2: unknown key "adress"': "address", "node 2: no address": ""}),
+    ('class = "stock"', 'class = "stok"', {'handler 3: no such class "stok"': "stock"}),
+    ('address = "127.0.0.1:47107"', 'address = "127.0.0.1:47107"\nhandlers = ["an"]', {'client 7: no such handler "an"': "ann"}),
+]
+
+
+@test
+def all_faults_of_a_file_are_printed_in_one_run():
+    with System({}, {}) as made:
+        text, path, notes = TEXT, made.path("faulty.toml"), []
+        for old, new, faults in FAULTS:
+            line = 1 + TEXT[:TEXT.rindex("[[", 0, TEXT.index(old))].count("\n")
+            text = text.replace(old, new)
+            for fault, word in faults.items():
+                notes += [f"scoop: {path}: {fault}", f"  line {line}" + (f': did you mean "{word}"?' if word else "")]
+        made.write("faulty.toml", text)
+        notes.append(f"hint: {path}: fix it there, and run scoop check again")
+        for words in (["check", path], ["node", "1", "--system", path], ["client", "7", "--system", path]):
+            ran = run(*words)
+            same(f"{words[0]}: its status, output and notes", (ran.status, ran.output, ran.notes.splitlines()), (1, "", notes))

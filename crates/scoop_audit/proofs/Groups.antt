@@ -6,16 +6,9 @@ use Rattle.std.proofs.lemmas.Bool.Decides.{eqb_tells}
 use Rattle.scoop_message.specs.Lists.{NoRepeats}
 use Rattle.scoop_system.specs.declared.place.HandlerPlace.{HandlerPlace}
 use Rattle.scoop_system.specs.Known.{handlers_on}
+use Rattle.scoop_system.proofs.WellFormedFacts.{Apart, IsNot}
 
 -- ---- nothing comes twice
-
-abbrev pub IsNot : {A : Type 0} → A → List A → Type 0
-IsNot x [] = Unit {0}
-IsNot x (y ∷ ys) = (x ≡ y → ⊥) × IsNot x ys
-
-abbrev pub Apart : {A : Type 0} → List A → Type 0
-Apart [] = Unit {0}
-Apart (x ∷ xs) = IsNot x xs × Apart xs
 
 not_at : {A : Type 0} (x : A) (xs : List A) (i : ℕ) → IsNot x xs → slice_get xs i ≡ Some x → ⊥
 not_at x [] i none is = cc
@@ -33,14 +26,6 @@ pub apart_once : {A : Type 0} (xs : List A) → Apart xs → NoRepeats xs
 apart_once [] apart = λ i j x is also. absurd (cc)
 apart_once (y ∷ ys) apart = λ i j x is also. at_two y ys i j x apart.0 (apart_once ys apart.1) is also
 
-not_snoc : {A : Type 0} (y x : A) (xs : List A) → IsNot y xs → (y ≡ x → ⊥) → IsNot y (xs ++ x ∷ [])
-not_snoc y x [] none differs = (differs, tt)
-not_snoc y x (z ∷ xs) none differs = (none.0, not_snoc y x xs none.1 differs)
-
-pub apart_snoc : {A : Type 0} (xs : List A) (x : A) → Apart xs → IsNot x xs → Apart (xs ++ x ∷ [])
-apart_snoc [] x apart none = (tt, tt)
-apart_snoc (y ∷ xs) x apart none = (not_snoc y x xs apart.0 (λ e. none.0 (sym e)), apart_snoc xs x apart.1 none.1)
-
 -- a finer key
 not_finer : {A B C : Type 0} (f : A → B) (g : B → C) (y : A) (xs : List A) → IsNot (g (f y)) (map (λ x. g (f x)) xs) → IsNot (f y) (map f xs)
 not_finer f g y [] none = tt
@@ -49,15 +34,6 @@ not_finer f g y (x ∷ xs) none = (λ e. none.0 (ap g e), not_finer f g y xs non
 pub apart_finer : {A B C : Type 0} (f : A → B) (g : B → C) (xs : List A) → Apart (map (λ x. g (f x)) xs) → Apart (map f xs)
 apart_finer f g [] apart = tt
 apart_finer f g (x ∷ xs) apart = (not_finer f g x xs apart.0, apart_finer f g xs apart.1)
-
--- a test that found none
-pub any_not : {A : Type 0} (key : A → ℕ) (xs : List A) (k : ℕ) → list_any (λ x. key x == k) xs ≡ false → IsNot k (map key xs)
-any_not key [] k none = tt
-any_not key (x ∷ xs) k none =
-    elim (eqb_tells (key x) k) [
-      | inl t ↦ let no : true ≡ false = subst (λ b. (b || list_any (λ y. key y == k) xs) ≡ false) t.0 none in absurd (cc)
-      | inr f ↦ (λ e. f.1 (sym e), any_not key xs k (subst (λ b. (b || list_any (λ y. key y == k) xs) ≡ false) f.0 none))
-    ]
 
 not_filtered : {A : Type 0} (key : A → ℕ) (test : A → Bool) (k : ℕ) (xs : List A) → IsNot k (map key xs) → IsNot k (map key (filter test xs))
 not_filtered key test k [] none = tt

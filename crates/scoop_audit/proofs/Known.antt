@@ -15,8 +15,8 @@ use Rattle.scoop_system.specs.declared.place.ClientPlace.{ClientPlace}
 use Rattle.scoop_system.specs.Known.{handlers_on, is_among, known_in, known_to, numbers_on, uses}
 use Rattle.scoop_system.specs.System.{Plan}
 use Rattle.scoop_audit.specs.Parties.{joins_in}
-use Rattle.scoop_audit.proofs.Groups.{Apart, IsNot, apart_once}
-use Rattle.scoop_audit.proofs.Used.{UsesSome}
+use Rattle.scoop_system.proofs.WellFormedFacts.{Apart, IsNot, UsesSome}
+use Rattle.scoop_audit.proofs.Groups.{apart_once}
 
 -- ---- lists
 

@@ -9,7 +9,5 @@ mod Steps
 mod Paged
 mod Unexplained
 mod Groups
-mod Reading
-mod Used
 mod Known
 mod Files

@@ -1,9 +1,9 @@
 //! The theorem on journals, and that its premise holds.
 
-ghost use Rattle.std.specs.Prelude.{◌≡◌, ◌≤◌, ℕ, List, Ok, length};
+ghost use Rattle.std.specs.Prelude.{◌≤◌, ℕ, List, length};
 ghost use Rattle.scoop_message.specs.declared.message.Message.{Message as Told};
-ghost use Rattle.scoop_system.specs.File.{Means};
 ghost use Rattle.scoop_system.specs.System.{Plan};
+ghost use Rattle.scoop_system.specs.WellFormed.{IsWellFormed};
 ghost use Rattle.scoop_audit.specs.Parties.{MayRun};
 ghost use Rattle.scoop_audit.specs.World.{AreTold, ClientPages, IsExplained, NodePages, Weaves, trails_of};
 
@@ -14,7 +14,8 @@ pub fn journals_are_a_world()
         → Weaves post (trails_of nodes clients) turns → IsExplained nodes clients turns }
 {}
 
-/// A world may open with the handlers and clients of a system that was read, if it has a handler.
+/// A world may open with the handlers and clients of a well-formed system that has a handler. What `System::read` returns is
+/// well-formed.
 pub fn systems_may_run()
-    ensures { (text : List ℕ) (s : Plan) → Means text (Ok s) → 1 ≤ length s.handlers → MayRun s }
+    ensures { (s : Plan) → IsWellFormed s → 1 ≤ length s.handlers → MayRun s }
 {}

@@ -15,7 +15,7 @@ pub(crate) const CHECK: CommandRow = CommandRow {
         \x20 class stock 2 words                   a class of the file\n\
         \x20   1 order: a0 <= w0; w0 := w0 + 0 - a0, w1 := w1 + a0 - 0; w0\n\
         \x20                                       an operation: its test, what it writes, and what it returns\n\n\
-        Statuses: 0; 1 for the file's first fault, printed as `scoop: FILE: TEXT`; 2 for the command line; 3 for memory \
+        Statuses: 0; 1 for faults of the file, each printed as `scoop: FILE: TEXT`; 2 for the command line; 3 for memory \
         or output.\n\n\
         Example: scoop check examples/bank.toml",
     arguments: &CHECK_ARGUMENTS,

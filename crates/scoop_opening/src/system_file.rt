@@ -4,7 +4,7 @@ use crate::ending::report_plainly;
 use scoop_message::OutOfMemory;
 use scoop_report::{Hints, Status, hint_of_file, report};
 use scoop_runtime::{FileFault, RuntimeError};
-use scoop_system::{System, SystemError};
+use scoop_system::{Faults, System, SystemError};
 use std::fmt::Display;
 use std::io::ErrorKind;
 use std::{fs, io};
@@ -53,6 +53,20 @@ pub fn read_system(rt: &HostRuntime, path: &str) -> Result<System, Status> {
     match System::read(rt.alloc(), &text) {
         Ok(system) => Ok(system),
         Err(SystemError::OutOfMemory) => Err(report_memory(rt)),
+        Err(SystemError::Faults(faults)) => Err(report_faults(rt, path, &faults)),
         Err(error) => Err(report_fault(rt, path, error, FileFault::NoSystem)),
     }
+}
+
+// Reports the faults of a system's file, one by one.
+fn report_faults(rt: &HostRuntime, path: &str, faults: &Faults) -> Status {
+    for fault in faults.as_slice() {
+        report(rt, format_args!("{path}: {fault}"));
+    }
+    let more = faults.more();
+    if more > 0 {
+        report(rt, format_args!("{path}: and {more} more"));
+    }
+    hint_of_file(rt, Hints::Always, path, FileFault::NoSystem.advice());
+    Status(STATUS)
 }

@@ -1,10 +1,7 @@
 //! The text of an owner.
 
-ghost use Rattle.std.specs.Prelude.{◌≡◌, map, OnOk, IfOk, string_bytes};
-ghost use Rattle.std.specs.Option.{option_copied};
-ghost use Rattle.std.specs.Io.KnownBytes.{Appends};
-ghost use Rattle.scoop_system.specs.System.{class_named};
-ghost use Rattle.scoop_owner.specs.Owner.{owner_text, head_text, party_text, class_lines, handler_lines, handler_line, class_line, own_class_text, joined};
+ghost use Rattle.std.specs.Prelude.{◌≡◌, map};
+ghost use Rattle.scoop_owner.specs.Owner.{joined};
 
 use scoop_journal::Owner;
 use scoop_message::OutOfMemory;
@@ -16,9 +13,7 @@ use std::io::Write;
 /// The text beside a store. It names the system with its life, the party, and for a node the class of each of its handlers.
 ///
 /// `OutOfMemory`: an allocation was refused.
-pub fn owner_text(alloc: Global, system: &System, owner: Owner) -> Result<String, OutOfMemory>
-    ensures { IfOk result (λ text. string_bytes text ≡ owner_text system.now owner) }
-{
+pub fn owner_text(alloc: Global, system: &System, owner: Owner) -> Result<String, OutOfMemory> {
     let mut text = Vec::new(alloc);
     if print_owner(alloc, system, owner, &mut text).is_err() {
         return Err(OutOfMemory);
@@ -34,116 +29,72 @@ fn print_owner<W: Write>(
     system: &System,
     owner: Owner,
     writer: &mut W,
-) -> io::Result<()>
-    ensures { OnOk result (Appends (W.contents writer.old) (W.contents writer.new) (owner_text system.now owner)) }
-{
-    let identity = system.identity();
-    print_head(identity.name_text(), identity.life_number(), writer)?;
-    print_party(owner, writer)?;
-    print_classes(alloc, system, owner, writer)
-}
-
-// The name and the life of the system: an empty one and 0 if it has none.
-fn print_head<W: Write>(name: &str, life: u32, writer: &mut W) -> io::Result<()>
-    ensures { OnOk result (Appends (W.contents writer.old) (W.contents writer.new) (head_text name.now life)) }
-{
-    writeln!(writer, "system = \"{name}\"")?;
-    writeln!(writer, "life = {life}")
-}
-
-fn print_party<W: Write>(owner: Owner, writer: &mut W) -> io::Result<()>
-    ensures { OnOk result (Appends (W.contents writer.old) (W.contents writer.new) (party_text owner)) }
-{
+) -> io::Result<()> {
+    print_head(system, writer)?;
     match owner {
-        Owner::Node(number) => writeln!(writer, "node = {number}"),
+        Owner::Node(number) => {
+            writeln!(writer, "node = {number}")?;
+            print_handlers(alloc, system, number, writer)
+        }
         Owner::Client(client) => writeln!(writer, "client = {client}"),
     }
 }
 
-// The classes of a node's handlers.
-fn print_classes<W: Write>(
-    alloc: Global,
-    system: &System,
-    owner: Owner,
-    writer: &mut W,
-) -> io::Result<()>
-    ensures { OnOk result (Appends (W.contents writer.old) (W.contents writer.new) (class_lines system.now owner)) }
-{
-    match owner {
-        Owner::Node(node) => {
-            print_handlers(alloc, system.classes(), node, system.handlers(), writer)
-        }
-        Owner::Client(_) => Ok(()),
-    }
+// The name and the life of the system: an empty one and 0 if it has none.
+fn print_head<W: Write>(system: &System, writer: &mut W) -> io::Result<()> {
+    let identity = system.identity();
+    let name = identity.name_text();
+    let life = identity.life_number();
+    writeln!(writer, "system = \"{name}\"\nlife = {life}")
 }
 
 // The handlers of a node, each with its class.
 fn print_handlers<W: Write>(
     alloc: Global,
-    classes: &[OwnClass],
+    system: &System,
     node: u32,
-    handlers: &[HandlerPlace],
     writer: &mut W,
-) -> io::Result<()>
-    ensures { OnOk result (Appends (W.contents writer.old) (W.contents writer.new) (handler_lines classes.now node handlers.now)) }
-{
-    match handlers {
-        [] => Ok(()),
-        [first, rest @ ..] => {
-            if first.node == node {
-                print_handler(alloc, classes, first, writer)?;
-            }
-            print_handlers(alloc, classes, node, rest, writer)
+) -> io::Result<()> {
+    for place in system.handlers() {
+        if place.node == node {
+            print_handler(alloc, system.classes(), place, writer)?;
         }
     }
+    Ok(())
 }
 
+// A handler with the name of a known class, or all of a class of the system's own.
 fn print_handler<W: Write>(
     alloc: Global,
     classes: &[OwnClass],
     place: &HandlerPlace,
     writer: &mut W,
-) -> io::Result<()>
-    ensures { OnOk result (Appends (W.contents writer.old) (W.contents writer.new) (handler_line classes.now place.now)) }
-{
+) -> io::Result<()> {
     let handler = place.handler;
     write!(writer, "handler.{handler} = \"")?;
-    print_class_line(alloc, classes, place.class, writer)?;
+    match place.class {
+        HandlerClass::Known(class) => writer.write_all(class.name().as_bytes())?,
+        HandlerClass::Own(name) => print_own(alloc, classes, name.as_bytes(), writer)?,
+    }
     writer.write_all(b"\"\n")
 }
 
-// The name of a known class, or all of a class of the system's own.
-fn print_class_line<W: Write>(
+// The class of this name in one line: a semicolon stands for the end of each of its lines.
+fn print_own<W: Write>(
     alloc: Global,
     classes: &[OwnClass],
-    class: HandlerClass,
+    name: &[u8],
     writer: &mut W,
-) -> io::Result<()>
-    ensures { OnOk result (Appends (W.contents writer.old) (W.contents writer.new) (class_line classes.now class)) }
-{
-    match class {
-        HandlerClass::Known(class) => writer.write_all(class.name().as_bytes()),
-        HandlerClass::Own(name) => print_own(alloc, own_class(classes, name.as_bytes()), writer),
+) -> io::Result<()> {
+    for class in classes {
+        if class.name().as_bytes() == name {
+            let mut lines = Vec::new(alloc);
+            print_class(class, &mut lines)?;
+            join_lines(lines.as_mut_slice());
+            return writer.write_all(lines.as_slice());
+        }
     }
-}
-
-fn own_class<'a>(classes: &'a [OwnClass], name: &[u8]) -> Option<&'a OwnClass>
-    ensures { option_copied result ≡ class_named classes.now name.now }
-{
-    classes.iter().find(|class| class.name().as_bytes() == name)
-}
-
-// A class in one line: a semicolon stands for the end of each of its lines.
-fn print_own<W: Write>(alloc: Global, class: Option<&OwnClass>, writer: &mut W) -> io::Result<()>
-    ensures { OnOk result (Appends (W.contents writer.old) (W.contents writer.new) (own_class_text (option_copied class.entry))) }
-{
-    let Some(class) = class else {
-        return Ok(());
-    };
-    let mut lines = Vec::new(alloc);
-    print_class(class, &mut lines)?;
-    join_lines(lines.as_mut_slice());
-    writer.write_all(lines.as_slice())
+    Ok(())
 }
 
 fn join_lines(text: &mut [u8])

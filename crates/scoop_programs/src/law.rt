@@ -1,8 +1,8 @@
 //! The theorem on runs of the programs.
 
-ghost use Rattle.std.specs.Prelude.{◌≡◌, ◌≤◌, ℕ, List, Ok, length};
-ghost use Rattle.scoop_system.specs.File.{Means};
+ghost use Rattle.std.specs.Prelude.{◌≤◌, List, length};
 ghost use Rattle.scoop_system.specs.System.{Plan};
+ghost use Rattle.scoop_system.specs.WellFormed.{IsWellFormed};
 ghost use Rattle.scoop_programs.specs.Files.{AreOf};
 ghost use Rattle.scoop_programs.specs.Programs.{AreAWorld, ClientRuns, MayRun, NodeRuns};
 
@@ -29,13 +29,13 @@ pub fn programs_are_a_world<K: Keeper<Global>, J: Keeper<Global>>()
         → AreAWorld nodes clients }
 {}
 
-/// The same for the nodes and clients of a system that was read from a text, and has a handler. Then a world may open with
-/// them. A node runs by its plan, as `NodePlan::of` ensures it, so it has the handlers that the file places on it, each with
-/// its class. A client knows the handlers that it uses, by its own contract. A client's keeper had no incarnation of it before
-/// its first run. A node without handlers is left out.
+/// The same for the nodes and clients of a well-formed system that has a handler. What `System::read` returns is well-formed.
+/// A world may open with them. A node runs by its plan, as `NodePlan::of` ensures it, so it has the handlers that the file
+/// places on it, each with its class. A client knows the handlers that it uses, by its own contract. A client's keeper had no
+/// incarnation of it before its first run. A node without handlers is left out.
 pub fn systems_are_a_world<K: Keeper<Global>, J: Keeper<Global>>()
-    ensures { (text : List ℕ) (s : Plan) (nodes : List (NodeRuns K.handlers K.is_honest)) (clients : List (ClientRuns J.incarnations J.is_honest))
-        → Means text (Ok s) → 1 ≤ length s.handlers → AreOf s nodes clients → AreAWorld nodes clients }
+    ensures { (s : Plan) (nodes : List (NodeRuns K.handlers K.is_honest)) (clients : List (ClientRuns J.incarnations J.is_honest))
+        → IsWellFormed s → 1 ≤ length s.handlers → AreOf s nodes clients → AreAWorld nodes clients }
 {
     systems_may_run();
 }

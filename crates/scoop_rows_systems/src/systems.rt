@@ -1,6 +1,7 @@
 //! Rows about a system and its clients. In texts, `\n` stands for a newline and `\r` for a carriage return.
 //!
-//! - `+ TEXT` adds a line to the file. `read TEXT` adds the text, reads the file and forgets its text; it answers the fault.
+//! - `+ TEXT` adds a line to the file. `read TEXT` adds the text, reads the file and forgets its text. It answers the faults,
+//!   without their lines. `faults TEXT` answers them with their lines.
 //! - `print` answers the system as `scoop check` prints it.
 //! - `line TEXT` answers what the line asks a client, or its fault. `script CLIENT TEXT` answers `right`, or the faults of the
 //!   script.
@@ -15,7 +16,7 @@ use scoop_row_player::answers::{add_line, keeps, tells, told, without_last};
 use scoop_row_player::words::{first, number, numbers, read_text, text_of};
 use scoop_row_player::{Bad, Subject};
 use scoop_runtime::{Serving, check_script};
-use scoop_system::{ClientLine, LineFaultIn, System, print_system, read_line};
+use scoop_system::{ClientLine, LineFaultIn, System, Test, print_system, read_line};
 use std::alloc::Global;
 use std::io;
 use std::io::Write;
@@ -42,10 +43,26 @@ impl Systems {
         add_line(text.as_slice(), &mut self.text)
     }
 
+    // Reads the file, and answers its faults.
     fn reads(&mut self, answer: &mut Vec<u8>) -> Result<(), Bad> {
         let text = text_of(self.text.as_slice())?;
         let system = System::read(*answer.allocator(), text);
         keeps(&mut self.system, system, answer)
+    }
+
+    // The same without the lines that say where a fault is.
+    fn reads_plainly(&mut self, answer: &mut Vec<u8>) -> Result<(), Bad> {
+        let mut all = Vec::new(*answer.allocator());
+        self.reads(&mut all)?;
+        for line in all.as_slice().split(|byte| *byte == b'\n') {
+            if !line.starts_with(b"  ") {
+                if !answer.is_empty() {
+                    answer.push(b'\n')?;
+                }
+                answer.extend_from_slice(line)?;
+            }
+        }
+        Ok(())
     }
 }
 
@@ -59,6 +76,12 @@ impl Subject for Systems {
                 tells("ok", answer)
             }
             b"read" => {
+                self.adds(line)?;
+                self.reads_plainly(answer)?;
+                self.text.clear();
+                Ok(())
+            }
+            b"faults" => {
                 self.adds(line)?;
                 self.reads(answer)?;
                 self.text.clear();
@@ -126,11 +149,12 @@ fn put_line<W: Write>(line: &ClientLine, out: &mut W) -> io::Result<()> {
             for condition in conditions.as_slice() {
                 let (asked, request) = (condition.asked, &condition.request);
                 let args = request.args.as_slice();
-                write!(
-                    out,
-                    ", {asked} {} {args:?} {:?}",
-                    request.op, condition.test
-                )?;
+                let (test, value) = match condition.test {
+                    Test::Least(value) => ("Least", value),
+                    Test::Most(value) => ("Most", value),
+                    Test::Is(value) => ("Is", value),
+                };
+                write!(out, ", {asked} {} {args:?} {test}({value})", request.op)?;
             }
             Ok(())
         }

@@ -20,7 +20,7 @@ pub trait ClientProgram {
 }
 
 /// How a program ended, and what became of the block that it left open.
-#[derive(Clone, Copy, Debug, PartialEq, Eq)]
+#[derive(Clone, Copy, Debug)]
 pub struct ProgramEnd {
     pub ended: Result<(), RuntimeError>,
     pub unended: Unended,

@@ -1,12 +1,6 @@
 mod NameLemmas
 mod LineLemmas
 mod ConditionLemmas
-mod AddressLemmas
 mod ArgumentLemmas
-mod RowLemmas
-mod ClassRowLemmas
-mod FormulaLemmas
-mod ViewLemmas
-mod ReadLemmas
-mod TextLemmas
-mod SystemLemmas
+mod WellFormedLemmas
+pub mod WellFormedFacts

@@ -1,6 +1,7 @@
 -- Texts of a line's faults.
 use Rattle.std.specs.Prelude.{ℕ, List, [], ◌∷◌, ◌++◌, codes, Option, Some, None}
 use Rattle.std.specs.Fmt.{decimal}
+use Rattle.scoop_classes.specs.Classes.{class_name}
 use Rattle.scoop_system.specs.declared.line.fault.LineFault.{LineFault}
 use Rattle.scoop_system.specs.declared.line.fault.LineFault.TheVariants.{UnknownLine, WrongNumberOfWords, NotANumber, TooFewArguments, TooManyArguments}
 use Rattle.scoop_system.specs.declared.line.fault.LineFault.TheVariants.{TooManyHandlers, TooManyConditions, NoSuchOperation, NoSuchHandler}
@@ -12,7 +13,10 @@ use Rattle.scoop_system.specs.declared.place.HandlerClass.TheVariants.{Known, Ow
 use Rattle.scoop_system.specs.ShownWord.{letters_text}
 use Rattle.scoop_system.specs.Operations.{known_names}
 use Rattle.scoop_system.specs.System.{Plan, NamedClass, class_named, handler_named}
-use Rattle.scoop_system.specs.SystemText.{handler_class_text}
+
+abbrev pub handler_class_text : HandlerClass → List ℕ
+handler_class_text (Known class) = class_name class
+handler_class_text (Own name) = name
 
 -- a word in quotes
 abbrev pub quoted_word : ShownWord → List ℕ

@@ -1,5 +1,5 @@
 -- Names, and texts as faults print them.
-use Rattle.std.specs.Prelude.{ℕ, ◌==◌, ◌&&◌, ◌||◌, nat_le, Bool, false, if◌then◌else◌, List, [], ◌∷◌, length, map, take}
+use Rattle.std.specs.Prelude.{◌≡◌, ℕ, ◌==◌, ◌&&◌, ◌||◌, nat_le, Bool, true, false, if◌then◌else◌, List, [], ◌∷◌, length, map, take}
 use Rattle.std.specs.List.{list_all}
 use Rattle.scoop_lines.specs.Number.{is_digit}
 use Rattle.scoop_system.specs.declared.name.TheConstants.{MAX_NAME_LEN}
@@ -30,3 +30,6 @@ begins_with_letter (byte ∷ bytes) = is_letter byte
 -- a name is up to 32 letters, digits, `_` and `-`, and begins with a letter
 unfoldable pub is_name : List ℕ → Bool
 is_name text = begins_with_letter text && (list_all is_name_byte text && nat_le (length text) MAX_NAME_LEN)
+
+abbrev pub IsName : List ℕ → Type 0
+IsName text = is_name text ≡ true

@@ -1,6 +1,7 @@
 -- A system, and look-ups in it.
 use Rattle.std.specs.Prelude.{ℕ, ◌==◌, Bool, false, List, find, Option, Some, None}
 use Rattle.std.specs.Option.{option_map, option_and_then}
+use Rattle.scoop_message.specs.declared.name.ClientId.{ClientId}
 use Rattle.scoop_message.specs.declared.name.HandlerId.{HandlerId}
 use Rattle.scoop_object.specs.Class.{ClassTable}
 use Rattle.scoop_classes.specs.Classes.{same_text, table_of}
@@ -44,6 +45,15 @@ abbrev pub class_operation : List NamedClass → List ℕ → HandlerClass → O
 class_operation classes name (Known class) = known_operation class name
 class_operation classes name (Own own) = option_and_then (λ c. own_operation c name) (class_named classes own)
 
+-- the node of this number
+abbrev pub node_named : List NodePlace → ℕ → Option NodePlace
+node_named nodes number = find (λ n. n.number == number) nodes
+
+-- the client of this number
+abbrev pub client_named : List ClientPlace → ClientId → Option ClientPlace
+client_named clients client = find (λ c. c.client.0 == client.0) clients
+
+-- the handler of this number
 abbrev pub handler_named : List HandlerPlace → HandlerId → Option HandlerPlace
 handler_named handlers handler = find (λ p. p.handler.0 == handler.0) handlers
 

@@ -1,22 +1,16 @@
 //! The conditions of a block that waits.
 
 ghost use Rattle.std.specs.Prelude.{◌≡◌, ◌≤◌, length};
-ghost use Rattle.std.specs.Result.{OkIff};
-ghost use Rattle.std.specs.Cmp.Lexicographic.{pointwise, lists_per, lists_equiv};
 ghost use Rattle.scoop_system.specs.NamedConditions.{blank};
-ghost use Rattle.scoop_system.specs.contracts.condition.NamedConditionPartialEq.TheImpl as on_condition;
-ghost use Rattle.scoop_system.specs.contracts.condition.NamedConditionPartialEq.TheImpl.Laws as partial_laws;
-ghost use Rattle.scoop_system.specs.contracts.condition.NamedConditionEq.TheImpl.Laws as condition_laws;
 
 use scoop_message::{Args, HandlerId, Request};
 use std::marker::Model;
-use thiserror::Error;
 
 /// Conditions that one line may have.
 pub const MAX_CONDITIONS: usize = 8;
 
 /// A test of an answer. It fails if the object refuses the query.
-#[derive(Clone, Copy, Debug, PartialEq, Eq)]
+#[derive(Clone, Copy)]
 pub enum Test {
     /// The answer is a value of at least this number.
     Least(u64),
@@ -27,7 +21,7 @@ pub enum Test {
 }
 
 /// A condition: the answer to a query passes a test.
-#[derive(Clone, Copy, Debug, PartialEq, Eq)]
+#[derive(Clone, Copy)]
 pub struct NamedCondition {
     /// The handler of the query.
     pub asked: HandlerId,
@@ -35,13 +29,8 @@ pub struct NamedCondition {
     pub test: Test,
 }
 
-/// A line has more than eight conditions.
-#[derive(Clone, Copy, Debug, PartialEq, Eq, Error)]
-#[error("TooManyConditions")]
-pub struct TooManyConditions;
-
 /// The conditions of a line, at most eight, in order. Contracts see them as a list.
-#[derive(Clone, Copy, Debug)]
+#[derive(Clone, Copy)]
 pub struct NamedConditions {
     cells: [NamedCondition; MAX_CONDITIONS],
     count: usize,
@@ -68,20 +57,6 @@ impl Model for NamedConditions {
     } };
 }
 
-impl PartialEq for NamedConditions {
-    ghost eq = { pointwise on_condition.eq-value.it };
-
-    ghost laws = { lists_per partial_laws.laws-law };
-
-    fn eq(&self, other: &NamedConditions) -> bool {
-        self.as_slice() == other.as_slice()
-    }
-}
-
-impl Eq for NamedConditions {
-    ghost laws = { lists_equiv condition_laws.laws-law };
-}
-
 // The value of an unused cell.
 pub(crate) fn blank() -> NamedCondition
     ensures { result ≡ blank }
@@ -97,17 +72,15 @@ pub(crate) fn blank() -> NamedCondition
 }
 
 impl NamedConditions {
-    /// The list as named conditions. The error is `TooManyConditions` exactly if there are more than eight.
-    pub fn of(conditions: &[NamedCondition]) -> Result<NamedConditions, TooManyConditions>
-        ensures { OkIff result (length conditions.now ≤ MAX_CONDITIONS) conditions.now }
+    /// The list as named conditions.
+    pub fn of(conditions: &[NamedCondition]) -> NamedConditions
+        requires { length conditions.now ≤ MAX_CONDITIONS }
+        ensures { result ≡ conditions.now }
     {
         let count = conditions.len();
-        if count > MAX_CONDITIONS {
-            return Err(TooManyConditions);
-        }
         let mut cells = [blank(); MAX_CONDITIONS];
         cells[..count].copy_from_slice(conditions);
-        Ok(NamedConditions { cells, count })
+        NamedConditions { cells, count }
     }
 
     /// The conditions, in order.

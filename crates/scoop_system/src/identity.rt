@@ -1,6 +1,6 @@
 //! The name and the life of a system.
 
-ghost use Rattle.std.specs.Prelude.{◌≡◌};
+ghost use Rattle.std.specs.Prelude.{◌≡◌, None};
 ghost use Rattle.scoop_system.specs.Identity.{is_none, name_bytes, life_number};
 
 use crate::name::Name;
@@ -14,6 +14,16 @@ pub struct Identity {
 }
 
 impl Identity {
+    // Neither a name nor a life.
+    pub(crate) fn none() -> Identity
+        ensures { result ≡ record { name = None; life = None } }
+    {
+        Identity {
+            name: None,
+            life: None,
+        }
+    }
+
     /// Whether the file has neither.
     pub fn is_none(&self) -> bool
         ensures { result ≡ is_none self.now }

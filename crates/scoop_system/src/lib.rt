@@ -1,7 +1,8 @@
 //! A system in a file: its nodes, handlers and clients with their addresses, and its classes besides `cell`, `counter`,
 //! `account` and `exchange`.
 //!
-//! [`System::read`] reads a TOML text, and returns its first fault with the place. [`print_system`] writes a system.
+//! [`System::read`] reads a TOML text into a well-formed system, or returns its faults with their places and lines.
+//! [`print_system`] writes a system.
 //! [`read_line`] reads the command that a line gives to a client of the system.
 //!
 //! ```
@@ -23,16 +24,19 @@
 #![tactic(auto)]
 
 mod arguments;
+mod check;
 mod class;
 mod condition;
-mod error;
+mod fault;
 mod identity;
+mod key;
 mod known;
 mod line;
 mod name;
 mod named_handlers;
 mod node_addresses;
 mod operations;
+mod phrase;
 mod place;
 mod printing;
 mod reading;
@@ -40,16 +44,18 @@ mod shown_word;
 mod system;
 mod using;
 
+pub use check::MAX_CLASSES;
 pub use class::{OwnClass, OwnOperation};
-pub use condition::{MAX_CONDITIONS, NamedCondition, NamedConditions, Test, TooManyConditions};
-pub use error::{Fault, Key, Place, SystemError, TomlFault, Wrong};
+pub use condition::{MAX_CONDITIONS, NamedCondition, NamedConditions, Test};
+pub use fault::{Fault, Faults, MAX_FAULTS, SystemError, TomlFault};
 pub use identity::Identity;
+pub use key::Key;
 pub use line::{ClientLine, LineFault, LineFaultIn, MAX_NAMED, read_line};
-pub use name::{MAX_NAME_LEN, Name, is_name};
-pub use named_handlers::{NamedHandlers, TooManyNamed};
-pub use node_addresses::{MAX_ADDRESSES, NodeAddresses, TooManyAddresses};
+pub use name::{MAX_NAME_LEN, Name};
+pub use named_handlers::NamedHandlers;
+pub use node_addresses::{MAX_ADDRESSES, NodeAddresses};
+pub use phrase::{Form, Phrase, Shown};
 pub use place::{ClientPlace, HandlerClass, HandlerPlace, NodePlace};
 pub use printing::{print_class, print_system};
-pub use reading::MAX_CLASSES;
 pub use shown_word::ShownWord;
 pub use system::System;

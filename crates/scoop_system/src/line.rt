@@ -26,7 +26,7 @@ use scoop_message::{HandlerId, Request};
 use words::without_return;
 
 /// The command that a line gives to a client. A handler is written as its number or its name.
-#[derive(Clone, Copy, Debug, PartialEq, Eq)]
+#[derive(Clone, Copy)]
 pub enum ClientLine {
     /// Nothing: the line has no word, or begins with `#`.
     Blank,

@@ -1,10 +1,7 @@
 //! Names in files.
 
-ghost use Rattle.std.specs.Prelude.{◌≡◌, ◌≤◌, ◌==◌, length, take};
+ghost use Rattle.std.specs.Prelude.{◌≡◌, ◌≤◌, length, take};
 ghost use Rattle.std.specs.List.{list_all};
-ghost use Rattle.std.specs.Cmp.Lexicographic.{pointwise};
-ghost use Rattle.std.specs.Cmp.Rules.{comparing};
-ghost use Rattle.std.proofs.Common.{rules};
 ghost use Rattle.scoop_message.specs.Padded.{padded};
 ghost use Rattle.scoop_system.specs.declared.name.TheConstants.{MAX_NAME_LEN};
 ghost use Rattle.scoop_system.specs.Name.{told, told_byte, is_printable, is_letter, is_name_byte, begins_with_letter, is_name};
@@ -15,9 +12,9 @@ use std::{fmt, str};
 /// Bytes of a name, at most.
 pub const MAX_NAME_LEN: usize = 32;
 
-/// The name of a class or an operation, or a text of the file as faults print it: up to 32 bytes of printable ASCII.
-/// Contracts see it as the list of its bytes. Printed as it is.
-#[derive(Clone, Copy, Debug)]
+/// The name of a system, a class, an operation or a handler, or a text of the file as faults print it: up to 32 bytes of
+/// printable ASCII. Contracts see it as the list of its bytes. Printed as it is.
+#[derive(Clone, Copy)]
 pub struct Name {
     cells: [u8; MAX_NAME_LEN],
     count: usize,
@@ -44,23 +41,9 @@ impl Model for Name {
     } };
 }
 
-impl PartialEq for Name {
-    ghost eq = { pointwise ◌==◌ };
-
-    ghost laws = { Prim.search (comparing, rules) };
-
-    fn eq(&self, other: &Name) -> bool {
-        self.as_bytes() == other.as_bytes()
-    }
-}
-
-impl Eq for Name {
-    ghost laws = { Prim.search (comparing, rules) };
-}
-
 impl Name {
-    /// A text as faults print it: its first 32 bytes, with a `?` for each that isn't printable ASCII.
-    pub fn told(text: &str) -> Name
+    // A text as faults print it: its first 32 bytes, with a `?` for each that isn't printable ASCII.
+    pub(crate) fn told(text: &str) -> Name
         ensures { result ≡ told text.now }
     {
         Name::told_bytes(text.as_bytes())
@@ -91,6 +74,13 @@ impl Name {
         ensures { result ≡ padded 0 MAX_NAME_LEN self.now }
     {
         self.cells
+    }
+
+    // Whether it has the shape of a name.
+    pub(crate) fn is_name(&self) -> bool
+        ensures { result ≡ is_name self.now }
+    {
+        is_name(self.as_str())
     }
 
     /// The bytes as a text.
@@ -151,9 +141,9 @@ fn is_name_byte(byte: u8) -> bool
     is_letter(byte) || matches!(byte, b'0'..=b'9' | b'_' | b'-')
 }
 
-/// Whether a text is a name: up to 32 letters, digits, `_` and `-`, the first of them a letter.
+// Whether a text is a name: up to 32 letters, digits, `_` and `-`, the first of them a letter.
 #[tactic(auto, unfolding(crate::specs::Name::is_name))]
-pub fn is_name(text: &str) -> bool
+pub(crate) fn is_name(text: &str) -> bool
     ensures { result ≡ is_name text.now }
 {
     begins_with_letter(text.as_bytes())

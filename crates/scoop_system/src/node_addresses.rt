@@ -1,23 +1,16 @@
 //! The addresses at which a node may stand.
 
 ghost use Rattle.std.specs.Prelude.{◌≡◌, ◌≤◌, ◌∷◌, [], length};
-ghost use Rattle.std.specs.Result.{OkIff};
 ghost use Rattle.scoop_system.specs.Address.{first_of, has_address, nowhere};
 
 use std::marker::Model;
 use std::net::{IpAddr, Ipv4Addr, SocketAddr};
-use thiserror::Error;
 
 /// Addresses that one node may have.
 pub const MAX_ADDRESSES: usize = 4;
 
-/// A node has more than four addresses.
-#[derive(Clone, Copy, Debug, PartialEq, Eq, Error)]
-#[error("TooManyAddresses")]
-pub struct TooManyAddresses;
-
 /// The addresses of a node, at most four, in order. It stands at one of them at a time. Contracts see them as a list.
-#[derive(Clone, Copy, Debug)]
+#[derive(Clone, Copy)]
 pub struct NodeAddresses {
     cells: [SocketAddr; MAX_ADDRESSES],
     count: usize,
@@ -59,27 +52,22 @@ pub(crate) fn has_address(addresses: &[SocketAddr], address: SocketAddr) -> bool
 }
 
 impl NodeAddresses {
-    /// The list as addresses of a node. The error is `TooManyAddresses` exactly if there are more than four.
-    pub fn of(addresses: &[SocketAddr]) -> Result<NodeAddresses, TooManyAddresses>
-        ensures { OkIff result (length addresses.now ≤ MAX_ADDRESSES) addresses.now }
+    /// The list as addresses of a node.
+    pub fn of(addresses: &[SocketAddr]) -> NodeAddresses
+        requires { length addresses.now ≤ MAX_ADDRESSES }
+        ensures { result ≡ addresses.now }
     {
         let count = addresses.len();
-        if count > MAX_ADDRESSES {
-            return Err(TooManyAddresses);
-        }
         let mut cells = [nowhere(); MAX_ADDRESSES];
         cells[..count].copy_from_slice(addresses);
-        Ok(NodeAddresses { cells, count })
+        NodeAddresses { cells, count }
     }
 
     /// One address.
     pub fn one(address: SocketAddr) -> NodeAddresses
         ensures { result ≡ address ∷ [] }
     {
-        match NodeAddresses::of(&[address]) {
-            Ok(addresses) => addresses,
-            Err(_) => unreachable!(),
-        }
+        NodeAddresses::of(&[address])
     }
 
     /// The addresses, in order.

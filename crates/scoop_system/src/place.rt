@@ -37,7 +37,7 @@ impl NodePlace {
 }
 
 /// The class of a handler's object.
-#[derive(Clone, Copy, PartialEq, Eq)]
+#[derive(Clone, Copy)]
 pub enum HandlerClass {
     /// A class that every system has.
     Known(DemoClass),
@@ -71,7 +71,7 @@ pub struct ClientPlace {
 
 impl fmt::Display for HandlerClass {
     ghost use Rattle.std.specs.Prelude.{Some};
-    ghost use Rattle.scoop_system.specs.SystemText.{handler_class_text};
+    ghost use Rattle.scoop_system.specs.LineText.{handler_class_text};
 
     ghost output = { λ c. Some (handler_class_text c) };
 

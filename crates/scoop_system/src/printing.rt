@@ -1,218 +1,136 @@
 //! A printed system.
 
-ghost use Rattle.std.specs.Prelude.{OnOk};
-ghost use Rattle.std.specs.Io.KnownBytes.{Appends};
-ghost use Rattle.scoop_system.specs.SystemText.{system_text, nodes_text, node_text, addresses_text, handlers_text, handler_text, numbers_text, clients_text, client_text, status_text, name_text, identity_text, own_name_text, life_text, used_text, handler_numbers_text};
-
 mod class;
 
 use crate::identity::Identity;
-use crate::name::Name;
-use crate::named_handlers::NamedHandlers;
 use crate::place::{ClientPlace, HandlerPlace, NodePlace};
 use crate::system::System;
 pub use class::print_class;
-use class::print_classes;
-use scoop_message::HandlerId;
-use std::io;
 use std::io::Write;
-use std::net::SocketAddr;
+use std::{fmt, io};
 
 /// Writes a system:
 /// - a line of its name and life if it has one of them;
 /// - a line for each node and for each of its handlers;
 /// - a line for each client;
 /// - a line for each class of its own and for each of the class's operations.
-pub fn print_system<W: Write>(system: &System, writer: &mut W) -> io::Result<()>
-    ensures { OnOk result (Appends (W.contents writer.old) (W.contents writer.new) (system_text system.now)) }
-{
+pub fn print_system<W: Write>(system: &System, writer: &mut W) -> io::Result<()> {
     print_identity(system.identity(), writer)?;
-    print_nodes(system.nodes(), system.handlers(), writer)?;
-    print_clients(system.clients(), writer)?;
-    print_classes(system.classes(), writer)
+    for node in system.nodes() {
+        print_node(node, system.handlers(), writer)?;
+    }
+    for client in system.clients() {
+        print_client(client, writer)?;
+    }
+    for class in system.classes() {
+        print_class(class, writer)?;
+    }
+    Ok(())
 }
 
 // The name and the life, if the system has one of them.
-fn print_identity<W: Write>(identity: Identity, writer: &mut W) -> io::Result<()>
-    ensures { OnOk result (Appends (W.contents writer.old) (W.contents writer.new) (identity_text identity)) }
-{
+fn print_identity<W: Write>(identity: Identity, writer: &mut W) -> io::Result<()> {
     if identity.is_none() {
         return Ok(());
     }
-    writer.write_all(b"system")?;
-    print_own_name(identity.name, writer)?;
-    print_life(identity.life, writer)?;
-    writeln!(writer)
+    let name = Optional {
+        before: " ",
+        value: identity.name,
+    };
+    let life = Optional {
+        before: " life ",
+        value: identity.life,
+    };
+    writeln!(writer, "system{name}{life}")
 }
 
-fn print_own_name<W: Write>(name: Option<Name>, writer: &mut W) -> io::Result<()>
-    ensures { OnOk result (Appends (W.contents writer.old) (W.contents writer.new) (own_name_text name)) }
-{
-    match name {
-        Some(name) => write!(writer, " {name}"),
-        None => Ok(()),
-    }
-}
-
-fn print_life<W: Write>(life: Option<u32>, writer: &mut W) -> io::Result<()>
-    ensures { OnOk result (Appends (W.contents writer.old) (W.contents writer.new) (life_text life)) }
-{
-    match life {
-        Some(life) => write!(writer, " life {life}"),
-        None => Ok(()),
-    }
-}
-
-fn print_nodes<W: Write>(
-    nodes: &[NodePlace],
-    handlers: &[HandlerPlace],
-    writer: &mut W,
-) -> io::Result<()>
-    ensures { OnOk result (Appends (W.contents writer.old) (W.contents writer.new) (nodes_text handlers.now nodes.now)) }
-{
-    match nodes {
-        [] => Ok(()),
-        [first, rest @ ..] => {
-            print_node(first, handlers, writer)?;
-            print_nodes(rest, handlers, writer)
-        }
-    }
-}
-
+// A node with its addresses, its status address if it has one, and its handlers.
 fn print_node<W: Write>(
     node: &NodePlace,
     handlers: &[HandlerPlace],
     writer: &mut W,
-) -> io::Result<()>
-    ensures { OnOk result (Appends (W.contents writer.old) (W.contents writer.new) (node_text handlers.now node.now)) }
-{
+) -> io::Result<()> {
     let number = node.number;
-    write!(writer, "node {number}")?;
-    print_addresses(node.addresses.as_slice(), writer)?;
-    print_status(node.status, writer)?;
-    writeln!(writer)?;
-    print_handlers(number, handlers, writer)
-}
-
-// Addresses, with a space before each.
-fn print_addresses<W: Write>(addresses: &[SocketAddr], writer: &mut W) -> io::Result<()>
-    ensures { OnOk result (Appends (W.contents writer.old) (W.contents writer.new) (addresses_text addresses.now)) }
-{
-    match addresses {
-        [] => Ok(()),
-        [first, rest @ ..] => {
-            write!(writer, " {first}")?;
-            print_addresses(rest, writer)
+    let addresses = Each {
+        before: "",
+        values: node.addresses.as_slice(),
+    };
+    let status = Optional {
+        before: " status ",
+        value: node.status,
+    };
+    writeln!(writer, "node {number}{addresses}{status}")?;
+    for handler in handlers {
+        if handler.node == number {
+            print_handler(handler, writer)?;
         }
     }
+    Ok(())
 }
 
-// The status address of a node, if it has one.
-fn print_status<W: Write>(status: Option<SocketAddr>, writer: &mut W) -> io::Result<()>
-    ensures { OnOk result (Appends (W.contents writer.old) (W.contents writer.new) (status_text status)) }
-{
-    match status {
-        Some(address) => write!(writer, " status {address}"),
-        None => Ok(()),
-    }
-}
-
-// The handlers of a node.
-fn print_handlers<W: Write>(node: u32, handlers: &[HandlerPlace], writer: &mut W) -> io::Result<()>
-    ensures { OnOk result (Appends (W.contents writer.old) (W.contents writer.new) (handlers_text node handlers.now)) }
-{
-    match handlers {
-        [] => Ok(()),
-        [first, rest @ ..] => {
-            if first.node == node {
-                print_handler(first, writer)?;
-            }
-            print_handlers(node, rest, writer)
-        }
-    }
-}
-
-#[tactic(auto, unfolding(crate::specs::SystemText::handler_text))]
-fn print_handler<W: Write>(place: &HandlerPlace, writer: &mut W) -> io::Result<()>
-    ensures { OnOk result (Appends (W.contents writer.old) (W.contents writer.new) (handler_text place.now)) }
-{
+// A handler with its class and its words, and its name if it has one.
+fn print_handler<W: Write>(place: &HandlerPlace, writer: &mut W) -> io::Result<()> {
     let handler = place.handler;
     let class = place.class;
-    write!(writer, "  handler {handler} {class}")?;
-    print_numbers(place.words.as_slice(), writer)?;
-    print_name(place.name, writer)?;
-    writeln!(writer)
+    let words = Each {
+        before: "",
+        values: place.words.as_slice(),
+    };
+    let name = Optional {
+        before: " name ",
+        value: place.name,
+    };
+    writeln!(writer, "  handler {handler} {class}{words}{name}")
 }
 
-// The name of a handler, if it has one.
-fn print_name<W: Write>(name: Option<Name>, writer: &mut W) -> io::Result<()>
-    ensures { OnOk result (Appends (W.contents writer.old) (W.contents writer.new) (name_text name)) }
-{
-    match name {
-        Some(name) => write!(writer, " name {name}"),
-        None => Ok(()),
-    }
-}
-
-// Numbers, with a space before each.
-fn print_numbers<W: Write>(numbers: &[u64], writer: &mut W) -> io::Result<()>
-    ensures { OnOk result (Appends (W.contents writer.old) (W.contents writer.new) (numbers_text numbers.now)) }
-{
-    match numbers {
-        [] => Ok(()),
-        [first, rest @ ..] => {
-            write!(writer, " {first}")?;
-            print_numbers(rest, writer)
-        }
-    }
-}
-
-fn print_clients<W: Write>(clients: &[ClientPlace], writer: &mut W) -> io::Result<()>
-    ensures { OnOk result (Appends (W.contents writer.old) (W.contents writer.new) (clients_text clients.now)) }
-{
-    match clients {
-        [] => Ok(()),
-        [first, rest @ ..] => {
-            print_client(first, writer)?;
-            print_clients(rest, writer)
-        }
-    }
-}
-
-#[tactic(auto, unfolding(crate::specs::SystemText::client_text))]
-fn print_client<W: Write>(place: &ClientPlace, writer: &mut W) -> io::Result<()>
-    ensures { OnOk result (Appends (W.contents writer.old) (W.contents writer.new) (client_text place.now)) }
-{
+// A client, and the handlers that it uses if its table names them.
+fn print_client<W: Write>(place: &ClientPlace, writer: &mut W) -> io::Result<()> {
     let client = place.client;
     let address = place.address;
     let batch = place.batch;
-    write!(writer, "client {client} {address} batch {batch}")?;
-    print_used(&place.handlers, writer)?;
-    writeln!(writer)
+    let named = match &place.handlers {
+        Some(named) => named.as_slice(),
+        None => &[],
+    };
+    let handlers = Each {
+        before: " handlers",
+        values: named,
+    };
+    writeln!(writer, "client {client} {address} batch {batch}{handlers}")
 }
 
-// The handlers that a client uses, if its table names them.
-fn print_used<W: Write>(handlers: &Option<NamedHandlers>, writer: &mut W) -> io::Result<()>
-    ensures { OnOk result (Appends (W.contents writer.old) (W.contents writer.new) (used_text handlers.now)) }
-{
-    match handlers {
-        Some(handlers) => {
-            writer.write_all(b" handlers")?;
-            print_handler_numbers(handlers.as_slice(), writer)
+// Values, with a space before each, after these words. Nothing if there are none.
+#[derive(Clone, Copy)]
+struct Each<'a, T> {
+    before: &'static str,
+    values: &'a [T],
+}
+
+impl<T: fmt::Display> fmt::Display for Each<'_, T> {
+    fn fmt<W: fmt::Write>(&self, f: &mut fmt::Formatter<W>) -> fmt::Result {
+        if !self.values.is_empty() {
+            f.write_str(self.before)?;
         }
-        None => Ok(()),
+        for value in self.values {
+            write!(f, " {value}")?;
+        }
+        Ok(())
     }
 }
 
-// The numbers of handlers, with a space before each.
-fn print_handler_numbers<W: Write>(handlers: &[HandlerId], writer: &mut W) -> io::Result<()>
-    ensures { OnOk result (Appends (W.contents writer.old) (W.contents writer.new) (handler_numbers_text handlers.now)) }
-{
-    match handlers {
-        [] => Ok(()),
-        [first, rest @ ..] => {
-            write!(writer, " {first}")?;
-            print_handler_numbers(rest, writer)
+// A value after these words. Nothing if there is none.
+#[derive(Clone, Copy)]
+struct Optional<T> {
+    before: &'static str,
+    value: Option<T>,
+}
+
+impl<T: fmt::Display> fmt::Display for Optional<T> {
+    fn fmt<W: fmt::Write>(&self, f: &mut fmt::Formatter<W>) -> fmt::Result {
+        let before = self.before;
+        match &self.value {
+            Some(value) => write!(f, "{before}{value}"),
+            None => Ok(()),
         }
     }
 }

@@ -1,141 +1,143 @@
 //! The system that a TOML text describes.
+//!
+//! The tables are read into nodes, handlers, clients and classes. Each is kept if [`crate::check`] finds it right after those
+//! before it, so what is kept is a well-formed system. All else is a fault.
 
-ghost use Rattle.std.specs.Prelude.{◌≡◌, ◌+◌, Some, None, Ok, Err, IfOk, IfErr, take};
-ghost use Rattle.toml.specs.Data.{table};
-ghost use Rattle.toml.specs.Parse.{parse_document};
-ghost use Rattle.toml.specs.View.{view};
-ghost use Rattle.toml.specs.Errors.{IsMemory};
-ghost use Rattle.scoop_system.specs.Meaning.{parts_of, system_of};
-ghost use Rattle.scoop_system.specs.File.{Means, SaysNoSystem};
-ghost use Rattle.scoop_system.specs.Stop.{IfFault};
+ghost use Rattle.std.specs.Prelude.{◌≡◌, [], IfOk, OnOk};
+ghost use Rattle.scoop_system.specs.WellFormed.{AreParts, IsIdentity, IsWellFormed};
 
-mod addresses;
 mod class;
 mod formula;
-mod identity;
+mod found;
+mod item;
+mod lines;
 mod party;
-mod place;
-mod stop;
-mod term;
-mod used;
-mod value;
+mod suggesting;
+mod toml_fault;
 
-use crate::error::{Key, SystemError, TomlFault};
+use crate::check::identity_fault;
+use crate::class::OwnClass;
+use crate::fault::SystemError;
 use crate::identity::Identity;
+use crate::key::Key;
+use crate::phrase::Phrase;
+use crate::place::{ClientPlace, HandlerPlace, NodePlace};
 use crate::system::System;
 use class::read_classes;
-use identity::read_identity;
+use found::Found;
+use item::{Kind, number_at};
 use party::{read_clients, read_handlers, read_nodes};
-use place::check_keys;
+use scoop_message::OutOfMemory;
 use std::alloc::Global;
-pub(crate) use stop::Stop;
 use toml::Value;
-
-/// Classes of one file, at most: as many as handlers.
-pub const MAX_CLASSES: usize = 64;
-
-// The system that a TOML table describes.
-pub(crate) fn read_table(alloc: Global, file: &Value) -> Result<System, Stop>
-    ensures ok { IfOk result (λ system. system_of (view file.now) ≡ Ok system) }
-    ensures fault { IfErr result (λ e. IfFault e (λ fault. system_of (view file.now) ≡ Err fault)) }
-{
-    check_keys(file)?;
-    let identity = read_identity(file)?;
-    read_parts(alloc, identity, file)
-}
-
-// The classes, nodes, handlers and clients of a file, as a system with this name and life.
-fn read_parts(alloc: Global, identity: Identity, file: &Value) -> Result<System, Stop>
-    ensures ok { IfOk result (λ system. parts_of identity (view file.now) ≡ Ok system) }
-    ensures fault { IfErr result (λ e. IfFault e (λ fault. parts_of identity (view file.now) ≡ Err fault)) }
-{
-    let classes = read_classes(alloc, file)?;
-    let nodes = read_nodes(alloc, file)?;
-    let handlers = read_handlers(alloc, file, classes.as_slice(), nodes.as_slice())?;
-    let clients = read_clients(alloc, file, nodes.as_slice(), handlers.as_slice())?;
-    Ok(System::new(identity, classes, nodes, handlers, clients))
-}
+use toml_fault::toml_error;
 
 impl System {
-    /// The system of a TOML text.
+    /// The system of a TOML text. It is well-formed: numbers, names and addresses are unique, and what a table names is in the
+    /// file.
     ///
     /// # Errors
-    /// - `Toml`: exactly if the text isn't TOML.
-    /// - `Fault`: exactly if the text is TOML and describes no system. It is the first fault: of the file's keys, then of
-    ///   its name and life, its classes, nodes, handlers and clients, each in the order of the file. Within a client's
-    ///   table, its unknown keys come first, then its number, address, batch and handlers. The handlers are read from the
-    ///   left. A taken number or address comes last.
+    /// - `Toml`: the text isn't TOML.
+    /// - `Faults`: the text is TOML, and these tables have faults.
     /// - `OutOfMemory`: an allocation was refused.
     pub fn read(alloc: Global, text: &str) -> Result<System, SystemError>
-        ensures system { IfOk result (λ system. Means text.now (Ok system)) }
-        ensures error { IfErr result (SaysNoSystem text.now) }
+        ensures { IfOk result IsWellFormed }
     {
-        let table = match toml::table_from_str(alloc, text) {
-            Ok(table) => table,
-            Err(error) => return Err(toml_error(text, error)),
-        };
-        match read_table(alloc, &Value::Table(table)) {
-            Ok(system) => Ok(system),
-            Err(Stop::Fault(fault)) => Err(SystemError::Fault(fault)),
-            Err(Stop::OutOfMemory) => Err(SystemError::OutOfMemory),
+        match toml::table_from_str(alloc, text) {
+            Ok(table) => read_file(alloc, text, &Value::Table(table)),
+            Err(error) => Err(toml_error(text, error)),
         }
     }
 }
 
-// TOML's own error, with its place in the text.
-fn toml_error(text: &str, error: toml::de::Error) -> SystemError
-    requires { ¬ IsMemory error → parse_document text.now ≡ None }
-    ensures { SaysNoSystem text.now result }
+// The system of a text that means this table.
+fn read_file<'a>(alloc: Global, text: &'a str, file: &'a Value) -> Result<System, SystemError>
+    ensures { IfOk result IsWellFormed }
 {
-    let Some(span) = error.span() else {
-        return SystemError::OutOfMemory;
+    let mut found = Found::new(alloc, text, file);
+    match read_parts(&mut found) {
+        Ok(system) if found.faults.count() == 0 => Ok(system),
+        Ok(_) if !found.refused => Err(SystemError::Faults(found.faults)),
+        _ => Err(SystemError::OutOfMemory),
+    }
+}
+
+// The tables that have no fault.
+fn read_parts(found: &mut Found<'_>) -> Result<System, OutOfMemory>
+    ensures { IfOk result IsWellFormed }
+{
+    let alloc = found.alloc;
+    let identity = read_identity(found);
+    let mut classes = Vec::new(alloc);
+    let mut nodes = Vec::new(alloc);
+    let mut handlers = Vec::new(alloc);
+    let mut clients = Vec::new(alloc);
+    match read_lists(found, &mut classes, &mut nodes, &mut handlers, &mut clients) {
+        Ok(()) => Ok(System::new(identity, classes, nodes, handlers, clients)),
+        Err(error) => Err(error),
+    }
+}
+
+// Fills empty lists. They are borrowed, so that no early return has to drop them.
+#[tactic(auto, using(crate::proofs::WellFormedLemmas::classes_none, crate::proofs::WellFormedLemmas::nodes_none, crate::proofs::WellFormedLemmas::handlers_none, crate::proofs::WellFormedLemmas::clients_none))]
+fn read_lists(
+    found: &mut Found<'_>,
+    classes: &mut Vec<OwnClass>,
+    nodes: &mut Vec<NodePlace>,
+    handlers: &mut Vec<HandlerPlace>,
+    clients: &mut Vec<ClientPlace>,
+) -> Result<(), OutOfMemory>
+    requires no_class { classes.old.items ≡ [] }
+    requires no_node { nodes.old.items ≡ [] }
+    requires no_handler { handlers.old.items ≡ [] }
+    requires no_client { clients.old.items ≡ [] }
+    ensures { OnOk result (AreParts classes.new.items nodes.new.items handlers.new.items clients.new.items) }
+{
+    read_classes(classes, found)?;
+    read_nodes(nodes, found)?;
+    read_handlers(handlers, classes.as_slice(), nodes.as_slice(), found)?;
+    read_clients(clients, nodes.as_slice(), handlers.as_slice(), found)
+}
+
+// The name and the life of a file; none without a table of them.
+fn read_identity(found: &mut Found<'_>) -> Identity
+    ensures { IsIdentity result }
+{
+    let file = found.file();
+    found.check_keys(
+        &file,
+        &[
+            Key::System,
+            Key::Class,
+            Key::Node,
+            Key::Handler,
+            Key::Client,
+        ],
+    );
+    let Some(table) = file.value.get("system") else {
+        return Identity::none();
     };
-    let (line, column) = position(text, span.start);
-    SystemError::Toml(TomlFault {
-        line,
-        column,
-        error,
-        single: single_before(text, line),
-    })
-}
-
-// The kind of the first table in single brackets up to this line, counted from 1, if the line begins a table. A system's
-// tables have double brackets, so this table is the cause of TOML's fault.
-fn single_before(text: &str, line: usize) -> Option<Key> {
-    let mut single = None;
-    for (above, header) in text.lines().take(line).enumerate() {
-        single = single.or(single_header(header));
-        if above + 1 == line && header.trim_start().starts_with('[') {
-            return single;
-        }
-    }
-    None
-}
-
-// The kind of the table that a line begins in single brackets.
-fn single_header(line: &str) -> Option<Key> {
-    let (header, _) = line.split_once('#').unwrap_or((line, ""));
-    match header.trim() {
-        "[class]" => Some(Key::Class),
-        "[node]" => Some(Key::Node),
-        "[handler]" => Some(Key::Handler),
-        "[client]" => Some(Key::Client),
-        "[class.operation]" => Some(Key::Operation),
-        _ => None,
+    let item = found.item(table, Kind::System, 0);
+    found.check_keys(&item, &[Key::Name, Key::Life]);
+    let identity = Identity {
+        name: found.optional_name(&item),
+        life: found.or_blank(&item, life_at(table), None),
+    };
+    let wrong = identity_fault(&identity);
+    if found.passes(&item, wrong) {
+        identity
+    } else {
+        Identity::none()
     }
 }
 
-// The line and the column of a place in a text, both from 1. A column counts characters.
-fn position(text: &str, start: usize) -> (usize, usize) {
-    let mut line = 1usize;
-    let mut column = 1usize;
-    for byte in text.as_bytes().iter().take(start) {
-        if *byte == b'\n' {
-            line = line.saturating_add(1);
-            column = 1;
-        } else if *byte & 0xC0 != 0x80 {
-            column = column.saturating_add(1);
-        }
+// The life in a table, if it has one.
+fn life_at(table: &Value) -> Result<Option<u32>, Phrase> {
+    if table.get("life").is_none() {
+        return Ok(None);
     }
-    (line, column)
+    match number_at(table, Key::Life, 1, u64::from(u32::MAX)) {
+        Ok(life) => Ok(Some(life as u32)),
+        Err(wrong) => Err(wrong),
+    }
 }

@@ -9,7 +9,7 @@ use std::fmt;
 
 /// A word of a line, as faults print it: its first 32 bytes, with a `?` for each that isn't printable ASCII, and zeros after
 /// them. Printed without the zeros.
-#[derive(Clone, Copy, Debug, PartialEq, Eq)]
+#[derive(Clone, Copy)]
 pub struct ShownWord {
     pub letters: [u8; MAX_NAME_LEN],
 }

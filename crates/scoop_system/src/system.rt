@@ -1,9 +1,9 @@
 //! A system as its file describes it.
 
-ghost use Rattle.std.specs.Prelude.{◌≡◌, ◌==◌, find, IfOk};
-ghost use Rattle.std.specs.Option.{option_copied, option_map};
+ghost use Rattle.std.specs.Prelude.{◌≡◌, IfOk};
+ghost use Rattle.std.specs.Option.{option_copied};
 ghost use Rattle.scoop_system.specs.Arguments.{handler_arguments};
-ghost use Rattle.scoop_system.specs.System.{Plan, class_table, class_operation, handler_named, handler_of_name, has_name, operation_named};
+ghost use Rattle.scoop_system.specs.System.{Plan, class_table, class_operation, client_named, handler_named, handler_of_name, has_name, node_named, operation_named};
 
 use crate::arguments::class_arguments;
 use crate::class::{OwnClass, class_named};
@@ -92,18 +92,16 @@ impl System {
 
     /// The node of this number, if there is one.
     pub fn node(&self, number: u32) -> Option<&NodePlace>
-        ensures { option_copied result ≡ find (λ n. n.number == number) self.now.nodes }
+        ensures { option_copied result ≡ node_named self.now.nodes number }
     {
-        self.nodes.iter().find(|node| node.number == number)
+        node_of(self.nodes.as_slice(), number)
     }
 
     /// The handler of this number, if there is one.
     pub fn handler(&self, handler: HandlerId) -> Option<&HandlerPlace>
         ensures { option_copied result ≡ handler_named self.now.handlers handler }
     {
-        self.handlers
-            .iter()
-            .find(|place| place.handler.0 == handler.0)
+        handler_of(self.handlers.as_slice(), handler)
     }
 
     /// The number of the handler of this name, if there is one.
@@ -115,9 +113,9 @@ impl System {
 
     /// The client of this number, if there is one.
     pub fn client(&self, client: ClientId) -> Option<&ClientPlace>
-        ensures { option_copied result ≡ find (λ c. c.client.0 == client.0) self.now.clients }
+        ensures { option_copied result ≡ client_named self.now.clients client }
     {
-        self.clients.iter().find(|place| place.client.0 == client.0)
+        client_of(self.clients.as_slice(), client)
     }
 
     /// The class of a handler's object, in memory of this allocator. `None` if the handler is of another system.
@@ -154,6 +152,27 @@ impl System {
             None => None,
         }
     }
+}
+
+// The node of this number, if there is one.
+pub(crate) fn node_of(nodes: &[NodePlace], number: u32) -> Option<&NodePlace>
+    ensures { option_copied result ≡ node_named nodes.now number }
+{
+    nodes.iter().find(|node| node.number == number)
+}
+
+// The handler of this number, if there is one.
+pub(crate) fn handler_of(handlers: &[HandlerPlace], handler: HandlerId) -> Option<&HandlerPlace>
+    ensures { option_copied result ≡ handler_named handlers.now handler }
+{
+    handlers.iter().find(|place| place.handler.0 == handler.0)
+}
+
+// The client of this number, if there is one.
+pub(crate) fn client_of(clients: &[ClientPlace], client: ClientId) -> Option<&ClientPlace>
+    ensures { option_copied result ≡ client_named clients.now client }
+{
+    clients.iter().find(|place| place.client.0 == client.0)
 }
 
 // The number of the handler of this name, if there is one.

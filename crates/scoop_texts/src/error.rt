@@ -14,7 +14,7 @@ use std::error::Error;
 use std::fmt;
 
 /// Why a node or a client ended early. The program prints the text after `scoop: `.
-#[derive(Clone, Copy, Debug, PartialEq, Eq)]
+#[derive(Clone, Copy, Debug)]
 pub enum RuntimeError {
     /// The line of this number, counted from 1, can't be read.
     Line(u32, LineFault),

@@ -36,7 +36,7 @@ pub struct Progress {
 }
 
 /// The error that ended a client, and its progress.
-#[derive(Clone, Copy, Debug, PartialEq, Eq)]
+#[derive(Clone, Copy, Debug)]
 pub struct ClientStop {
     /// The error.
     pub error: RuntimeError,

@@ -2,11 +2,11 @@
 
 use crate::shown_word::ShownWord;
 use scoop_message::HandlerId;
-use std::error::Error;
 use std::fmt;
+use thiserror::Error;
 
 /// The fault of a line. Printed in words, as `not a number "stock"`.
-#[derive(Clone, Copy, Debug, PartialEq, Eq)]
+#[derive(Clone, Copy, Error)]
 pub enum LineFault {
     /// The first word is unknown.
     UnknownLine(ShownWord),
@@ -70,4 +70,8 @@ impl fmt::Display for LineFault {
     }
 }
 
-impl Error for LineFault {}
+impl fmt::Debug for LineFault {
+    fn fmt<W: fmt::Write>(&self, f: &mut fmt::Formatter<W>) -> fmt::Result {
+        write!(f, "{self}")
+    }
+}

@@ -54,8 +54,5 @@ fn read_handlers(system: &System, line: &[u8]) -> Result<NamedHandlers, LineFaul
         count += 1;
         rest = behind;
     }
-    match NamedHandlers::of(&handlers[..count]) {
-        Ok(handlers) => Ok(handlers),
-        Err(_) => unreachable!(),
-    }
+    Ok(NamedHandlers::of(&handlers[..count]))
 }

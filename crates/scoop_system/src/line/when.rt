@@ -141,19 +141,8 @@ fn read_conditions(system: &System, line: &[u8]) -> Result<NamedConditions, Line
         conditions[place] = condition;
         match find_more(back) {
             Some(more) => rest = more,
-            None => return named(&conditions[..place + 1]),
+            None => return Ok(NamedConditions::of(&conditions[..place + 1])),
         }
     }
     Err(LineFault::TooManyConditions)
-}
-
-// The conditions as those of a line. They are few enough.
-fn named(conditions: &[NamedCondition]) -> Result<NamedConditions, LineFault>
-    requires { length conditions.now ≤ MAX_CONDITIONS }
-    ensures { result ≡ Ok conditions.now }
-{
-    match NamedConditions::of(conditions) {
-        Ok(conditions) => Ok(conditions),
-        Err(_) => unreachable!(),
-    }
 }

@@ -1,196 +1,130 @@
 //! The classes of a file.
 
-ghost use Rattle.std.specs.Prelude.{◌≡◌, ◌≤◌, ◌==◌, [], length, map, is_some, Ok, Err, IfOk, IfErr};
-ghost use Rattle.std.specs.List.{list_any};
-ghost use Rattle.toml.specs.View.{view};
-ghost use Rattle.scoop_message.specs.declared.limits.TheConstants.{MAX_WORDS, MAX_OPS};
-ghost use Rattle.scoop_object.specs.Class.{IsClass};
-ghost use Rattle.scoop_classes.specs.Classes.{same_text, class_of_name};
-ghost use Rattle.scoop_system.specs.Classes.{class_of, classes_from, class_head, operations_from, class_before};
-ghost use Rattle.scoop_system.specs.Meaning.{classes_of};
-ghost use Rattle.scoop_system.specs.Terms.{operation_of};
-ghost use Rattle.scoop_system.specs.Stop.{IfFault};
+ghost use Rattle.std.specs.Prelude.{OnOk};
+ghost use Rattle.scoop_system.specs.WellFormed.{AreClasses, AreOperations};
 
-use super::MAX_CLASSES;
-use super::place::{at, class_place, operation_place};
-use super::stop::Stop;
-use super::term::{answer_at, test_at, writes_at};
-use super::value::{key_fault, list_at, name_at, number_at};
-use crate::class::{OwnClass, OwnOperation, class_named, operation_named};
-use crate::error::{Fault, Key, Place, Wrong};
+use super::formula::{answer_at, read_write, test_at};
+use super::found::Found;
+use super::item::{Item, Kind};
+use crate::check::{MAX_CLASSES, class_fault, operation_fault};
+use crate::class::{OwnClass, OwnOperation};
+use crate::key::Key;
 use crate::name::Name;
-use scoop_classes::DemoClass;
-use scoop_message::limits::{MAX_OPS, MAX_WORDS};
-use scoop_object::{Class, ClassError, OpRow};
-use std::alloc::Global;
-use toml::Value;
+use crate::phrase::{Form, Phrase};
+use scoop_message::OutOfMemory;
+use scoop_message::limits::{MAX_OPS, MAX_WORDS, MAX_WRITES};
+use scoop_object::{Class, ClassError, OpRow, Term, Write, Writes};
 
-// The name and the number of words of a class, and the values of its operations.
-#[derive(Drop)]
-struct ClassHead<'a> {
-    name: Name,
-    words: u8,
-    operations: &'a [Value],
-}
+// The value of an unused cell, and of a write with a fault.
+const BLANK: Write = Write {
+    word: 0,
+    base: Term::Const(0),
+    plus: Term::Const(0),
+    minus: Term::Const(0),
+};
 
-// The classes of a file.
-pub(super) fn read_classes(alloc: Global, file: &Value) -> Result<Vec<OwnClass>, Stop>
-    ensures ok { IfOk result (λ classes. classes_of (view file.now) ≡ Ok classes.items) }
-    ensures fault { IfErr result (λ e. IfFault e (λ fault. classes_of (view file.now) ≡ Err fault)) }
+// Adds the classes of a file.
+pub(super) fn read_classes(
+    classes: &mut Vec<OwnClass>,
+    found: &mut Found<'_>,
+) -> Result<(), OutOfMemory>
+    requires { AreClasses classes.old.items }
+    ensures { OnOk result (AreClasses classes.new.items) }
 {
-    let values = at(Place::File, list_at(file, Key::Class, MAX_CLASSES))?;
-    let mut classes = Vec::new(alloc);
-    match add_classes(alloc, &mut classes, values) {
-        Ok(()) => Ok(classes),
-        Err(stop) => Err(stop),
-    }
-}
-
-// Adds the classes of these values.
-fn add_classes(alloc: Global, classes: &mut Vec<OwnClass>, values: &[Value]) -> Result<(), Stop>
-    ensures ok { IfOk result (λ _. classes_from classes.old.items (map view values.now) ≡ Ok classes.new.items) }
-    ensures fault { IfErr result (λ e. IfFault e (λ fault. classes_from classes.old.items (map view values.now) ≡ Err fault)) }
-{
-    for value in values {
-        let class = read_class(alloc, value, classes.as_slice())?;
-        classes.push(class)?;
+    let values = found.tables(Kind::Class, MAX_CLASSES);
+    for (before, value) in values.iter().enumerate() {
+        let item = found.item(value, Kind::Class, before);
+        read_class(&item, classes, found)?;
     }
     Ok(())
 }
 
-// A class, after those before it.
-fn read_class(alloc: Global, value: &Value, done: &[OwnClass]) -> Result<OwnClass, Stop>
-    ensures ok { IfOk result (λ class. class_of done.now (view value.now) ≡ Ok class) }
-    ensures fault { IfErr result (λ e. IfFault e (λ fault. class_of done.now (view value.now) ≡ Err fault)) }
+// Adds a class.
+#[tactic(auto, using(crate::proofs::WellFormedLemmas::operations_none))]
+fn read_class(
+    item: &Item<'_>,
+    classes: &mut Vec<OwnClass>,
+    found: &mut Found<'_>,
+) -> Result<(), OutOfMemory>
+    requires { AreClasses classes.old.items }
+    ensures { OnOk result (AreClasses classes.new.items) }
 {
-    let place = class_place(value, done.len() + 1);
-    let head = match class_head(value, done) {
-        Ok(head) => head,
-        Err(wrong) => return Err(Stop::Fault(Fault { place, wrong })),
-    };
-    let mut rows = Vec::with_capacity(alloc, head.operations.len())?;
-    let mut operations = Vec::with_capacity(alloc, head.operations.len())?;
-    read_operations(&head, &mut rows, &mut operations)?;
-    let class = build_class(alloc, head.words, rows.as_slice())?;
-    Ok(OwnClass::new(head.name, class, operations))
-}
-
-// The class of rows that make one.
-fn build_class(alloc: Global, words: u8, rows: &[OpRow]) -> Result<Class, Stop>
-    requires { IsClass words rows.now }
-    ensures ok { IfOk result (λ class. class ≡ record { words = words; rows = rows.now }) }
-    ensures refused { IfErr result (λ e. e ≡ Stop.OutOfMemory) }
-{
-    match Class::build(alloc, words, rows) {
-        Ok(class) => Ok(class),
-        Err(ClassError::OutOfMemory) => Err(Stop::OutOfMemory),
-        Err(_) => unreachable!(),
+    found.check_keys(item, &[Key::Name, Key::Words, Key::Operation]);
+    let name = found.name(item);
+    let words = found.number(item, Key::Words, 1, MAX_WORDS as u64) as u8;
+    let mut rows = Vec::new(found.alloc);
+    let mut operations = Vec::new(found.alloc);
+    read_operations(item, name, words, &mut rows, &mut operations, found)?;
+    match Class::build(found.alloc, words, rows.as_slice()) {
+        Ok(class) => {
+            let class = OwnClass::new(name, class, operations);
+            let wrong = class_fault(classes.as_slice(), &class);
+            found.keep(item, wrong, class, classes)?;
+            Ok(())
+        }
+        Err(ClassError::OutOfMemory) => Err(OutOfMemory),
+        Err(_) => {
+            found.add(item, Phrase::plain(Form::NoClass));
+            Ok(())
+        }
     }
 }
 
-// The name, the number of words and the operations' values of a class.
-fn class_head<'a>(value: &'a Value, done: &[OwnClass]) -> Result<ClassHead<'a>, Wrong>
-    ensures ok { IfOk result (λ h. class_head done.now (view value.now)
-        ≡ Ok (record { name = h.name; words = h.words; operations = map view h.operations.now })) }
-    ensures fault { IfErr result (λ wrong. class_head done.now (view value.now) ≡ Err wrong) }
-    ensures some { IfOk result (λ h. 1 ≤ h.words) }
-    ensures few { IfOk result (λ h. h.words ≤ MAX_WORDS) }
-    ensures room { IfOk result (λ h. length h.operations.now ≤ MAX_OPS) }
-{
-    if let Some(wrong) = key_fault(value, &[Key::Name, Key::Words, Key::Operation]) {
-        return Err(wrong);
-    }
-    let name = name_at(value, Key::Name)?;
-    let words = number_at(value, Key::Words, 1, MAX_WORDS as u64)? as u8;
-    let operations = list_at(value, Key::Operation, MAX_OPS)?;
-    if let Some(wrong) = class_before(done, name) {
-        return Err(wrong);
-    }
-    Ok(ClassHead {
-        name,
-        words,
-        operations,
-    })
-}
-
-// The fault of a name that a class before it has.
-fn class_before(classes: &[OwnClass], name: Name) -> Option<Wrong>
-    ensures { result ≡ class_before classes.now name }
-{
-    if DemoClass::from_name(name.as_str()).is_some() {
-        Some(Wrong::KnownClass)
-    } else if class_named(classes, name.as_bytes()).is_some() {
-        Some(Wrong::Twice)
-    } else {
-        None
-    }
-}
-
-// The operations of a class, with their names.
+// Adds the operations of a class: their rows, and their names.
 fn read_operations(
-    head: &ClassHead<'_>,
+    class: &Item<'_>,
+    name: Name,
+    words: u8,
     rows: &mut Vec<OpRow>,
     operations: &mut Vec<OwnOperation>,
-) -> Result<(), Stop>
-    requires { head.now.words ≤ MAX_WORDS }
-    ensures ok { IfOk result (λ _. operations_from head.now.name head.now.words rows.old.items operations.old.items (map view head.now.operations.now)
-        ≡ Ok (rows.new.items, operations.new.items)) }
-    ensures fault { IfErr result (λ e. IfFault e (λ fault.
-        operations_from head.now.name head.now.words rows.old.items operations.old.items (map view head.now.operations.now) ≡ Err fault)) }
+    found: &mut Found<'_>,
+) -> Result<(), OutOfMemory>
+    requires { AreOperations rows.old.items operations.old.items }
+    ensures { OnOk result (AreOperations rows.new.items operations.new.items) }
 {
-    for value in head.operations {
-        let place = operation_place(value, head.name, rows.len() + 1);
-        let words = usize::from(head.words);
-        match at(
-            place,
-            read_operation(value, words, rows.as_slice(), operations.as_slice()),
-        ) {
-            Ok((row, operation)) => {
-                rows.push(row)?;
-                operations.push(operation)?;
-            }
-            Err(fault) => return Err(Stop::Fault(fault)),
+    let values = found.list(class, Key::Operation, MAX_OPS);
+    for (before, value) in values.iter().enumerate() {
+        let item = found.operation(value, before, class, name);
+        let (row, name) = read_operation(&item, words, found);
+        let operation = OwnOperation {
+            number: row.op,
+            name,
+        };
+        let wrong = operation_fault(operations.as_slice(), &operation, row.writes.as_slice());
+        if found.keep(&item, wrong, operation, operations)? {
+            rows.push(row)?;
         }
     }
     Ok(())
 }
 
-// An operation and its name, after those before it.
-fn read_operation(
-    value: &Value,
-    words: usize,
-    rows: &[OpRow],
-    operations: &[OwnOperation],
-) -> Result<(OpRow, OwnOperation), Wrong>
-    requires { words ≤ MAX_WORDS }
-    ensures { result ≡ operation_of words rows.now operations.now (view value.now) }
-{
+// An operation and its name.
+fn read_operation(item: &Item<'_>, words: u8, found: &mut Found<'_>) -> (OpRow, Name) {
     let known = [Key::Number, Key::Name, Key::Test, Key::Writes, Key::Answer];
-    if let Some(wrong) = key_fault(value, &known) {
-        return Err(wrong);
-    }
-    let number = number_at(value, Key::Number, 0, u64::from(u16::MAX))? as u16;
-    let name = name_at(value, Key::Name)?;
-    let test = test_at(value, words)?;
-    let writes = writes_at(value, words)?;
-    let answer = answer_at(value, words)?;
-    if has_number(rows, number) {
-        return Err(Wrong::Twice);
-    }
-    if operation_named(operations, name.as_bytes()).is_some() {
-        return Err(Wrong::NameTwice(name));
-    }
+    found.check_keys(item, &known);
+    let op = found.number(item, Key::Number, 0, u64::from(u16::MAX)) as u16;
+    let name = found.name(item);
+    let test = found.or_blank(item, test_at(item.value, words), None);
+    let writes = read_writes(item, words, found);
+    let answer = found.or_blank(item, answer_at(item.value, words), Term::Const(0));
     let row = OpRow {
-        op: number,
+        op,
         test,
         writes,
         answer,
     };
-    Ok((row, OwnOperation { number, name }))
+    (row, name)
 }
 
-fn has_number(rows: &[OpRow], number: u16) -> bool
-    ensures { result ≡ list_any (λ row. row.op == number) rows.now }
-{
-    rows.iter().any(|row| row.op == number)
+// The writes of an operation.
+fn read_writes(item: &Item<'_>, words: u8, found: &mut Found<'_>) -> Writes {
+    let values = found.list(item, Key::Writes, MAX_WRITES);
+    let mut cells = [BLANK; MAX_WRITES];
+    for (cell, value) in cells.iter_mut().zip(values) {
+        *cell = found.or_blank(item, read_write(value, words), BLANK);
+    }
+    match Writes::of(&cells[..values.len().min(MAX_WRITES)]) {
+        Ok(writes) => writes,
+        Err(_) => unreachable!(),
+    }
 }

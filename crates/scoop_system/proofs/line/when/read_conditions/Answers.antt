@@ -18,7 +18,7 @@ returns-in-None c =
     let i = c.loop-place.place in
     let front = take i c.loop-place.conditions in
     let within : i < length c.loop-place.conditions = omega (arith, c.loop-place.invariant.size, c.loop-place-test.true) in
-    c.named.ensures ∙ ap Ok (take_more_set c.loop-place.conditions i c.in-Ok.read.0 within)
+    c.of.ensures ∙ ap Ok (take_more_set c.loop-place.conditions i c.in-Ok.read.0 within)
     ∙ sym (c.loop-place.invariant.read
     ∙ condition_last c.args.system.now i (words_of c.loop-place.rest.now) front c.in-Ok.read.0 (words_of c.in-Ok.read.1.now) c.loop-place-test.true
     c.in-Ok.ensures c.in-None.ensures)

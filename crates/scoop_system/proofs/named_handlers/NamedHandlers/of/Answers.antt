@@ -5,4 +5,4 @@ use Rattle.scoop_system.proofs.named_handlers.NamedHandlers.of.Goals as goal
 
 pub invariant_of-result : goal.invariant_of-result
 invariant_of-result c =
-    padded_start nobody MAX_HANDLERS c.args.handlers.now c.copy_from_slice.new.self c.copy_from_slice.ensures.after c.if-count-gt-MAX_HANDLERS.false
+    padded_start nobody MAX_HANDLERS c.args.handlers.now c.copy_from_slice.new.self c.copy_from_slice.ensures.after c.requires

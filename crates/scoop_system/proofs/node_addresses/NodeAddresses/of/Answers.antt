@@ -6,4 +6,4 @@ use Rattle.scoop_system.proofs.node_addresses.NodeAddresses.of.Goals as goal
 pub invariant_of-result : goal.invariant_of-result
 invariant_of-result c =
     rw c.nowhere-cells.ensures
-    (padded_start nowhere MAX_ADDRESSES c.args.addresses.now c.copy_from_slice.new.self c.copy_from_slice.ensures.after c.if-count-gt-MAX_ADDRESSES.false)
+    (padded_start nowhere MAX_ADDRESSES c.args.addresses.now c.copy_from_slice.new.self c.copy_from_slice.ensures.after c.requires)

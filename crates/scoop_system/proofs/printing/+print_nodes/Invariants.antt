@@ -1,5 +1,0 @@
-use Rattle.std.proofs.Common.{length}
-use Rattle.scoop_system.proofs.printing.+print_nodes.Given as goal
-
-abbrev pub decreases-print_nodes : goal.decreases-print_nodes
-decreases-print_nodes g l = length l.nodes.now
