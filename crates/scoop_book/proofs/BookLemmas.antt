@@ -2,7 +2,7 @@
 -- found, and puts its state with the keeper. That is the move of the event's handler. Afterwards the keeper has the new state, and
 -- of all others what it had. A refusal leaves the handlers as they were, and names the reason.
 use Rattle.std.proofs.Common.{◌≡◌, ◌⊎◌, ⊎_elim, ◌||◌, ℕ, zero, suc, ◌+◌, ◌<◌, ◌≤◌, Bool, true, false, true≢false, List, [], ◌∷◌, ◌++◌, map, length, set, get_or}
-use Rattle.std.proofs.Common.{slice_get, Option, Some, None, Result, Ok, Err, refl, sym, ap, ◌∙◌, subst, arith, length-append}
+use Rattle.std.proofs.Common.{slice_get, Option, Some, None, Result, Ok, Err, refl, sym, ap, ◌∙◌, subst, arith, length-append, append_assoc, append-nil}
 use Rattle.std.specs.Prelude.{◌≢◌, ◌↔◌, ⊤, IfSome, IfOk, IfErr, OnOk, OnErr}
 use Rattle.std.specs.List.{AllByRecursion}
 use Rattle.scoop_message.specs.declared.name.HandlerId.{HandlerId}
@@ -19,7 +19,7 @@ use Rattle.scoop_handler.proofs.Basics.{all_at, key_found}
 use Rattle.scoop_handler.proofs.TableRows.{row}
 use Rattle.scoop_handler.proofs.TableLaws.{number-row}
 use Rattle.scoop_keeper.specs.declared.keeper.KeeperError.{KeeperError}
-use Rattle.scoop_keeper.specs.Keeper.{Stored, Holds, stored_of, Keeps, Stays}
+use Rattle.scoop_keeper.specs.Keeper.{Stored, Holds, stored_of, Keeps, Stays, Lasts, as_it_was, all_it_had, all_it_has}
 use Rattle.scoop_book.specs.declared.event.Event.{Event}
 use Rattle.scoop_book.specs.declared.event.Event.TheVariants.{Hear, Begin, Finish}
 use Rattle.scoop_book.specs.declared.event.Reply.{Reply}
@@ -35,9 +35,10 @@ use Rattle.scoop_book.specs.declared.error.BookError.{BookError}
 use Rattle.scoop_book.specs.declared.error.BookError.TheVariants.{NodeFailed, HistoryFull, UnknownHandler, StoreRefused, OutOfMemory}
 use Rattle.scoop_book.specs.declared.error.FinishRefusal.{FinishRefusal}
 use Rattle.scoop_book.specs.declared.error.FinishRefusal.TheVariants as unfinished
-use Rattle.scoop_book.specs.Books.{BookValue, IsBook, IsSince, HasStored, KeepsNew, Gains, MayHappen, IsRefused, IsStranger, MayFinish, IsUncommitted, IsUnfinished, HasNoPlace}
+use Rattle.scoop_book.specs.Books.{BookValue, IsBook, IsDurable, IsSince, HasStored, KeepsNew, Gains, MayHappen, IsRefused, IsStranger, MayFinish, IsUncommitted, IsUnfinished, HasNoPlace}
 use Rattle.scoop_book.specs.Books.{fails_to_finish, no_place_to_finish, refusal_of}
 use Rattle.scoop_book.specs.Kept.{IsHeld, HandlersValue, handlers_kept, book_kept}
+use Rattle.scoop_keeper.proofs.KeeperLemmas.{lasts_same}
 use Rattle.scoop_book.proofs.Places.{own_found}
 
 -- a replay goes on by a move
@@ -297,6 +298,23 @@ since_on : {K : Type 0} (has : K → ℕ → Stored → Type 0) (is_honest : K �
 since_on has is_honest opening k l since honest =
     record { first = since.first; honest = λ h. since.honest (honest h); had = λ h. since.had (honest h) }
 
+-- what outlasts after a call is what a first part of the history stored, if the history goes on or stays
+durable_on : (had has outlasted outlasts : ℕ → Stored → Type 0) (opening hs ks : List LocalHandler) (es more fs : List Entry) → fs ≡ es ++ more
+    → Replays opening es hs → Replays opening fs ks → AllByRecursion (HasStored had) hs → AllByRecursion (HasStored has) ks → Lasts had has outlasted outlasts
+    → IsDurable outlasted opening es → IsDurable outlasts opening fs
+durable_on had has outlasted outlasts opening hs ks es more fs longer old new before after (as_it_was stays) d = record {
+  done = d.done;
+  lost = d.lost ++ more;
+  parts = longer ∙ ap (λ (xs : List Entry). xs ++ more) d.parts ∙ append_assoc d.done d.lost more;
+  handlers = d.handlers;
+  replays = d.replays;
+  stored = kept_stays outlasted outlasts d.handlers stays d.stored;
+}
+durable_on had has outlasted outlasts opening hs ks es more fs longer old new before after (all_it_had stays) d =
+    record { done = es; lost = more; parts = longer; handlers = hs; replays = old; stored = kept_stays had outlasts hs stays before }
+durable_on had has outlasted outlasts opening hs ks es more fs longer old new before after (all_it_has stays) d =
+    record { done = fs; lost = []; parts = sym (append-nil fs); handlers = ks; replays = new; stored = kept_stays has outlasts ks stays after }
+
 module _ {K : Type 0} (opening : List LocalHandler) (v : HandlersValue K) (es : List Entry) (limit : ℕ) (failed : Bool) (b : BookValue K)
     (view : book_kept opening v.handlers es limit failed v.keeper ≡ b) where
   pub keeper_is : v.keeper ≡ b.keeper
@@ -325,32 +343,54 @@ module _ {K : Type 0} (opening : List LocalHandler) (v : HandlersValue K) (es : 
         subst (λ (x : BookValue K). Gains pass event reply x (book_kept opening w.handlers fs limit failed w.keeper)) view
         (record { moves = moves; history = entered; opening = refl; limit = refl; failed = refl })
 
-    pub book_more : (has : K → ℕ → Stored → Type 0) (is_honest : K → Type 0)
-        → IsBook has is_honest (book_kept opening v.handlers es limit failed v.keeper) → length es < limit → IsHeld has is_honest w
-        → (is_honest w.keeper → is_honest v.keeper) → IsBook has is_honest (book_kept opening w.handlers fs limit failed w.keeper)
-    book_more has is_honest book room held honest =
+    pub book_more : (has outlasting : K → ℕ → Stored → Type 0) (is_honest : K → Type 0)
+        → IsBook has outlasting is_honest (book_kept opening v.handlers es limit failed v.keeper) → length es < limit → IsHeld has is_honest w
+        → (is_honest w.keeper → is_honest v.keeper)
+        → (is_honest w.keeper → Lasts (has v.keeper) (has w.keeper) (outlasting v.keeper) (outlasting w.keeper))
+        → IsBook has outlasting is_honest (book_kept opening w.handlers fs limit failed w.keeper)
+    book_more has outlasting is_honest book room held honest lasts =
         let longer : length fs ≡ length es + 1 = ap length entered ∙ length-append es ((pass, event, reply) ∷ []) in
+        let replays : Replays opening fs w.handlers = subst (λ (xs : List Entry). Replays opening xs w.handlers) (sym entered)
+        (replays_more opening es (pass, event, reply) v.handlers w.handlers book.replays moves) in
         record {
-          replays = subst (λ (xs : List Entry). Replays opening xs w.handlers) (sym entered)
-              (replays_more opening es (pass, event, reply) v.handlers w.handlers book.replays moves);
+          replays = replays;
           apart = held.apart;
           room = omega (arith, longer, room);
           kept = held.kept;
+          durable = λ h. durable_on (has v.keeper) (has w.keeper) (outlasting v.keeper) (outlasting w.keeper) opening v.handlers w.handlers es
+              ((pass, event, reply) ∷ []) fs entered book.replays replays (book.kept (honest h)) (held.kept h) (lasts h) (book.durable (honest h));
           since = since_on has is_honest opening v.keeper w.keeper book.since honest;
         }
 
   -- none
-  pub book_same : (has : K → ℕ → Stored → Type 0) (is_honest : K → Type 0) (w : HandlersValue K) (fs : List Entry) (fails : Bool)
-      → IsBook has is_honest (book_kept opening v.handlers es limit failed v.keeper) → w.handlers ≡ v.handlers → fs ≡ es → IsHeld has is_honest w
-      → (is_honest w.keeper → is_honest v.keeper) → IsBook has is_honest (book_kept opening w.handlers fs limit fails w.keeper)
-  book_same has is_honest w fs fails book same entries held honest = record {
-    replays = subst (λ (xs : List Entry). Replays opening xs w.handlers) (sym entries)
-        (subst (λ (ks : List LocalHandler). Replays opening es ks) (sym same) book.replays);
-    apart = held.apart;
-    room = subst (λ (xs : List Entry). length xs ≤ limit) (sym entries) book.room;
-    kept = held.kept;
-    since = since_on has is_honest opening v.keeper w.keeper book.since honest;
-  }
+  pub book_same : (has outlasting : K → ℕ → Stored → Type 0) (is_honest : K → Type 0) (w : HandlersValue K) (fs : List Entry) (fails : Bool)
+      → IsBook has outlasting is_honest (book_kept opening v.handlers es limit failed v.keeper) → w.handlers ≡ v.handlers → fs ≡ es → IsHeld has is_honest w
+      → (is_honest w.keeper → is_honest v.keeper)
+      → (is_honest w.keeper → Lasts (has v.keeper) (has w.keeper) (outlasting v.keeper) (outlasting w.keeper))
+      → IsBook has outlasting is_honest (book_kept opening w.handlers fs limit fails w.keeper)
+  book_same has outlasting is_honest w fs fails book same entries held honest lasts =
+      let replays : Replays opening fs w.handlers = subst (λ (xs : List Entry). Replays opening xs w.handlers) (sym entries)
+      (subst (λ (ks : List LocalHandler). Replays opening es ks) (sym same) book.replays) in
+      record {
+        replays = replays;
+        apart = held.apart;
+        room = subst (λ (xs : List Entry). length xs ≤ limit) (sym entries) book.room;
+        kept = held.kept;
+        durable = λ h. durable_on (has v.keeper) (has w.keeper) (outlasting v.keeper) (outlasting w.keeper) opening v.handlers w.handlers es [] fs
+            (entries ∙ sym (append-nil es)) book.replays replays (book.kept (honest h)) (held.kept h) (lasts h) (book.durable (honest h));
+        since = since_on has is_honest opening v.keeper w.keeper book.since honest;
+      }
+
+-- what outlasts after a commit
+pub lasts_committed : {T E : Type 0} (had has outlasted outlasts : ℕ → Stored → Type 0) (r : Result T E) → OnOk r (Stays has outlasts)
+    → OnErr r (Stays outlasted outlasts) → Lasts had has outlasted outlasts
+lasts_committed had has outlasted outlasts (Ok x) done refused = all_it_has done
+lasts_committed had has outlasted outlasts (Err e) done refused = as_it_was refused
+
+-- and with the same keeper
+pub lasts_there : {K : Type 0} (has outlasting : K → ℕ → Stored → Type 0) (k l : K) → l ≡ k → Lasts (has k) (has l) (outlasting k) (outlasting l)
+lasts_there has outlasting k l same =
+    subst (λ (m : _). Lasts (has k) (has m) (outlasting k) (outlasting m)) (sym same) (lasts_same (has k) (outlasting k))
 
 -- a refusal that comes only where the event may happen
 pub put_refusal : {K : Type 0} (b : BookValue K) (h : HandlerId) (e : BookError) → (e ≡ StoreRefused) ⊎ (e ≡ OutOfMemory) → MayHappen b h → IsRefused b h e

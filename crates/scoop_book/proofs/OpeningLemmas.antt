@@ -11,7 +11,7 @@ use Rattle.scoop_object.specs.Class.{ClassTable}
 use Rattle.scoop_handler.specs.State.{HandlerState}
 use Rattle.scoop_keeper.specs.Keeper.{Stored, Holds, Damaged, stored_of, IsTheOne, IsSame, Stays}
 use Rattle.scoop_keeper.specs.declared.keeper.KeeperError.TheVariants as keeper
-use Rattle.scoop_keeper.proofs.KeeperLemmas.{stays_same, stays_stays}
+use Rattle.scoop_keeper.proofs.KeeperLemmas.{is_same_more, stays_same, stays_stays}
 use Rattle.scoop_book.specs.declared.error.OpenError.{OpenError}
 use Rattle.scoop_book.specs.declared.error.OpenError.TheVariants.{NoPasses, WrongClass, Repeated, Keeper, OutOfMemory}
 use Rattle.scoop_message.specs.Lists.{NoRepeats}
@@ -107,15 +107,23 @@ module _ {B : Type 0} (words : B → List ℕ) (has now : ℕ → Stored → Typ
       let named : (number_in k).0 ≡ p.0.0 = ap (λ (n : HandlerId). n.0) (opened_number words has honest p k all.0) in
       (record { is = subst (λ n. IsTheOne (has n) (stored_of k.stored)) (sym named) (all.0.loaded h) }, all_had ps ks all.1 h)
 
-pub opened_book : {B K : Type 0} (words : B → List ℕ) (has : K → ℕ → Stored → Type 0) (is_honest : K → Type 0) (k l : K) (ps : List (Handed B))
+opened_book : {B K : Type 0} (words : B → List ℕ) (has outlasting : K → ℕ → Stored → Type 0) (is_honest : K → Type 0) (k l : K) (ps : List (Handed B))
     (opening hs : List LocalHandler) (limit : ℕ) (failed : Bool)
     → AllOpen words (has k) (is_honest l) ps hs → opening ≡ hs → NoRepeats (numbers_of ps) → (is_honest l → Stays (has k) (has l))
-    → (is_honest l → is_honest k) → IsBook has is_honest (book_kept opening hs [] limit failed l)
-opened_book words has is_honest k l ps opening hs limit failed all same apart stays honest = record {
+    → (is_honest l → Stays (has l) (outlasting l)) → (is_honest l → is_honest k) → IsBook has outlasting is_honest (book_kept opening hs [] limit failed l)
+opened_book words has outlasting is_honest k l ps opening hs limit failed all same apart stays outlasts honest = record {
   replays = same;
   apart = subst NoRepeats (sym (numbers_are words (has k) (has l) (is_honest l) ps hs all)) apart;
   room = omega arith;
   kept = λ h. are_stored words (has k) (has l) (is_honest l) ps hs all (stays h) h;
+  durable = λ h. record {
+    done = [];
+    lost = [];
+    parts = refl;
+    handlers = hs;
+    replays = same;
+    stored = are_stored words (has k) (outlasting l) (is_honest l) ps hs all (stays_stays (has k) (has l) (outlasting l) (stays h) (outlasts h)) h;
+  };
   since = record {
     first = k;
     honest = honest;
@@ -123,15 +131,24 @@ opened_book words has is_honest k l ps opening hs limit failed all same apart st
   };
 }
 
-pub opened_book_of : {B K : Type 0} (words : B → List ℕ) (has : K → ℕ → Stored → Type 0) (is_honest : K → Type 0) (k l : K) (ps : List (Handed B))
-    (opening hs : List LocalHandler) (limit : ℕ) (failed : Bool) (v : HandlersValue K) (es : List Entry)
-    → v ≡ handlers_kept hs l → es ≡ [] → AllOpen words (has k) (is_honest l) ps hs → opening ≡ hs → NoRepeats (numbers_of ps)
-    → (is_honest l → Stays (has k) (has l)) → (is_honest l → is_honest k)
-    → IsBook has is_honest (book_kept opening v.handlers es limit failed v.keeper)
-opened_book_of words has is_honest k l ps opening hs limit failed v es is none all same apart stays honest =
-    subst (λ (w : HandlersValue _). IsBook has is_honest (book_kept opening w.handlers es limit failed w.keeper)) (sym is)
-    (subst (λ (xs : List Entry). IsBook has is_honest (book_kept opening hs xs limit failed l)) (sym none)
-    (opened_book words has is_honest k l ps opening hs limit failed all same apart stays honest))
+-- a keeper after some loads, and after its commit
+module _ {K : Type 0} (has outlasting : K → ℕ → Stored → Type 0) (is_honest : K → Type 0) (k l m : K) (later : is_honest m → is_honest l) where
+  pub stays_later : (is_honest l → Stays (has k) (has l)) → (is_honest m → Stays (has l) (has m)) → is_honest m → Stays (has k) (has m)
+  stays_later before after h = stays_stays (has k) (has l) (has m) (before (later h)) (after h)
+
+  pub same_later : (incs : K → ℕ → Option ℕ) → (is_honest l → IsSame (incs k) (incs l)) → (is_honest m → IsSame (incs l) (incs m)) → is_honest m
+      → IsSame (incs k) (incs m)
+  same_later incs before after h = is_same_more (incs k) (incs l) (incs m) (before (later h)) (after h)
+
+  pub opened_book_of : {B : Type 0} (words : B → List ℕ) (ps : List (Handed B)) (opening hs : List LocalHandler) (limit : ℕ) (failed : Bool)
+      (v : HandlersValue K) (es : List Entry) → v ≡ handlers_kept hs m → es ≡ [] → AllOpen words (has k) (is_honest l) ps hs → opening ≡ hs
+      → NoRepeats (numbers_of ps) → (is_honest l → Stays (has k) (has l)) → (is_honest m → Stays (has l) (has m)) → (is_honest m → Stays (has m) (outlasting m))
+      → (is_honest l → is_honest k) → IsBook has outlasting is_honest (book_kept opening v.handlers es limit failed v.keeper)
+  opened_book_of words ps opening hs limit failed v es is none all same apart before after outlasts honest =
+      subst (λ (w : HandlersValue K). IsBook has outlasting is_honest (book_kept opening w.handlers es limit failed w.keeper)) (sym is)
+      (subst (λ (xs : List Entry). IsBook has outlasting is_honest (book_kept opening hs xs limit failed m)) (sym none)
+      (opened_book words has outlasting is_honest k m ps opening hs limit failed (all_open_later words (has k) (is_honest l) (is_honest m) later ps hs all)
+      same apart (stays_later before after) outlasts (λ h. honest (later h))))
 
 -- why they don't open, where fewer keepers are honest
 pub unloaded : {B : Type 0} (class : B → ClassTable) (has : ℕ → Stored → Type 0) (honest later : Type 0) → (later → honest)
@@ -140,9 +157,14 @@ pub unloaded : {B : Type 0} (class : B → ClassTable) (has : ℕ → Stored →
 unloaded class has honest later back ps e may why =
     inr (record {
       may = may;
-      refused = ⊎_elim inl (λ (a : Any (λ p. IsLoadRefusal has honest p.0 p.1 e) ps). inr
-          (a.0, a.1, a.2, a.3, refused_back has has honest later back (λ _. stays_same has) a.1.0 a.1.1 e a.4)) why;
+      refused = ⊎_elim inl (λ (a : Any (λ p. IsLoadRefusal has honest p.0 p.1 e) ps). inr (inr
+          (a.0, a.1, a.2, a.3, refused_back has has honest later back (λ _. stays_same has) a.1.0 a.1.1 e a.4))) why;
     })
+
+-- and why their states aren't committed
+pub unsettled : {B : Type 0} (class : B → ClassTable) (has : ℕ → Stored → Type 0) (honest : Type 0) (ps : List (Handed B)) (e : OpenError) → MayOpen class ps
+    → (e ≡ OutOfMemory) ⊎ (e ≡ Keeper keeper.Refused) → IsUnopened class has honest ps e
+unsettled class has honest ps e may why = inr (record { may = may; refused = ⊎_elim inl (λ (is : e ≡ Keeper keeper.Refused). inr (inl is)) why })
 
 -- ---- the loop over them
 

@@ -4,7 +4,7 @@ use Rattle.std.proofs.Common.{◌≡◌, ℕ, zero, suc, ◌+◌, ◌<◌, List,
 use Rattle.std.proofs.lemmas.List.Folds.{find_at}
 use Rattle.std.proofs.lemmas.List.{length-map, take_more}
 use Rattle.std.proofs.lemmas.List.Elements.{AllZip-get_or, AllZip-push}
-use Rattle.std.specs.List.{All, position_or_len}
+use Rattle.std.specs.List.{position_or_len}
 use Rattle.scoop_message.specs.Message.{same_handler}
 use Rattle.scoop_message.specs.Lists.{NoRepeats}
 use Rattle.scoop_message.proofs.Same.{handler_decides}
@@ -18,11 +18,8 @@ use Rattle.scoop_book.specs.declared.event.Event.TheVariants.{Hear, Begin, Finis
 use Rattle.scoop_book.specs.declared.event.Reply.{Reply}
 use Rattle.scoop_book.specs.declared.event.Reply.TheVariants.{Heard, Began, Finished}
 use Rattle.scoop_book.specs.Moves.{LocalHandler, Entry, HandlerMoves, Moves, Replays, handler_at, is_handler, local_handler, number_in, with_handler}
-use Rattle.scoop_book.specs.Reopening.{AllOpenAgain, ClosesWith, HasEnded, OpensAgain, OpensOtherwise, class_in}
-use Rattle.scoop_book.specs.Books.{BookValue, IsBook}
-use Rattle.scoop_book.specs.Closing.{Agrees, IsClosed, IsComplete}
+use Rattle.scoop_book.specs.Reopening.{AllOpenAgain, OpensAgain, OpensOtherwise, class_in}
 use Rattle.scoop_book.specs.Opening.{AllOpen, Handed}
-use Rattle.scoop_book.specs.Passes.{PassValue}
 use Rattle.scoop_keeper.specs.Keeper.{Stored}
 use Rattle.scoop_book.proofs.BookLemmas.{moved_number}
 use Rattle.scoop_book.proofs.OpeningLemmas.{all_open_later}
@@ -83,40 +80,6 @@ replay_keeps hs (e ∷ es) ks apart r =
 pub classes_stay : (hs : List LocalHandler) (es : List Entry) (ks : List LocalHandler) → NoRepeats (map number_in ks) → Replays hs es ks
     → map class_in hs ≡ map class_in ks
 classes_stay hs es ks apart r = (replay_keeps hs es ks apart r).classes
-
--- ---- a node that ends
-
-pub closes_of : {K : Type 0} (has : K → ℕ → Stored → Type 0) (is_honest : K → Type 0) (b : BookValue K) (count n : ℕ) (ps qs : List PassValue)
-    (opening : List LocalHandler) (es : List Entry) → n ≡ count → qs ≡ ps → opening ≡ b.opening → es ≡ b.history → IsBook has is_honest b → IsComplete n qs
-    → All (Agrees opening es) qs → All (λ e. e.0 < n) es → ClosesWith count ps b.history (has b.keeper) (is_honest b.keeper) b.handlers
-closes_of has is_honest b count n ps qs opening es number given opens entries book complete agree others =
-    let right : ClosesWith n qs es (has b.keeper) (is_honest b.keeper) b.handlers = record {
-      closed = record {
-        opening = b.opening;
-        handlers = b.handlers;
-        complete = complete;
-        agree = subst (λ (os : List LocalHandler). All (Agrees os es) qs) opens agree;
-        no_others = others;
-        replays = subst (λ (xs : List Entry). Replays b.opening xs b.handlers) (sym entries) book.replays;
-        kept = book.kept;
-      };
-      stand = refl;
-    } in
-    subst (λ (xs : List Entry). ClosesWith count ps xs (has b.keeper) (is_honest b.keeper) b.handlers) entries
-    (subst (λ (rs : List PassValue). ClosesWith count rs es (has b.keeper) (is_honest b.keeper) b.handlers) given
-    (subst (λ (m : ℕ). ClosesWith m qs es (has b.keeper) (is_honest b.keeper) b.handlers) number right))
-
-pub closed_with : {K : Type 0} (has : K → ℕ → Stored → Type 0) (is_honest : K → Type 0) (count : ℕ) (ps : List PassValue) (es xs : List Entry) (k l : K)
-    (hs : List LocalHandler) → xs ≡ es → l ≡ k → ClosesWith count ps es (has k) (is_honest k) hs → IsClosed count ps xs (has l) (is_honest l)
-closed_with has is_honest count ps es xs k l hs entries keeper is =
-    subst (λ (x : _). IsClosed count ps xs (has x) (is_honest x)) (sym keeper)
-    (subst (λ (ys : List Entry). IsClosed count ps ys (has k) (is_honest k)) (sym entries) is.closed)
-
-pub ended_with : {K : Type 0} (has : K → ℕ → Stored → Type 0) (is_honest : K → Type 0) (count : ℕ) (ps : List PassValue) (es : List Entry) (k l : K)
-    (hs ks : List LocalHandler) → l ≡ k → ks ≡ hs → ClosesWith count ps es (has k) (is_honest k) hs → HasEnded count ps (has l) (is_honest l) ks
-ended_with has is_honest count ps es k l hs ks keeper stand is =
-    subst (λ (x : _). HasEnded count ps (has x) (is_honest x) ks) (sym keeper)
-    (subst (λ (xs : List LocalHandler). HasEnded count ps (has k) (is_honest k) xs) (sym stand) (record { history = es; closes = is }))
 
 -- ---- handlers that open again
 

@@ -43,13 +43,24 @@ pub record IsSince {K : Type 0} (has : K → ℕ → Stored → Type 0) (is_hone
   pub honest : is_honest now → is_honest first
   pub had : is_honest now → AllByRecursion (IsAllStored (has first)) opening
 
+-- what outlasts is what a first part of the history stored: of each handler, as this part leaves it, there is what is stored of it
+pub record IsDurable (outlasts : ℕ → Stored → Type 0) (opening : List LocalHandler) (history : List Entry) : Type 0 where
+  pub done : List Entry
+  pub lost : List Entry
+  pub parts : history ≡ done ++ lost
+  pub handlers : List LocalHandler
+  pub replays : Replays opening done handlers
+  pub stored : AllByRecursion (HasStored outlasts) handlers
+
 -- The history replays from the opening to the handlers as they are, which are apart. The keeper, while it is honest, has of
--- each what is stored of it, and follows one that had what they opened with.
-pub record IsBook {K : Type 0} (has : K → ℕ → Stored → Type 0) (is_honest : K → Type 0) (b : BookValue K) : Type 0 where
+-- each what is stored of it, and follows one that had what they opened with. What outlasts is what a first part of the history
+-- stored.
+pub record IsBook {K : Type 0} (has outlasting : K → ℕ → Stored → Type 0) (is_honest : K → Type 0) (b : BookValue K) : Type 0 where
   pub replays : Replays b.opening b.history b.handlers
   pub apart : NoRepeats (map number_in b.handlers)
   pub room : length b.history ≤ b.limit
   pub kept : is_honest b.keeper → AllByRecursion (HasStored (has b.keeper)) b.handlers
+  pub durable : is_honest b.keeper → IsDurable (outlasting b.keeper) b.opening b.history
   pub since : IsSince has is_honest b.opening b.keeper
 
 -- the history has gained this entry, which is a move of the handlers

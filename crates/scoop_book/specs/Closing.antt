@@ -5,7 +5,7 @@ use Rattle.scoop_keeper.specs.Keeper.{Stored, Stays}
 use Rattle.scoop_book.specs.declared.event.Event.{Event}
 use Rattle.scoop_book.specs.declared.event.Reply.{Reply}
 use Rattle.scoop_book.specs.Moves.{LocalHandler, Entry, Replays, made_by}
-use Rattle.scoop_book.specs.Books.{BookValue, IsBook, IsSince, Gains, HasStored}
+use Rattle.scoop_book.specs.Books.{BookValue, IsBook, IsDurable, IsSince, Gains, HasStored}
 use Rattle.scoop_object.specs.Class.{ClassTable}
 use Rattle.scoop_book.specs.declared.error.OpenError.{OpenError}
 use Rattle.scoop_book.specs.declared.error.OpenError.TheVariants.{NoPasses}
@@ -23,10 +23,16 @@ pub record IsComplete (count : ℕ) (passes : List PassValue) : Type 0 where
   pub count_is : length passes ≡ count
   pub numbered : (n : ℕ) → n < count → Any (λ p. p.number ≡ n) passes
 
+-- the passes are a node's: each number below the count is one's, they agree with the history, and it has no other entries
+pub record AreAllPasses (count : ℕ) (passes : List PassValue) (opening : List LocalHandler) (history : List Entry) : Type 0 where
+  pub complete : IsComplete count passes
+  pub agree : All (Agrees opening history) passes
+  pub no_others : All (λ e. e.0 < count) history
+
 -- Each number below the count is a pass's, the pass agrees with the entries of that number, and there are no other entries.
 -- The history replays from the opening, which the first pass keeps. While the keeper is honest, it has the stored state of each
--- handler.
-pub record IsClosed (count : ℕ) (passes : List PassValue) (history : List Entry) (has : ℕ → Stored → Type 0) (honest : Type 0) : Type 0 where
+-- handler, and what outlasts is what a first part of the history stored.
+pub record IsClosed (count : ℕ) (passes : List PassValue) (history : List Entry) (has outlasts : ℕ → Stored → Type 0) (honest : Type 0) : Type 0 where
   pub opening : List LocalHandler
   pub handlers : List LocalHandler
   pub complete : IsComplete count passes
@@ -34,6 +40,7 @@ pub record IsClosed (count : ℕ) (passes : List PassValue) (history : List Entr
   pub no_others : All (λ e. e.0 < count) history
   pub replays : Replays opening history handlers
   pub kept : honest → AllByRecursion (HasStored has) handlers
+  pub durable : honest → IsDurable outlasts opening history
 
 -- the keeper follows one that had all that the first pass keeps as the opening
 abbrev pub FollowsOpening : {K : Type 0} → (K → ℕ → Stored → Type 0) → (K → Type 0) → List PassValue → K → Type 0
@@ -46,23 +53,23 @@ Differs opening history count passes n =
     Any (λ p. (p.number ≡ n) × (Agrees opening history p → ⊥)) passes ⊎ Any (λ e. (e.0 ≡ n) × (count ≤ n)) history
 
 -- it was so of the node's book, as it was under its lock
-pub record WasSo {K E : Type 0} (has : K → ℕ → Stored → Type 0) (is_honest : K → Type 0) (P : BookValue K → E → Type 0) (e : E) : Type 0 where
+pub record WasSo {K E : Type 0} (has outlasting : K → ℕ → Stored → Type 0) (is_honest : K → Type 0) (P : BookValue K → E → Type 0) (e : E) : Type 0 where
   pub book : BookValue K
-  pub sound : IsBook has is_honest book
+  pub sound : IsBook has outlasting is_honest book
   pub so : P book e
 
 -- the entry was the next one of a book whose history replays, and replays with it
-pub record IsEntered {K : Type 0} (has : K → ℕ → Stored → Type 0) (is_honest : K → Type 0) (pass : ℕ) (event : Event) (reply : Reply) : Type 0 where
+pub record IsEntered {K : Type 0} (has outlasting : K → ℕ → Stored → Type 0) (is_honest : K → Type 0) (pass : ℕ) (event : Event) (reply : Reply) : Type 0 where
   pub old : BookValue K
   pub new : BookValue K
-  pub before : IsBook has is_honest old
+  pub before : IsBook has outlasting is_honest old
   pub gains : Gains pass event reply old new
-  pub after : IsBook has is_honest new
+  pub after : IsBook has outlasting is_honest new
 
 -- all that the keeper of the node's book had of handlers outlasts it, as it was under its lock and while it is honest
 pub record IsCommitted {K : Type 0} (has outlasting : K → ℕ → Stored → Type 0) (is_honest : K → Type 0) : Type 0 where
   pub book : BookValue K
-  pub sound : IsBook has is_honest book
+  pub sound : IsBook has outlasting is_honest book
   pub outlasts : is_honest book.keeper → Stays (has book.keeper) (outlasting book.keeper)
 
 -- ---- opening

@@ -29,15 +29,15 @@ AllOpenAgain hs ks = AllZip OpensAgain hs ks
 -- ---- a node that ends and opens again
 
 -- the node has closed with this history, and these handlers at its end
-pub record ClosesWith (count : ℕ) (passes : List PassValue) (history : List Entry) (has : ℕ → Stored → Type 0) (honest : Type 0) (handlers : List LocalHandler)
-    : Type 0 where
-  pub closed : IsClosed count passes history has honest
+pub record ClosesWith (count : ℕ) (passes : List PassValue) (history : List Entry) (has outlasts : ℕ → Stored → Type 0) (honest : Type 0)
+    (handlers : List LocalHandler) : Type 0 where
+  pub closed : IsClosed count passes history has outlasts honest
   pub stand : closed.handlers ≡ handlers
 
 -- so it has with some history
-pub record HasEnded (count : ℕ) (passes : List PassValue) (has : ℕ → Stored → Type 0) (honest : Type 0) (handlers : List LocalHandler) : Type 0 where
+pub record HasEnded (count : ℕ) (passes : List PassValue) (has outlasts : ℕ → Stored → Type 0) (honest : Type 0) (handlers : List LocalHandler) : Type 0 where
   pub history : List Entry
-  pub closes : ClosesWith count passes history has honest handlers
+  pub closes : ClosesWith count passes history has outlasts honest handlers
 
 -- the node has opened, each handler as it stood
 pub record HasReopened {B K : Type 0} (words : B → List ℕ) (has : K → ℕ → Stored → Type 0) (is_honest : K → Type 0) (keeper : K) (ps : List (Handed B))

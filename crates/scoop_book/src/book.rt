@@ -20,7 +20,7 @@ use std::marker::Model;
 /// The handlers of a node, the history of their events since they opened, and the keeper of their states. The
 /// history replays: from the handlers as they opened, its entries lead one after another to the handlers as they
 /// are. While the keeper is honest, it has each handler's state after the last Hear or Finish, or what it had when
-/// the book opened.
+/// the book opened. What outlasts this process is what it had after a first part of the history.
 #[derive(Drop)]
 pub struct Book<B: Behaviour, K: Keeper<A>, A: Allocator = Global> {
     opening: Vec<Opening<A>, A>,
@@ -38,7 +38,8 @@ impl<B: Behaviour, K: Keeper<A>, A: Allocator> Model for Book<B, K, A> {
 
     ghost view = { λ b. book_kept b.opening.items b.handlers.handlers b.history.entries b.limit b.failed b.handlers.keeper };
 
-    ghost invariant = { λ b. IsBook K.handlers K.is_honest (book_kept b.opening.items b.handlers.handlers b.history.entries b.limit b.failed b.handlers.keeper) };
+    ghost invariant = { λ b. IsBook K.handlers K.outlasting K.is_honest
+        (book_kept b.opening.items b.handlers.handlers b.history.entries b.limit b.failed b.handlers.keeper) };
 }
 
 impl<B: Behaviour, K: Keeper<A>, A: Allocator + Copy> Book<B, K, A> {
@@ -49,7 +50,7 @@ impl<B: Behaviour, K: Keeper<A>, A: Allocator + Copy> Book<B, K, A> {
     /// The events since the book opened, in order: each with the number of the pass that made it and its reply.
     pub fn history(&self) -> &History<A>
         ensures entries { result.now.entries ≡ self.now.history }
-        ensures sound { IsBook K.handlers K.is_honest self.now }
+        ensures sound { IsBook K.handlers K.outlasting K.is_honest self.now }
     {
         &self.history
     }
@@ -71,7 +72,7 @@ impl<B: Behaviour, K: Keeper<A>, A: Allocator + Copy> Book<B, K, A> {
     /// The keeper, as it stands.
     pub fn into_keeper(self) -> K
         ensures keeper { result ≡ self.keeper }
-        ensures sound { IsBook K.handlers K.is_honest self }
+        ensures sound { IsBook K.handlers K.outlasting K.is_honest self }
     {
         let Book { handlers, .. } = self;
         handlers.into_keeper()
@@ -81,7 +82,7 @@ impl<B: Behaviour, K: Keeper<A>, A: Allocator + Copy> Book<B, K, A> {
     pub(crate) fn into_closed(self) -> Closed<K, A>
         ensures history { result.history.entries ≡ self.history }
         ensures keeper { result.keeper ≡ self.keeper }
-        ensures sound { IsBook K.handlers K.is_honest self }
+        ensures sound { IsBook K.handlers K.outlasting K.is_honest self }
     {
         let Book {
             handlers,

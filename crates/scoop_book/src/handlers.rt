@@ -4,7 +4,7 @@ ghost use Rattle.std.specs.Prelude.{◌≡◌, ◌≢◌, ◌↔◌, ◌⊎◌, 
 ghost use Rattle.std.specs.Option.{option_map};
 ghost use Rattle.scoop_message.specs.Message.{handler_of};
 ghost use Rattle.scoop_handler.specs.Running.{job_out, ran_of, ready};
-ghost use Rattle.scoop_keeper.specs.Keeper.{IsPutError, IsSame, Stays};
+ghost use Rattle.scoop_keeper.specs.Keeper.{IsPutError, IsSame, Lasts, Stays};
 ghost use Rattle.scoop_book.specs.Moves.{Moves, is_handler, leaves};
 ghost use Rattle.scoop_book.specs.Books.{KeepsNew};
 ghost use Rattle.scoop_keeper.specs.Keyed.{IsFirst};
@@ -99,6 +99,8 @@ impl<B: Behaviour, K: Keeper<A>, A: Allocator + Copy> Handlers<B, K, A> {
         ensures moves { IfOk result (λ heard. Moves (Event.Hear message.now) (Reply.Heard heard) self.old.handlers self.new.handlers) }
         ensures stored { K.is_honest self.new.keeper
             → OnOk result (KeepsNew (handler_of message.now) self.new.handlers (K.handlers self.old.keeper) (K.handlers self.new.keeper)) }
+        ensures lasts { K.is_honest self.new.keeper
+            → Lasts (K.handlers self.old.keeper) (K.handlers self.new.keeper) (K.outlasting self.old.keeper) (K.outlasting self.new.keeper) }
         ensures incarnations { K.is_honest self.new.keeper → IsSame (K.incarnations self.old.keeper) (K.incarnations self.new.keeper) }
         ensures err { OnErr result (self.new.handlers ≡ self.old.handlers) }
         ensures kept { K.is_honest self.new.keeper → OnErr result (Stays (K.handlers self.old.keeper) (K.handlers self.new.keeper)) }
@@ -115,6 +117,8 @@ impl<B: Behaviour, K: Keeper<A>, A: Allocator + Copy> Handlers<B, K, A> {
         requires held { IsHeld K.handlers K.is_honest self.old }
         ensures outlasts { K.is_honest self.new.keeper → OnOk result (Stays (K.handlers self.new.keeper) (K.outlasting self.new.keeper)) }
         ensures refused { K.is_honest self.new.keeper → OnErr result (Stays (K.outlasting self.old.keeper) (K.outlasting self.new.keeper)) }
+        ensures lasts { K.is_honest self.new.keeper
+            → Lasts (K.handlers self.old.keeper) (K.handlers self.new.keeper) (K.outlasting self.old.keeper) (K.outlasting self.new.keeper) }
         ensures handlers { self.new.handlers ≡ self.old.handlers }
         ensures kept { K.is_honest self.new.keeper → Stays (K.handlers self.old.keeper) (K.handlers self.new.keeper) }
         ensures incarnations { K.is_honest self.new.keeper → IsSame (K.incarnations self.old.keeper) (K.incarnations self.new.keeper) }
@@ -156,6 +160,8 @@ impl<B: Behaviour, K: Keeper<A>, A: Allocator + Copy> Handlers<B, K, A> {
         ensures moves { IfOk result (λ ran. Moves (Event.Finish done.handler) (Reply.Finished ran) self.old.handlers self.new.handlers) }
         ensures stored { K.is_honest self.new.keeper
             → OnOk result (KeepsNew done.handler self.new.handlers (K.handlers self.old.keeper) (K.handlers self.new.keeper)) }
+        ensures lasts { K.is_honest self.new.keeper
+            → Lasts (K.handlers self.old.keeper) (K.handlers self.new.keeper) (K.outlasting self.old.keeper) (K.outlasting self.new.keeper) }
         ensures incarnations { K.is_honest self.new.keeper → IsSame (K.incarnations self.old.keeper) (K.incarnations self.new.keeper) }
         ensures handed_back { IfErr result (λ e. e.done ≡ done) }
         ensures stranger { IfErr result (λ e. IfSome (slice_get self.old.handlers at) (λ s. (e.cause ≡ JobRefusal.Stranger) ↔ (job_out s.core ≢ Some done))) }

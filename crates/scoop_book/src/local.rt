@@ -4,7 +4,7 @@ ghost use Rattle.std.specs.Prelude.{◌≡◌, ◌≢◌, ◌↔◌, ◌⊎◌, 
 ghost use Rattle.scoop_handler.specs.Core.{IsCore};
 ghost use Rattle.scoop_handler.specs.Hearing.{hear};
 ghost use Rattle.scoop_handler.specs.Running.{after, job_out, ran_of, ready};
-ghost use Rattle.scoop_keeper.specs.Keeper.{IsPutError, IsSame, Keeps, Stays, stored_of};
+ghost use Rattle.scoop_keeper.specs.Keeper.{IsPutError, IsSame, Keeps, Lasts, Stays, stored_of};
 ghost use Rattle.scoop_book.specs.Moves.{after_begin, after_finish, after_hearing, number_in};
 
 use crate::error::FinishRefusal;
@@ -100,6 +100,7 @@ impl<B: Behaviour, A: Allocator + Copy> Local<B, A> {
         ensures stored { K.is_honest keeper.new → OnOk result (Keeps (K.handlers keeper.old) (K.handlers keeper.new) (hear self.old.core.state message.now).0) }
         ensures err { OnErr result (self.new ≡ self.old) }
         ensures kept { K.is_honest keeper.new → OnErr result (Stays (K.handlers keeper.old) (K.handlers keeper.new)) }
+        ensures lasts { K.is_honest keeper.new → Lasts (K.handlers keeper.old) (K.handlers keeper.new) (K.outlasting keeper.old) (K.outlasting keeper.new) }
         ensures incarnations { K.is_honest keeper.new → IsSame (K.incarnations keeper.old) (K.incarnations keeper.new) }
         ensures named { IfErr result IsPutError }
         ensures honest { K.is_honest keeper.new → K.is_honest keeper.old }
@@ -139,6 +140,7 @@ impl<B: Behaviour, A: Allocator + Copy> Local<B, A> {
         ensures handed_back { IfErr result (λ e. e.done ≡ done) }
         ensures stranger { IfErr result (λ e. (e.cause ≡ JobRefusal.Stranger) ↔ (job_out self.old.core ≢ Some done)) }
         ensures kept { K.is_honest keeper.new → OnErr result (Stays (K.handlers keeper.old) (K.handlers keeper.new)) }
+        ensures lasts { K.is_honest keeper.new → Lasts (K.handlers keeper.old) (K.handlers keeper.new) (K.outlasting keeper.old) (K.outlasting keeper.new) }
         ensures incarnations { K.is_honest keeper.new → IsSame (K.incarnations keeper.old) (K.incarnations keeper.new) }
         ensures honest { K.is_honest keeper.new → K.is_honest keeper.old }
     {

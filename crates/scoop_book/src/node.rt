@@ -48,8 +48,8 @@ fn hear_in<B: Behaviour, K: Keeper<A>, A: Allocator + Copy>(
     pass: u32,
     message: &Message,
 ) -> Result<Heard, BookError>
-    ensures entered { IfOk result (λ heard. IsEntered K.handlers K.is_honest pass (Event.Hear message.now) (Reply.Heard heard)) }
-    ensures refused { IfErr result (WasSo K.handlers K.is_honest (λ b. IsRefused b (handler_of message.now))) }
+    ensures entered { IfOk result (λ heard. IsEntered K.handlers K.outlasting K.is_honest pass (Event.Hear message.now) (Reply.Heard heard)) }
+    ensures refused { IfErr result (WasSo K.handlers K.outlasting K.is_honest (λ b. IsRefused b (handler_of message.now))) }
 {
     book.hear(pass, message)
 }
@@ -59,7 +59,7 @@ fn commit_in<B: Behaviour, K: Keeper<A>, A: Allocator + Copy>(
     book: &mut Book<B, K, A>,
 ) -> Result<(), BookError>
     ensures committed { OnOk result (IsCommitted K.handlers K.outlasting K.is_honest) }
-    ensures refused { IfErr result (WasSo K.handlers K.is_honest IsUncommitted) }
+    ensures refused { IfErr result (WasSo K.handlers K.outlasting K.is_honest IsUncommitted) }
 {
     book.commit()
 }
@@ -71,8 +71,8 @@ fn begin_in<B: Behaviour, K: Keeper<A>, A: Allocator + Copy>(
     handler: HandlerId,
 ) -> Result<Option<Job<B>>, BookError>
     ensures unasked { IfErr result (λ e. e ≢ BookError.StoreRefused) }
-    ensures entered { IfOk result (λ job. IsEntered K.handlers K.is_honest pass (Event.Begin handler) (Reply.Began (option_map leaves job))) }
-    ensures refused { IfErr result (WasSo K.handlers K.is_honest (λ b. IsRefused b handler)) }
+    ensures entered { IfOk result (λ job. IsEntered K.handlers K.outlasting K.is_honest pass (Event.Begin handler) (Reply.Began (option_map leaves job))) }
+    ensures refused { IfErr result (WasSo K.handlers K.outlasting K.is_honest (λ b. IsRefused b handler)) }
 {
     book.begin(pass, handler)
 }
@@ -85,8 +85,8 @@ fn finish_in<B: Behaviour, K: Keeper<A>, A: Allocator + Copy>(
 ) -> Result<Ran, FinishError<B>>
     ensures ran { IfOk result (λ ran. ran ≡ ran_of done) }
     ensures handed_back { IfErr result (λ e. e.done ≡ done) }
-    ensures entered { IfOk result (λ ran. IsEntered K.handlers K.is_honest pass (Event.Finish done.handler) (Reply.Finished ran)) }
-    ensures refused { IfErr result (λ e. WasSo K.handlers K.is_honest (λ b. IsUnfinished b done) e.cause) }
+    ensures entered { IfOk result (λ ran. IsEntered K.handlers K.outlasting K.is_honest pass (Event.Finish done.handler) (Reply.Finished ran)) }
+    ensures refused { IfErr result (λ e. WasSo K.handlers K.outlasting K.is_honest (λ b. IsUnfinished b done) e.cause) }
 {
     book.finish(pass, done)
 }
@@ -151,8 +151,8 @@ impl<B: Behaviour, K: Keeper<A>, A: Allocator + Copy> Node<B, K, A> {
         message: &Message,
     ) -> Result<Heard, BookError>
         ensures gains { IfOk result (λ heard. pass.new ≡ with_event (Event.Hear message.now) (Reply.Heard heard) pass.old) }
-        ensures entered { IfOk result (λ heard. IsEntered K.handlers K.is_honest pass.old.number (Event.Hear message.now) (Reply.Heard heard)) }
-        ensures refused { IfErr result (λ e. (e ≡ BookError.OutOfMemory) ⊎ WasSo K.handlers K.is_honest (λ b. IsRefused b (handler_of message.now)) e) }
+        ensures entered { IfOk result (λ heard. IsEntered K.handlers K.outlasting K.is_honest pass.old.number (Event.Hear message.now) (Reply.Heard heard)) }
+        ensures refused { IfErr result (λ e. (e ≡ BookError.OutOfMemory) ⊎ WasSo K.handlers K.outlasting K.is_honest (λ b. IsRefused b (handler_of message.now)) e) }
         ensures stays { OnErr result (pass.new ≡ pass.old) }
     {
         let Ok(()) = pass.events.make_room() else {
@@ -182,8 +182,8 @@ impl<B: Behaviour, K: Keeper<A>, A: Allocator + Copy> Node<B, K, A> {
         requires { IsHear event }
         ensures gains { IfOk result (λ reply. pass.new ≡ with_event event reply pass.old) }
         ensures replies { IfOk result (HasReply event) }
-        ensures entered { IfOk result (IsEntered K.handlers K.is_honest pass.old.number event) }
-        ensures refused { IfErr result (λ e. (e ≡ BookError.OutOfMemory) ⊎ WasSo K.handlers K.is_honest (λ b. IsRefused b (handler_at event)) e) }
+        ensures entered { IfOk result (IsEntered K.handlers K.outlasting K.is_honest pass.old.number event) }
+        ensures refused { IfErr result (λ e. (e ≡ BookError.OutOfMemory) ⊎ WasSo K.handlers K.outlasting K.is_honest (λ b. IsRefused b (handler_at event)) e) }
         ensures stays { OnErr result (pass.new ≡ pass.old) }
     {
         match self.hear(rt, pass, event.message()) {
@@ -198,7 +198,7 @@ impl<B: Behaviour, K: Keeper<A>, A: Allocator + Copy> Node<B, K, A> {
     /// Refused as a book refuses it.
     pub fn commit<R: Wait>(&self, rt: &R) -> Result<(), BookError>
         ensures committed { OnOk result (IsCommitted K.handlers K.outlasting K.is_honest) }
-        ensures refused { IfErr result (WasSo K.handlers K.is_honest IsUncommitted) }
+        ensures refused { IfErr result (WasSo K.handlers K.outlasting K.is_honest IsUncommitted) }
     {
         let mut book = self.book.lock(rt);
         commit_in(&mut book)
@@ -216,8 +216,8 @@ impl<B: Behaviour, K: Keeper<A>, A: Allocator + Copy> Node<B, K, A> {
         handler: HandlerId,
     ) -> Result<Option<Job<B>>, BookError>
         ensures gains { IfOk result (λ job. pass.new ≡ with_event (Event.Begin handler) (Reply.Began (option_map leaves job)) pass.old) }
-        ensures entered { IfOk result (λ job. IsEntered K.handlers K.is_honest pass.old.number (Event.Begin handler) (Reply.Began (option_map leaves job))) }
-        ensures refused { IfErr result (λ e. (e ≡ BookError.OutOfMemory) ⊎ WasSo K.handlers K.is_honest (λ b. IsRefused b handler) e) }
+        ensures entered { IfOk result (λ job. IsEntered K.handlers K.outlasting K.is_honest pass.old.number (Event.Begin handler) (Reply.Began (option_map leaves job))) }
+        ensures refused { IfErr result (λ e. (e ≡ BookError.OutOfMemory) ⊎ WasSo K.handlers K.outlasting K.is_honest (λ b. IsRefused b handler) e) }
         ensures unasked { IfErr result (λ e. e ≢ BookError.StoreRefused) }
         ensures stays { OnErr result (pass.new ≡ pass.old) }
     {
@@ -247,9 +247,9 @@ impl<B: Behaviour, K: Keeper<A>, A: Allocator + Copy> Node<B, K, A> {
         done: Done<B>,
     ) -> Result<Ran, FinishError<B>>
         ensures gains { IfOk result (λ ran. pass.new ≡ with_event (Event.Finish done.handler) (Reply.Finished ran) pass.old) }
-        ensures entered { IfOk result (λ ran. IsEntered K.handlers K.is_honest pass.old.number (Event.Finish done.handler) (Reply.Finished ran)) }
+        ensures entered { IfOk result (λ ran. IsEntered K.handlers K.outlasting K.is_honest pass.old.number (Event.Finish done.handler) (Reply.Finished ran)) }
         ensures ran { IfOk result (λ ran. ran ≡ ran_of done) }
-        ensures refused { IfErr result (λ e. (e.cause ≡ FinishRefusal.OutOfMemory) ⊎ WasSo K.handlers K.is_honest (λ b. IsUnfinished b done) e.cause) }
+        ensures refused { IfErr result (λ e. (e.cause ≡ FinishRefusal.OutOfMemory) ⊎ WasSo K.handlers K.outlasting K.is_honest (λ b. IsUnfinished b done) e.cause) }
         ensures handed_back { IfErr result (λ e. e.done ≡ done) }
         ensures stays { OnErr result (pass.new ≡ pass.old) }
     {
@@ -271,7 +271,7 @@ impl<B: Behaviour, K: Keeper<A>, A: Allocator + Copy> Node<B, K, A> {
 
     /// Ends the node, and returns its history and its keeper. The history replays, and the passes agree with it. While
     /// the keeper is honest, it has each handler's state after the last Hear or Finish, or what it had when the node
-    /// opened. Takes no memory, and never waits.
+    /// opened. What outlasts is what it had after a first part of the history. Takes no memory, and never waits.
     ///
     /// A refusal returns node and passes. In this order:
     /// - `MissingPass` exactly if these aren't the passes 0 up to their number, each once;
@@ -281,12 +281,13 @@ impl<B: Behaviour, K: Keeper<A>, A: Allocator + Copy> Node<B, K, A> {
         _rt: &R,
         passes: Vec<Pass<A>, A>,
     ) -> Result<Closed<K, A>, CloseError<B, K, A>>
-        ensures closed { IfOk result (λ closed. IsClosed self.passes passes.items closed.history.entries (K.handlers closed.keeper) (K.is_honest closed.keeper)) }
+        ensures closed { IfOk result (λ closed. IsClosed self.passes passes.items closed.history.entries
+            (K.handlers closed.keeper) (K.outlasting closed.keeper) (K.is_honest closed.keeper)) }
         ensures since { IfOk result (λ closed. FollowsOpening K.handlers K.is_honest passes.items closed.keeper) }
         ensures handed_back { IfErr result (λ e. (e.node ≡ self) × (e.passes ≡ passes)) }
         ensures missing { IfErr result (λ e. (e.cause ≡ CloseRefusal.MissingPass) ↔ (IsComplete self.passes passes.items → ⊥)) }
         ensures differs { IfErr result (λ e. (n : ℕ) → e.cause ≡ CloseRefusal.PassDiffers n
-            → WasSo K.handlers K.is_honest (λ b. Differs b.opening b.history self.passes passes.items) n) }
+            → WasSo K.handlers K.outlasting K.is_honest (λ b. Differs b.opening b.history self.passes passes.items) n) }
         ensures memory { IfErr result (λ e. e.cause ≢ CloseRefusal.OutOfMemory) }
     {
         match self.into_agreed(passes) {

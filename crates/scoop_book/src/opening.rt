@@ -201,14 +201,18 @@ fn open_stored<B: Behaviour, A: Allocator + Copy>(
     ensures fits { OnOk result (FitsClass handed.1 state) }
     ensures opens { IfOk result (λ o. o.0 ≡ local_handler (core_of handed.1 state false) (Some state)) }
     ensures kept { IfOk result (λ o. o.1 ≡ o.0) }
-    ensures refused { IfErr result (λ e. (e ≡ OpenError.OutOfMemory) ⊎ ((e ≡ OpenError.WrongClass handed.0) × (FitsClass handed.1 state → ⊥))) }
+    ensures refused { IfErr result
+        (λ e. ((e ≡ OpenError.OutOfMemory) × FitsClass handed.1 state) ⊎ ((e ≡ OpenError.WrongClass handed.0) × (FitsClass handed.1 state → ⊥))) }
 {
     let (number, class, object) = handed;
-    let kept = Opening::of(alloc, &class, &state, true)?;
-    match Handler::restart(class, object, state) {
-        Ok(handler) => Ok((Local::new(handler, true), kept)),
-        Err(_) => Err(OpenError::WrongClass(number)),
+    if state.words().len() != class.words() {
+        return Err(OpenError::WrongClass(number));
     }
+    let kept = Opening::of(alloc, &class, &state, true)?;
+    let Ok(handler) = Handler::restart(class, object, state) else {
+        unreachable!()
+    };
+    Ok((Local::new(handler, true), kept))
 }
 
 // A new handler, of which nothing is stored.
@@ -284,4 +288,19 @@ pub(crate) fn open_all<B: Behaviour, A: Allocator + Copy, K: Keeper<A>>(
         openings.push(opening)?;
     }
     Ok((locals, openings))
+}
+
+/// Makes what the keeper has of the handlers outlast this process, so that they open so again.
+pub(crate) fn settle<A: Allocator, K: Keeper<A>>(keeper: &mut K) -> Result<(), OpenError>
+    ensures outlasts { K.is_honest keeper.new → OnOk result (Stays (K.handlers keeper.new) (K.outlasting keeper.new)) }
+    ensures refused { IfErr result (λ e. (e ≡ OpenError.OutOfMemory) ⊎ (e ≡ OpenError.Keeper KeeperError.Refused)) }
+    ensures handlers { K.is_honest keeper.new → Stays (K.handlers keeper.old) (K.handlers keeper.new) }
+    ensures incarnations { K.is_honest keeper.new → IsSame (K.incarnations keeper.old) (K.incarnations keeper.new) }
+    ensures honest { K.is_honest keeper.new → K.is_honest keeper.old }
+{
+    match keeper.commit() {
+        Ok(()) => Ok(()),
+        Err(KeeperError::OutOfMemory) => Err(OpenError::OutOfMemory),
+        Err(error) => Err(OpenError::Keeper(error)),
+    }
 }

@@ -86,7 +86,7 @@ pub fn answer<B: Behaviour, K: Keeper<Global>>(
     ensures limit { IfOk result (λ told. IsWithinBuffer told.0) }
     ensures err { IfErr result (Unheard datagram.now book.old book.new) }
     ensures others { KeepsElsewhere K.handlers K.incarnations K.is_honest book.old.handlers book.old.keeper book.new.keeper }
-    ensures sound { IsBook K.handlers K.is_honest book.old → IsBook K.handlers K.is_honest book.new }
+    ensures sound { IsBook K.handlers K.outlasting K.is_honest book.old → IsBook K.handlers K.outlasting K.is_honest book.new }
 {
     let (version, message) = match decode(datagram) {
         Ok(read) => read,
@@ -110,7 +110,7 @@ pub fn run_dry<B: Behaviour, K: Keeper<Global>>(
     ensures ok { OnOk result (RunsDry 0 handler book.old book.new) }
     ensures err { IfErr result (StopsRunning handler book.old book.new) }
     ensures others { KeepsElsewhere K.handlers K.incarnations K.is_honest book.old.handlers book.old.keeper book.new.keeper }
-    ensures sound { IsBook K.handlers K.is_honest book.new }
+    ensures sound { IsBook K.handlers K.outlasting K.is_honest book.new }
 {
     match run_out(book, PASS, handler) {
         Ok(()) => Ok(()),

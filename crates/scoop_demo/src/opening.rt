@@ -50,7 +50,7 @@ fn alone<B: Behaviour>(
 /// # Errors
 /// They drop the keeper.
 /// - `WrongClass`: the object hasn't the class, or the stored words are not as many as the class has.
-/// - `Store`: the keeper refuses to load; with `BadImage` if the stored bytes are no state of the handler.
+/// - `Store`: the keeper refuses to load or to commit; with `BadImage` if the stored bytes are no state of the handler.
 /// - `OutOfMemory`.
 pub fn open_book<B: Behaviour, K: Keeper<Global>>(
     alloc: Global,
@@ -62,7 +62,7 @@ pub fn open_book<B: Behaviour, K: Keeper<Global>>(
     ensures made { IfOk result (λ b. b ≡ book_kept b.opening b.opening [] MAX_HISTORY false b.keeper) }
     ensures opens { IfOk result (λ b. AllOpen B.words (K.handlers keeper) (K.is_honest b.keeper) ((number, class, object) ∷ []) b.opening) }
     ensures fits { OnOk result (B.class object ≡ class) }
-    ensures sound { IfOk result (IsBook K.handlers K.is_honest) }
+    ensures sound { IfOk result (IsBook K.handlers K.outlasting K.is_honest) }
     ensures kept { IfOk result (λ b. K.is_honest b.keeper → Stays (K.handlers keeper) (K.handlers b.keeper)) }
     ensures incarnations { IfOk result (λ b. K.is_honest b.keeper → IsSame (K.incarnations keeper) (K.incarnations b.keeper)) }
     ensures honest { IfOk result (λ b. K.is_honest b.keeper → K.is_honest keeper) }

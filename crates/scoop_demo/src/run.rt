@@ -52,7 +52,7 @@ pub fn answer_run<B: Behaviour, K: Keeper<Global>, R: Read + Drop, W: Write>(
     ensures err { IfErr result (StopsEarly (R.remaining reader) book.old book.new (W.contents writer.old) (W.contents writer.new)) }
 
     // The keeper.
-    ensures sound { IsBook K.handlers K.is_honest book.old → IsBook K.handlers K.is_honest book.new }
+    ensures sound { IsBook K.handlers K.outlasting K.is_honest book.old → IsBook K.handlers K.outlasting K.is_honest book.new }
     ensures others { KeepsElsewhere K.handlers K.incarnations K.is_honest book.old.handlers book.old.keeper book.new.keeper }
 {
     let answered = answer_all(book, shown, reader, writer);
@@ -73,7 +73,7 @@ fn answer_all<B: Behaviour, K: Keeper<Global>, R: Read + Drop, W: Write>(
     ensures ok { OnOk result
         (AnswersAll (R.remaining reader) book.old book.new (words_line shown book.new.handlers) (W.contents writer.old) (W.contents writer.new)) }
     ensures err { IfErr result (StopsEarly (R.remaining reader) book.old book.new (W.contents writer.old) (W.contents writer.new)) }
-    ensures sound { IsBook K.handlers K.is_honest book.old → IsBook K.handlers K.is_honest book.new }
+    ensures sound { IsBook K.handlers K.outlasting K.is_honest book.old → IsBook K.handlers K.outlasting K.is_honest book.new }
     ensures others { KeepsElsewhere K.handlers K.incarnations K.is_honest book.old.handlers book.old.keeper book.new.keeper }
 {
     match answer_lines(book, reader, writer) {
@@ -98,7 +98,7 @@ fn answer_lines<B: Behaviour, K: Keeper<Global>, R: Read + Drop, W: Write>(
 ) -> Result<(), RunError>
     ensures ok { OnOk result (AnswersAll (R.remaining reader) book.old book.new [] (W.contents writer.old) (W.contents writer.new)) }
     ensures err { IfErr result (StopsEarly (R.remaining reader) book.old book.new (W.contents writer.old) (W.contents writer.new)) }
-    ensures sound { IsBook K.handlers K.is_honest book.old → IsBook K.handlers K.is_honest book.new }
+    ensures sound { IsBook K.handlers K.outlasting K.is_honest book.old → IsBook K.handlers K.outlasting K.is_honest book.new }
     ensures others { KeepsElsewhere K.handlers K.incarnations K.is_honest book.old.handlers book.old.keeper book.new.keeper }
 {
     let mut lines = Lines::new(reader);
@@ -132,7 +132,7 @@ fn answer_line<B: Behaviour, K: Keeper<Global>, W: Write>(
     requires { limit_fault number line.old.items ≡ None }
     ensures ok { OnOk result (WritesAnswer number book.old line.old.items book.new (W.contents writer.old) (W.contents writer.new)) }
     ensures err { IfErr result (StopsInLine number book.old line.old.items book.new (W.contents writer.old) (W.contents writer.new)) }
-    ensures sound { IsBook K.handlers K.is_honest book.old → IsBook K.handlers K.is_honest book.new }
+    ensures sound { IsBook K.handlers K.outlasting K.is_honest book.old → IsBook K.handlers K.outlasting K.is_honest book.new }
     ensures others { KeepsElsewhere K.handlers K.incarnations K.is_honest book.old.handlers book.old.keeper book.new.keeper }
 {
     let datagram = match read_datagram(line, room) {

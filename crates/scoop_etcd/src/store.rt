@@ -1,7 +1,7 @@
 //! A keeper over an etcd.
 
 ghost use Rattle.std.specs.Prelude.{◌≡◌, ◌≢◌, ◌⊎◌, ℕ, ◌<◌, List, [], length, None, Some, Ok, Err, IfOk, IfErr, IfSome, OnOk, OnErr, IsTrue, IsFalse, IsSome};
-ghost use Rattle.scoop_keeper.specs.Keeper.{Damaged, Keeps, Stays, IsSame, IsTheOne, Sets, IsPutError, next_of, last_incarnation, stored_of};
+ghost use Rattle.scoop_keeper.specs.Keeper.{Damaged, Keeps, Lasts, Stays, IsSame, IsTheOne, Sets, IsPutError, next_of, last_incarnation, stored_of};
 ghost use Rattle.scoop_keeper.specs.declared.keeper.KeeperError.{KeeperError};
 ghost use Rattle.scoop_record.specs.Gathering.{Gathers, Over};
 ghost use Rattle.scoop_etcd.specs.Etcd.{SameKeys};
@@ -208,6 +208,10 @@ impl<E: Etcd> EtcdStore<E> {
         ensures handlers { E.is_honest self.new.etcd × E.is_alone self.new.etcd
             → Stays (Over self.old.pending (handlers_in self.old.keys.name (E.contents self.old.etcd)))
             (Over self.new.pending (handlers_in self.new.keys.name (E.contents self.new.etcd))) }
+        ensures lasts { E.is_honest self.new.etcd × E.is_alone self.new.etcd
+            → Lasts (Over self.old.pending (handlers_in self.old.keys.name (E.contents self.old.etcd)))
+            (Over self.new.pending (handlers_in self.new.keys.name (E.contents self.new.etcd)))
+            (handlers_in self.old.keys.name (E.contents self.old.etcd)) (handlers_in self.new.keys.name (E.contents self.new.etcd)) }
         ensures incarnations { E.is_honest self.new.etcd × E.is_alone self.new.etcd
             → IsSame (incs_in self.old.keys.name (E.contents self.old.etcd)) (incs_in self.new.keys.name (E.contents self.new.etcd)) }
         ensures keys { self.new.keys ≡ self.old.keys }
@@ -242,6 +246,10 @@ impl<E: Etcd> EtcdStore<E> {
         ensures handlers { E.is_honest self.new.etcd × E.is_alone self.new.etcd
             → Stays (Over self.old.pending (handlers_in self.old.keys.name (E.contents self.old.etcd)))
             (Over self.new.pending (handlers_in self.new.keys.name (E.contents self.new.etcd))) }
+        ensures lasts { E.is_honest self.new.etcd × E.is_alone self.new.etcd
+            → Lasts (Over self.old.pending (handlers_in self.old.keys.name (E.contents self.old.etcd)))
+            (Over self.new.pending (handlers_in self.new.keys.name (E.contents self.new.etcd)))
+            (handlers_in self.old.keys.name (E.contents self.old.etcd)) (handlers_in self.new.keys.name (E.contents self.new.etcd)) }
         ensures incarnations { E.is_honest self.new.etcd × E.is_alone self.new.etcd
             → IsSame (incs_in self.old.keys.name (E.contents self.old.etcd)) (incs_in self.new.keys.name (E.contents self.new.etcd)) }
         ensures keys { self.new.keys ≡ self.old.keys }
@@ -286,6 +294,10 @@ impl<E: Etcd> Keeper<Global> for EtcdStore<E> {
         ensures refused { E.is_honest self.new.etcd × E.is_alone self.new.etcd
             → OnErr result (Stays (Over self.old.pending (handlers_in self.old.keys.name (E.contents self.old.etcd)))
             (Over self.new.pending (handlers_in self.new.keys.name (E.contents self.new.etcd)))) }
+        ensures lasts { E.is_honest self.new.etcd × E.is_alone self.new.etcd
+            → Lasts (Over self.old.pending (handlers_in self.old.keys.name (E.contents self.old.etcd)))
+            (Over self.new.pending (handlers_in self.new.keys.name (E.contents self.new.etcd)))
+            (handlers_in self.old.keys.name (E.contents self.old.etcd)) (handlers_in self.new.keys.name (E.contents self.new.etcd)) }
         ensures named { IfErr result IsPutError }
         ensures honest { E.is_honest self.new.etcd × E.is_alone self.new.etcd → E.is_honest self.old.etcd × E.is_alone self.old.etcd }
     {
@@ -341,6 +353,8 @@ impl<E: Etcd> Keeper<Global> for EtcdStore<E> {
         ensures handlers { E.is_honest self.new.etcd × E.is_alone self.new.etcd
             → Stays (Over self.old.pending (handlers_in self.old.keys.name (E.contents self.old.etcd)))
             (Over self.new.pending (handlers_in self.new.keys.name (E.contents self.new.etcd))) }
+        ensures outlasting { E.is_honest self.new.etcd × E.is_alone self.new.etcd
+            → Stays (handlers_in self.old.keys.name (E.contents self.old.etcd)) (handlers_in self.new.keys.name (E.contents self.new.etcd)) }
         ensures pending { self.new.pending ≡ self.old.pending }
         ensures keys { self.new.keys ≡ self.old.keys }
         ensures taken { self.old.fault ≡ Some StoreFault.TakenOver → (result ≡ Err KeeperError.Refused) × (self.new ≡ self.old) }

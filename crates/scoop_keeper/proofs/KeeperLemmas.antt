@@ -2,7 +2,7 @@
 use Rattle.std.proofs.Common.{◌≡◌, ℕ, Option, Some, None, refl, sym, ap, ◌∙◌}
 use Rattle.scoop_message.specs.declared.name.HandlerId.{HandlerId}
 use Rattle.scoop_handler.specs.State.{HandlerState}
-use Rattle.scoop_keeper.specs.Keeper.{Stored, Missing, Holds, stored_of, IsTheOne, Stays, Keeps, IsSame}
+use Rattle.scoop_keeper.specs.Keeper.{Stored, Missing, Holds, stored_of, IsTheOne, Stays, Lasts, as_it_was, all_it_had, all_it_has, Keeps, IsSame}
 
 -- where a keeper has a state for a handler, a load that succeeds has found that state
 pub found_is : (has : Stored → Type 0) (found : Option HandlerState) (s : HandlerState) → IsTheOne has (stored_of found) → has (Holds s) → found ≡ Some s
@@ -43,6 +43,18 @@ keeps_keeps a b c s t same f k = record {
       let behind = k.others other apart v in
       (λ x. behind.0 (before.0 x), λ x. before.1 (behind.1 x));
 }
+
+-- what outlasts
+pub lasts_same : (has outlasts : ℕ → Stored → Type 0) → Lasts has has outlasts outlasts
+lasts_same has outlasts = as_it_was (stays_same outlasts)
+
+-- after a call that leaves the states
+pub lasts_on : (a b c o p q : ℕ → Stored → Type 0) → Stays a b → Lasts a b o p → Lasts b c p q → Lasts a c o q
+lasts_on a b c o p q stays (as_it_was was) (as_it_was is) = as_it_was (stays_stays o p q was is)
+lasts_on a b c o p q stays (all_it_had was) (as_it_was is) = all_it_had (stays_stays a p q was is)
+lasts_on a b c o p q stays (all_it_has was) (as_it_was is) = all_it_had (stays_stays a b q stays (stays_stays b p q was is))
+lasts_on a b c o p q stays before (all_it_had is) = all_it_had (stays_stays a b q stays is)
+lasts_on a b c o p q stays before (all_it_has is) = all_it_has is
 
 pub is_same_same : (a : ℕ → Option ℕ) → IsSame a a
 is_same_same a = record { each = λ client. refl }

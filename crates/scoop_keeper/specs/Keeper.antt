@@ -27,6 +27,12 @@ StaysAt old new handler = (v : Stored) → old handler v ↔ new handler v
 pub record Stays (old new : ℕ → Stored → Type 0) : Type 0 where
   pub each : (handler : ℕ) → StaysAt old new handler
 
+-- after a put, what outlasts is as it was, or all that the keeper had before it or has after it
+pub data Lasts (had has outlasted outlasts : ℕ → Stored → Type 0) : Type 0 where
+  as_it_was : Stays outlasted outlasts → Lasts had has outlasted outlasts
+  all_it_had : Stays had outlasts → Lasts had has outlasted outlasts
+  all_it_has : Stays has outlasts → Lasts had has outlasted outlasts
+
 -- the state is there for its handler, and what there is for the others stays
 pub record Keeps (old new : ℕ → Stored → Type 0) (s : HandlerState) : Type 0 where
   pub there : new s.number.0 (Holds s)

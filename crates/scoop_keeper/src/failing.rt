@@ -57,7 +57,7 @@ impl<K: Drop> FailingKeeper<K> {
 }
 
 impl<A: Allocator, K: Keeper<A>> Keeper<A> for FailingKeeper<K> {
-    ghost use Rattle.scoop_keeper.specs.Keeper.{Damaged, stored_of, IsTheOne, Stays, Keeps, IsSame, Sets, next_of, last_incarnation, IsPutError};
+    ghost use Rattle.scoop_keeper.specs.Keeper.{Damaged, stored_of, IsTheOne, Stays, Lasts, Keeps, IsSame, Sets, next_of, last_incarnation, IsPutError};
 
     ghost handlers = { λ f. K.handlers f.keeper };
 
@@ -73,6 +73,8 @@ impl<A: Allocator, K: Keeper<A>> Keeper<A> for FailingKeeper<K> {
         ensures stored { K.is_honest self.new.keeper → OnOk result (Keeps (K.handlers self.old.keeper) (K.handlers self.new.keeper) state.now) }
         ensures incarnations { K.is_honest self.new.keeper → IsSame (K.incarnations self.old.keeper) (K.incarnations self.new.keeper) }
         ensures refused { K.is_honest self.new.keeper → OnErr result (Stays (K.handlers self.old.keeper) (K.handlers self.new.keeper)) }
+        ensures lasts { K.is_honest self.new.keeper
+            → Lasts (K.handlers self.old.keeper) (K.handlers self.new.keeper) (K.outlasting self.old.keeper) (K.outlasting self.new.keeper) }
         ensures named { IfErr result IsPutError }
         ensures honest { K.is_honest self.new.keeper → K.is_honest self.old.keeper }
     {
@@ -90,6 +92,7 @@ impl<A: Allocator, K: Keeper<A>> Keeper<A> for FailingKeeper<K> {
         ensures bad { K.is_honest self.new.keeper → result ≡ Err (KeeperError.BadImage handler) → IsTheOne (K.handlers self.old.keeper handler.0) Damaged }
         ensures named { IfErr result (λ e. IsPutError e ⊎ (e ≡ KeeperError.BadImage handler)) }
         ensures handlers { K.is_honest self.new.keeper → Stays (K.handlers self.old.keeper) (K.handlers self.new.keeper) }
+        ensures outlasting { K.is_honest self.new.keeper → Stays (K.outlasting self.old.keeper) (K.outlasting self.new.keeper) }
         ensures incarnations { K.is_honest self.new.keeper → IsSame (K.incarnations self.old.keeper) (K.incarnations self.new.keeper) }
         ensures honest { K.is_honest self.new.keeper → K.is_honest self.old.keeper }
     {
@@ -109,6 +112,7 @@ impl<A: Allocator, K: Keeper<A>> Keeper<A> for FailingKeeper<K> {
         ensures refused { K.is_honest self.new.keeper → OnErr result (IsSame (K.incarnations self.old.keeper) (K.incarnations self.new.keeper)) }
         ensures named { IfErr result (λ e. IsPutError e ⊎ (e ≡ KeeperError.IncarnationsSpent)) }
         ensures handlers { K.is_honest self.new.keeper → Stays (K.handlers self.old.keeper) (K.handlers self.new.keeper) }
+        ensures outlasting { K.is_honest self.new.keeper → Stays (K.outlasting self.old.keeper) (K.outlasting self.new.keeper) }
         ensures honest { K.is_honest self.new.keeper → K.is_honest self.old.keeper }
     {
         if !self.passes() {

@@ -58,7 +58,7 @@ pub trait Keeper<A: Allocator>: Drop {
     ghost use Rattle.scoop_message.specs.declared.name.HandlerId.{HandlerId};
     ghost use Rattle.scoop_message.specs.declared.name.ClientId.{ClientId};
     ghost use Rattle.scoop_keeper.specs.declared.keeper.KeeperError.{KeeperError};
-    ghost use Rattle.scoop_keeper.specs.Keeper.{Stored, Damaged, stored_of, IsTheOne, Stays, Keeps, IsSame, Sets, next_of, last_incarnation, IsPutError};
+    ghost use Rattle.scoop_keeper.specs.Keeper.{Stored, Damaged, stored_of, IsTheOne, Stays, Lasts, Keeps, IsSame, Sets, next_of, last_incarnation, IsPutError};
 
     // The stored state of each handler, by its number.
     ghost handlers: { Self → ℕ → Stored → Type 0 };
@@ -87,6 +87,7 @@ pub trait Keeper<A: Allocator>: Drop {
         ensures stored { is_honest self.new → OnOk result (Keeps (handlers self.old) (handlers self.new) state.now) }
         ensures incarnations { is_honest self.new → IsSame (incarnations self.old) (incarnations self.new) }
         ensures refused { is_honest self.new → OnErr result (Stays (handlers self.old) (handlers self.new)) }
+        ensures lasts { is_honest self.new → Lasts (handlers self.old) (handlers self.new) (outlasting self.old) (outlasting self.new) }
         ensures named { IfErr result IsPutError }
         ensures honest { is_honest self.new → is_honest self.old }
         ensures gives { put_gives self.old state.now result self.new };
@@ -100,6 +101,7 @@ pub trait Keeper<A: Allocator>: Drop {
         ensures bad { is_honest self.new → result ≡ Err (KeeperError.BadImage handler) → IsTheOne (handlers self.old handler.0) Damaged }
         ensures named { IfErr result (λ e. IsPutError e ⊎ (e ≡ KeeperError.BadImage handler)) }
         ensures handlers { is_honest self.new → Stays (handlers self.old) (handlers self.new) }
+        ensures outlasting { is_honest self.new → Stays (outlasting self.old) (outlasting self.new) }
         ensures incarnations { is_honest self.new → IsSame (incarnations self.old) (incarnations self.new) }
         ensures honest { is_honest self.new → is_honest self.old }
         ensures gives { load_gives self.old handler result self.new };
@@ -114,6 +116,7 @@ pub trait Keeper<A: Allocator>: Drop {
         ensures refused { is_honest self.new → OnErr result (IsSame (incarnations self.old) (incarnations self.new)) }
         ensures named { IfErr result (λ e. IsPutError e ⊎ (e ≡ KeeperError.IncarnationsSpent)) }
         ensures handlers { is_honest self.new → Stays (handlers self.old) (handlers self.new) }
+        ensures outlasting { is_honest self.new → Stays (outlasting self.old) (outlasting self.new) }
         ensures honest { is_honest self.new → is_honest self.old }
         ensures gives { next_gives self.old client result self.new };
 
@@ -136,6 +139,7 @@ pub trait Keeper<A: Allocator>: Drop {
     /// Refused with nothing stored: `OutOfMemory`, `Refused`.
     fn note_heard(&mut self, _message: &Message, _heard: &Heard) -> Result<(), KeeperError>
         ensures handlers { is_honest self.new → Stays (handlers self.old) (handlers self.new) }
+        ensures outlasting { is_honest self.new → Stays (outlasting self.old) (outlasting self.new) }
         ensures incarnations { is_honest self.new → IsSame (incarnations self.old) (incarnations self.new) }
         ensures named { IfErr result IsPutError }
         ensures honest { is_honest self.new → is_honest self.old }
@@ -148,6 +152,7 @@ pub trait Keeper<A: Allocator>: Drop {
     /// Refused with nothing stored: `OutOfMemory`, `Refused`.
     fn note_finished(&mut self, _handler: HandlerId) -> Result<(), KeeperError>
         ensures handlers { is_honest self.new → Stays (handlers self.old) (handlers self.new) }
+        ensures outlasting { is_honest self.new → Stays (outlasting self.old) (outlasting self.new) }
         ensures incarnations { is_honest self.new → IsSame (incarnations self.old) (incarnations self.new) }
         ensures named { IfErr result IsPutError }
         ensures honest { is_honest self.new → is_honest self.old }

@@ -2,8 +2,8 @@
 //!
 //! A [`Keeper`] stores and loads them. A [`MemoryKeeper`] has them in memory. A [`FailingKeeper`] stands over another
 //! keeper, for tests. The store in the tables of a database is `scoop_record`'s. A handler runs over any keeper by
-//! [`hear_and_store`] and [`finish_and_store`], which store a new state before the handler keeps it. In the example
-//! `is_loaded` returns whether it was this state that came.
+//! [`hear_and_store`] and [`finish_and_store`]. If the keeper refuses a new state, the handler has the old one again. In
+//! the example `is_loaded` returns whether it was this state that came.
 //!
 //! ```
 //! // what is put for a handler is what is loaded

@@ -1,11 +1,11 @@
-//! A handler over a keeper, which stores each new state before the handler keeps it.
+//! A handler over a keeper, which stores each new state. If that is refused, the handler goes back to the old one.
 
 ghost use Rattle.std.specs.Prelude.{◌≡◌, ◌≢◌, ◌↔◌, Some, IsTrue, IfOk, IfErr, IfSome, OnOk, OnErr};
 ghost use Rattle.scoop_handler.specs.State.{HandlerState as State};
 ghost use Rattle.scoop_handler.specs.Core.{with_state};
 ghost use Rattle.scoop_handler.specs.Hearing.{hear};
 ghost use Rattle.scoop_handler.specs.Running.{after, finished, job_out, ran_of};
-ghost use Rattle.scoop_keeper.specs.Keeper.{Holds, IsPutError, IsSame, Keeps, Stays};
+ghost use Rattle.scoop_keeper.specs.Keeper.{Holds, IsPutError, IsSame, Keeps, Lasts, Stays};
 ghost use Rattle.scoop_keeper.specs.Storing.{leaves};
 
 use crate::keeper::{Keeper, KeeperError};
@@ -84,6 +84,7 @@ fn store_heard<A: Allocator, K: Keeper<A>>(
     requires { IsTrue is_stored → IsTrue (leaves heard.now.note) → K.is_honest keeper.old → K.handlers keeper.old state.now.number.0 (Holds state.now) }
     ensures stored { K.is_honest keeper.new → OnOk result (Keeps (K.handlers keeper.old) (K.handlers keeper.new) state.now) }
     ensures refused { K.is_honest keeper.new → OnErr result (Stays (K.handlers keeper.old) (K.handlers keeper.new)) }
+    ensures lasts { K.is_honest keeper.new → Lasts (K.handlers keeper.old) (K.handlers keeper.new) (K.outlasting keeper.old) (K.outlasting keeper.new) }
     ensures incarnations { K.is_honest keeper.new → IsSame (K.incarnations keeper.old) (K.incarnations keeper.new) }
     ensures named { IfErr result IsPutError }
     ensures honest { K.is_honest keeper.new → K.is_honest keeper.old }
@@ -111,6 +112,7 @@ fn hear_first<B: Behaviour, A: Allocator + Copy, K: Keeper<A>>(
     ensures stored { K.is_honest keeper.new → OnOk result (Keeps (K.handlers keeper.old) (K.handlers keeper.new) (hear handler.old.state message.now).0) }
     ensures err { OnErr result (handler.new ≡ handler.old) }
     ensures kept { K.is_honest keeper.new → OnErr result (Stays (K.handlers keeper.old) (K.handlers keeper.new)) }
+    ensures lasts { K.is_honest keeper.new → Lasts (K.handlers keeper.old) (K.handlers keeper.new) (K.outlasting keeper.old) (K.outlasting keeper.new) }
     ensures incarnations { K.is_honest keeper.new → IsSame (K.incarnations keeper.old) (K.incarnations keeper.new) }
     ensures named { IfErr result IsPutError }
     ensures honest { K.is_honest keeper.new → K.is_honest keeper.old }
@@ -148,6 +150,7 @@ pub fn hear_beside<B: Behaviour, A: Allocator + Copy, K: Keeper<A>>(
     ensures stored { K.is_honest keeper.new → OnOk result (Keeps (K.handlers keeper.old) (K.handlers keeper.new) (hear handler.old.state message.now).0) }
     ensures err { OnErr result (handler.new ≡ handler.old) }
     ensures kept { K.is_honest keeper.new → OnErr result (Stays (K.handlers keeper.old) (K.handlers keeper.new)) }
+    ensures lasts { K.is_honest keeper.new → Lasts (K.handlers keeper.old) (K.handlers keeper.new) (K.outlasting keeper.old) (K.outlasting keeper.new) }
     ensures incarnations { K.is_honest keeper.new → IsSame (K.incarnations keeper.old) (K.incarnations keeper.new) }
     ensures named { IfErr result IsPutError }
     ensures honest { K.is_honest keeper.new → K.is_honest keeper.old }
@@ -180,6 +183,7 @@ pub fn hear_and_store<B: Behaviour, A: Allocator + Copy, K: Keeper<A>>(
     ensures stored { K.is_honest keeper.new → OnOk result (Keeps (K.handlers keeper.old) (K.handlers keeper.new) (hear handler.old.state message.now).0) }
     ensures err { OnErr result (handler.new ≡ handler.old) }
     ensures kept { K.is_honest keeper.new → OnErr result (Stays (K.handlers keeper.old) (K.handlers keeper.new)) }
+    ensures lasts { K.is_honest keeper.new → Lasts (K.handlers keeper.old) (K.handlers keeper.new) (K.outlasting keeper.old) (K.outlasting keeper.new) }
     ensures incarnations { K.is_honest keeper.new → IsSame (K.incarnations keeper.old) (K.incarnations keeper.new) }
     ensures named { IfErr result IsPutError }
     ensures honest { K.is_honest keeper.new → K.is_honest keeper.old }
@@ -197,6 +201,7 @@ fn put_finished<A: Allocator, K: Keeper<A>>(
 ) -> Result<(), KeeperError>
     ensures stored { K.is_honest keeper.new → OnOk result (Keeps (K.handlers keeper.old) (K.handlers keeper.new) state.now) }
     ensures refused { K.is_honest keeper.new → OnErr result (Stays (K.handlers keeper.old) (K.handlers keeper.new)) }
+    ensures lasts { K.is_honest keeper.new → Lasts (K.handlers keeper.old) (K.handlers keeper.new) (K.outlasting keeper.old) (K.outlasting keeper.new) }
     ensures incarnations { K.is_honest keeper.new → IsSame (K.incarnations keeper.old) (K.incarnations keeper.new) }
     ensures named { IfErr result IsPutError }
     ensures honest { K.is_honest keeper.new → K.is_honest keeper.old }
@@ -221,6 +226,7 @@ fn store_after<B: Behaviour, A: Allocator + Copy, K: Keeper<A>>(
     ensures still_beside { OnErr result (IfSome beside.new (λ s. s ≡ handler.now.state)) }
     ensures stored { K.is_honest keeper.new → OnOk result (Keeps (K.handlers keeper.old) (K.handlers keeper.new) (after done.now handler.now.state)) }
     ensures kept { K.is_honest keeper.new → OnErr result (Stays (K.handlers keeper.old) (K.handlers keeper.new)) }
+    ensures lasts { K.is_honest keeper.new → Lasts (K.handlers keeper.old) (K.handlers keeper.new) (K.outlasting keeper.old) (K.outlasting keeper.new) }
     ensures incarnations { K.is_honest keeper.new → IsSame (K.incarnations keeper.old) (K.incarnations keeper.new) }
     ensures honest { K.is_honest keeper.new → K.is_honest keeper.old }
 {
@@ -261,6 +267,7 @@ pub fn finish_beside<B: Behaviour, A: Allocator + Copy, K: Keeper<A>>(
     ensures handed_back { IfErr result (λ e. e.done ≡ done) }
     ensures stranger { IfErr result (λ e. (e.cause ≡ JobRefusal.Stranger) ↔ (job_out handler.old ≢ Some done)) }
     ensures kept { K.is_honest keeper.new → OnErr result (Stays (K.handlers keeper.old) (K.handlers keeper.new)) }
+    ensures lasts { K.is_honest keeper.new → Lasts (K.handlers keeper.old) (K.handlers keeper.new) (K.outlasting keeper.old) (K.outlasting keeper.new) }
     ensures incarnations { K.is_honest keeper.new → IsSame (K.incarnations keeper.old) (K.incarnations keeper.new) }
     ensures honest { K.is_honest keeper.new → K.is_honest keeper.old }
     ensures beside { IfSome beside.new (λ s. s ≡ handler.new.state) }
@@ -288,6 +295,7 @@ pub fn finish_and_store<B: Behaviour, A: Allocator + Copy, K: Keeper<A>>(
     ensures handed_back { IfErr result (λ e. e.done ≡ done) }
     ensures stranger { IfErr result (λ e. (e.cause ≡ JobRefusal.Stranger) ↔ (job_out handler.old ≢ Some done)) }
     ensures kept { K.is_honest keeper.new → OnErr result (Stays (K.handlers keeper.old) (K.handlers keeper.new)) }
+    ensures lasts { K.is_honest keeper.new → Lasts (K.handlers keeper.old) (K.handlers keeper.new) (K.outlasting keeper.old) (K.outlasting keeper.new) }
     ensures incarnations { K.is_honest keeper.new → IsSame (K.incarnations keeper.old) (K.incarnations keeper.new) }
     ensures honest { K.is_honest keeper.new → K.is_honest keeper.old }
 {

@@ -63,7 +63,7 @@ pub fn answer_message<B: Behaviour, K: Keeper<A>, A: Allocator + Copy>(
     ensures kept { K.is_honest book.new.keeper → OnErr result (KeeperStays (K.handlers book.old.keeper) (K.handlers book.new.keeper)) }
     ensures incarnations { K.is_honest book.new.keeper → IsSame (K.incarnations book.old.keeper) (K.incarnations book.new.keeper) }
     ensures honest { K.is_honest book.new.keeper → K.is_honest book.old.keeper }
-    ensures sound { IsBook K.handlers K.is_honest book.old → IsBook K.handlers K.is_honest book.new }
+    ensures sound { IsBook K.handlers K.outlasting K.is_honest book.old → IsBook K.handlers K.outlasting K.is_honest book.new }
 {
     let heard = match book.hear(pass, message) {
         Ok(heard) => heard,
@@ -97,7 +97,7 @@ pub fn answer_datagram<B: Behaviour, K: Keeper<A>, A: Allocator + Copy>(
     ensures kept { K.is_honest book.new.keeper → OnErr result (KeeperStays (K.handlers book.old.keeper) (K.handlers book.new.keeper)) }
     ensures incarnations { K.is_honest book.new.keeper → IsSame (K.incarnations book.old.keeper) (K.incarnations book.new.keeper) }
     ensures honest { K.is_honest book.new.keeper → K.is_honest book.old.keeper }
-    ensures sound { IsBook K.handlers K.is_honest book.old → IsBook K.handlers K.is_honest book.new }
+    ensures sound { IsBook K.handlers K.outlasting K.is_honest book.old → IsBook K.handlers K.outlasting K.is_honest book.new }
 {
     match decode(datagram) {
         Ok((version, message)) => answer_message(book, pass, version, &message, out),

@@ -35,7 +35,7 @@ fn run_next<B: Behaviour, K: Keeper<A>, A: Allocator + Copy>(
     ensures err { OnErr result (Breaks pass handler book.old book.new) }
     ensures refused { IfErr result (BreaksOff handler book.old book.new) }
     ensures others { KeepsOthers K.handlers K.incarnations K.is_honest handler book.old.keeper book.new.keeper }
-    ensures sound { IsBook K.handlers K.is_honest book.new }
+    ensures sound { IsBook K.handlers K.outlasting K.is_honest book.new }
 {
     let job = match book.begin(pass, handler) {
         Ok(Some(job)) => job,
@@ -63,7 +63,7 @@ pub fn run_out<B: Behaviour, K: Keeper<A>, A: Allocator + Copy>(
     ensures err { OnErr result (RunsSome pass handler book.old book.new) }
     ensures refused { IfErr result (BreaksOff handler book.old book.new) }
     ensures others { KeepsOthers K.handlers K.incarnations K.is_honest handler book.old.keeper book.new.keeper }
-    ensures sound { IsBook K.handlers K.is_honest book.new }
+    ensures sound { IsBook K.handlers K.outlasting K.is_honest book.new }
 {
     loop {
         match run_next(book, pass, handler) {

@@ -90,6 +90,7 @@ impl<W: Write + Drop> NodeJournal<W> {
         ensures failed { self.new.lines.has_failed ≡ self.old.lines.has_failed }
         ensures named { IfErr result IsPutError }
         ensures handlers { K.is_honest keeper.new → Stays (K.handlers keeper.old) (K.handlers keeper.new) }
+        ensures outlasting { K.is_honest keeper.new → Stays (K.outlasting keeper.old) (K.outlasting keeper.new) }
         ensures incarnations { K.is_honest keeper.new → IsSame (K.incarnations keeper.old) (K.incarnations keeper.new) }
         ensures honest { K.is_honest keeper.new → K.is_honest keeper.old }
     {
@@ -155,6 +156,7 @@ impl<W: Write + Drop> NodeJournal<W> {
         ensures unsure { OnOk result (self.new.is_unsure ≡ (if leaves heard.now.note then true else owes self.old)) }
         ensures kept { OnErr result (Untouched self.old self.new ⊎ ((result ≡ Err KeeperError.Refused) × (self.new.lines.has_failed ≡ true))) }
         ensures handlers { K.is_honest keeper.new → Stays (K.handlers keeper.old) (K.handlers keeper.new) }
+        ensures outlasting { K.is_honest keeper.new → Stays (K.outlasting keeper.old) (K.outlasting keeper.new) }
         ensures incarnations { K.is_honest keeper.new → IsSame (K.incarnations keeper.old) (K.incarnations keeper.new) }
         ensures named { IfErr result IsPutError }
         ensures honest { K.is_honest keeper.new → K.is_honest keeper.old }
@@ -181,6 +183,7 @@ impl<W: Write + Drop> NodeJournal<W> {
         ensures unsure { OnOk result (self.new.is_unsure ≡ owes self.old) }
         ensures kept { OnErr result (Untouched self.old self.new ⊎ ((result ≡ Err KeeperError.Refused) × (self.new.lines.has_failed ≡ true))) }
         ensures handlers { K.is_honest keeper.new → Stays (K.handlers keeper.old) (K.handlers keeper.new) }
+        ensures outlasting { K.is_honest keeper.new → Stays (K.outlasting keeper.old) (K.outlasting keeper.new) }
         ensures incarnations { K.is_honest keeper.new → IsSame (K.incarnations keeper.old) (K.incarnations keeper.new) }
         ensures named { IfErr result IsPutError }
         ensures honest { K.is_honest keeper.new → K.is_honest keeper.old }

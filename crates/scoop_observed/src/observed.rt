@@ -137,6 +137,7 @@ impl<'a, K: SharedKeeper<Global>, O: Watcher, W: Write + Drop> Keeper<Global>
         ensures kept { OnErr result (OfJournal (λ old new. Untouched old new
             ⊎ ((result ≡ Err KeeperError.Refused) × (new.lines.has_failed ≡ true))) self.old.journal self.new.journal) }
         ensures handlers { K.is_honest self.new.keeper → Stays (K.handlers self.old.keeper) (K.handlers self.new.keeper) }
+        ensures outlasting { K.is_honest self.new.keeper → Stays (K.outlasting self.old.keeper) (K.outlasting self.new.keeper) }
         ensures incarnations { K.is_honest self.new.keeper → IsSame (K.incarnations self.old.keeper) (K.incarnations self.new.keeper) }
         ensures named { IfErr result IsPutError }
         ensures honest { K.is_honest self.new.keeper → K.is_honest self.old.keeper }
@@ -160,6 +161,7 @@ impl<'a, K: SharedKeeper<Global>, O: Watcher, W: Write + Drop> Keeper<Global>
         ensures kept { OnErr result (OfJournal (λ old new. Untouched old new
             ⊎ ((result ≡ Err KeeperError.Refused) × (new.lines.has_failed ≡ true))) self.old.journal self.new.journal) }
         ensures handlers { K.is_honest self.new.keeper → Stays (K.handlers self.old.keeper) (K.handlers self.new.keeper) }
+        ensures outlasting { K.is_honest self.new.keeper → Stays (K.outlasting self.old.keeper) (K.outlasting self.new.keeper) }
         ensures incarnations { K.is_honest self.new.keeper → IsSame (K.incarnations self.old.keeper) (K.incarnations self.new.keeper) }
         ensures named { IfErr result IsPutError }
         ensures honest { K.is_honest self.new.keeper → K.is_honest self.old.keeper }

@@ -2,7 +2,7 @@
 
 ghost use Rattle.std.specs.Prelude.{◌≡◌, ◌⊎◌, true, Err, IfErr, IsSome, OnOk, OnErr, if◌then◌else◌};
 ghost use Rattle.std.specs.Option.{option_map};
-ghost use Rattle.scoop_keeper.specs.Keeper.{IsPutError, IsSame, Keeps, Stays};
+ghost use Rattle.scoop_keeper.specs.Keeper.{IsPutError, IsSame, Keeps, Lasts, Stays};
 ghost use Rattle.scoop_keeper.specs.Storing.{leaves};
 ghost use Rattle.scoop_journal.specs.declared.line.Line.TheVariants.{Hear};
 ghost use Rattle.scoop_journal.specs.Journal.{ended};
@@ -52,6 +52,7 @@ pub(crate) fn put_named<K: Keeper<Global>>(
     ensures put { IsPut (λ own. K.put_gives keeper.old state.now own keeper.new) name.old keeper.old keeper.new result }
     ensures name { name.new ≡ name.old }
     ensures stored { K.is_honest keeper.new → OnOk result (Keeps (K.handlers keeper.old) (K.handlers keeper.new) state.now) }
+    ensures lasts { K.is_honest keeper.new → Lasts (K.handlers keeper.old) (K.handlers keeper.new) (K.outlasting keeper.old) (K.outlasting keeper.new) }
     ensures incarnations { K.is_honest keeper.new → IsSame (K.incarnations keeper.old) (K.incarnations keeper.new) }
     ensures refused { K.is_honest keeper.new → OnErr result (Stays (K.handlers keeper.old) (K.handlers keeper.new)) }
     ensures named { IfErr result IsPutError }
@@ -100,6 +101,7 @@ pub(crate) fn hear_under<K: Keeper<Global>, W: Write + Drop>(
     ensures kept { OnErr result (OfJournal (λ old new. Untouched old new
         ⊎ ((result ≡ Err KeeperError.Refused) × (new.lines.has_failed ≡ true))) journal.old journal.new) }
     ensures handlers { K.is_honest keeper.new → Stays (K.handlers keeper.old) (K.handlers keeper.new) }
+    ensures outlasting { K.is_honest keeper.new → Stays (K.outlasting keeper.old) (K.outlasting keeper.new) }
     ensures incarnations { K.is_honest keeper.new → IsSame (K.incarnations keeper.old) (K.incarnations keeper.new) }
     ensures named { IfErr result IsPutError }
     ensures honest { K.is_honest keeper.new → K.is_honest keeper.old }
@@ -121,6 +123,7 @@ pub(crate) fn finish_under<K: Keeper<Global>, W: Write + Drop>(
     ensures kept { OnErr result (OfJournal (λ old new. Untouched old new
         ⊎ ((result ≡ Err KeeperError.Refused) × (new.lines.has_failed ≡ true))) journal.old journal.new) }
     ensures handlers { K.is_honest keeper.new → Stays (K.handlers keeper.old) (K.handlers keeper.new) }
+    ensures outlasting { K.is_honest keeper.new → Stays (K.outlasting keeper.old) (K.outlasting keeper.new) }
     ensures incarnations { K.is_honest keeper.new → IsSame (K.incarnations keeper.old) (K.incarnations keeper.new) }
     ensures named { IfErr result IsPutError }
     ensures honest { K.is_honest keeper.new → K.is_honest keeper.old }

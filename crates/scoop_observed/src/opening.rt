@@ -43,6 +43,7 @@ pub(crate) fn gather_opening<K: Keeper<Global>, W: Write + Drop>(
 ) -> Result<(), KeeperError>
     ensures named { IfErr result IsPutError }
     ensures handlers { K.is_honest keeper.new → Stays (K.handlers keeper.old) (K.handlers keeper.new) }
+    ensures outlasting { K.is_honest keeper.new → Stays (K.outlasting keeper.old) (K.outlasting keeper.new) }
     ensures incarnations { K.is_honest keeper.new → IsSame (K.incarnations keeper.old) (K.incarnations keeper.new) }
     ensures honest { K.is_honest keeper.new → K.is_honest keeper.old }
     ensures writer { journal.new.writer ≡ journal.old.writer }
@@ -63,6 +64,7 @@ fn gather_states<K: Keeper<Global>, W: Write + Drop>(
 ) -> Result<(), KeeperError>
     ensures named { IfErr result IsPutError }
     ensures handlers { K.is_honest keeper.new → Stays (K.handlers keeper.old) (K.handlers keeper.new) }
+    ensures outlasting { K.is_honest keeper.new → Stays (K.outlasting keeper.old) (K.outlasting keeper.new) }
     ensures incarnations { K.is_honest keeper.new → IsSame (K.incarnations keeper.old) (K.incarnations keeper.new) }
     ensures honest { K.is_honest keeper.new → K.is_honest keeper.old }
     ensures writer { journal.new.writer ≡ journal.old.writer }
@@ -86,6 +88,7 @@ fn gather_handler<K: Keeper<Global>, W: Write + Drop>(
 ) -> Result<(), KeeperError>
     ensures named { IfErr result IsPutError }
     ensures handlers { K.is_honest keeper.new → Stays (K.handlers keeper.old) (K.handlers keeper.new) }
+    ensures outlasting { K.is_honest keeper.new → Stays (K.outlasting keeper.old) (K.outlasting keeper.new) }
     ensures incarnations { K.is_honest keeper.new → IsSame (K.incarnations keeper.old) (K.incarnations keeper.new) }
     ensures honest { K.is_honest keeper.new → K.is_honest keeper.old }
     ensures writer { journal.new.writer ≡ journal.old.writer }

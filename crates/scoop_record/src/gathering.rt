@@ -154,6 +154,8 @@ impl<S: Alter + Drop> Keeper<Global> for GatheringStore<S> {
         ensures handlers { IsSound (seen S.Store self.new.store)
             → Stays (Over self.old.pending (handlers_in (seen S.Store self.old.store).now))
             (Over self.new.pending (handlers_in (seen S.Store self.new.store).now)) }
+        ensures outlasting { IsSound (seen S.Store self.new.store)
+            → Stays (handlers_in (seen S.Store self.old.store).now) (handlers_in (seen S.Store self.new.store).now) }
         ensures pending { self.new.pending ≡ self.old.pending }
         ensures honest { IsSound (seen S.Store self.new.store) → IsSound (seen S.Store self.old.store) }
         ensures survives { Survives (seen S.Store self.old.store) (seen S.Store self.new.store) (λ trees. (db : Database)

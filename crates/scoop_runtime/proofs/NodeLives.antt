@@ -54,10 +54,10 @@ module _ {K : Type 0} (has : K → ℕ → Stored → Type 0) (is_honest : K →
       record { histories = runs.history ∷ []; reopens = (opening, stand, again, runs.replays, refl); kept = λ kept. runs.kept }
 
   -- a node that was served
-  pub goes_served : (stood stand : List LocalHandler) (before now : K) (ps qs : List PassValue) (count turns : ℕ) (complete : Bool) (old new : Option Told)
-      → OpenedFrom stood ps → ServesFirst complete turns ps qs old new → HasEnded count qs (has now) (is_honest now) stand
+  pub goes_served : (outlasting : K → ℕ → Stored → Type 0) (stood stand : List LocalHandler) (before now : K) (ps qs : List PassValue) (count turns : ℕ) (complete : Bool) (old new : Option Told)
+      → OpenedFrom stood ps → ServesFirst complete turns ps qs old new → HasEnded count qs (has now) (outlasting now) (is_honest now) stand
       → GoesFurther has is_honest stood before stand now
-  goes_served stood stand before now ps qs count turns complete old new opened serves ended =
+  goes_served outlasting stood stand before now ps qs count turns complete old new opened serves ended =
       let closed = ended.closes.closed in
       let both : Some (fresh_pass opened.opening 0) ≡ Some serves.first = sym opened.first ∙ serves.was_first in
       let first : serves.first ≡ fresh_pass opened.opening 0 = cc in
@@ -294,9 +294,9 @@ broken_opening pass h a b (not_finished left between gains stays) = stays.openin
 pub some_opening : {K : Type 0} (pass : ℕ) (h : HandlerId) (a b : BookValue K) → RunsSome pass h a b → b.opening ≡ a.opening
 some_opening pass h a b runs = broken_opening pass h runs.last b runs.breaks ∙ ran_opening pass h a runs.last runs.ran
 
-pub runs_from : {K : Type 0} (has : K → ℕ → Stored → Type 0) (is_honest : K → Type 0) (b : BookValue K) (opening stand : List LocalHandler) (now : K)
-    → IsBook has is_honest b → b.opening ≡ opening → now ≡ b.keeper → stand ≡ b.handlers → RunsFrom has is_honest opening stand now
-runs_from has is_honest b opening stand now book opens keeper stands =
+pub runs_from : {K : Type 0} (has outlasting : K → ℕ → Stored → Type 0) (is_honest : K → Type 0) (b : BookValue K) (opening stand : List LocalHandler) (now : K)
+    → IsBook has outlasting is_honest b → b.opening ≡ opening → now ≡ b.keeper → stand ≡ b.handlers → RunsFrom has is_honest opening stand now
+runs_from has outlasting is_honest b opening stand now book opens keeper stands =
     subst (λ k. RunsFrom has is_honest opening stand k) (sym keeper)
     (subst (λ hs. RunsFrom has is_honest opening hs b.keeper) (sym stands)
     (subst (λ os. RunsFrom has is_honest os b.handlers b.keeper) opens

@@ -1,6 +1,7 @@
 //! A node of a system, served over a record.
 
 ghost use Rattle.std.specs.Prelude.{IfOk};
+ghost use Rattle.scoop_keeper.specs.Keeper.{Stays};
 ghost use Rattle.scoop_runtime.specs.NodeLives.{GoesFurther, GoesOn, NodeRan};
 
 use crate::ending::Ending;
@@ -37,7 +38,7 @@ pub struct Around<'a, W: Write> {
     pub ending: &'a Ending,
 }
 
-// Serves the node until its history is full, its turns are over, it is asked to end or it fails, commits what is left, and closes it.
+// Serves the node until its history is full, its turns are over, it is asked to end or it fails, closes it, and commits what is left.
 // Returns why it ended, and the keeper.
 fn serve_once<O, K, L, E, R>(
     rt: &R,
@@ -53,19 +54,18 @@ where
     L: Link,
     E: Write + Drop,
     R: Threads + Wait + Clock + Sync,
-    ensures { IfOk result (λ r. GoesFurther K.handlers K.is_honest resting.stood resting.keeper r.1.stood r.1.keeper) }
+    ensures goes { IfOk result (λ r. GoesFurther K.handlers K.is_honest resting.stood resting.keeper r.1.stood r.1.keeper) }
+    ensures outlasts { IfOk result (λ r. K.is_honest r.1.keeper → Stays (K.handlers r.1.keeper) (K.outlasting r.1.keeper)) }
 {
     let (node, passes) = open_node(alloc, plan, resting)?;
     let stop = ending.next_stop();
     let turns = plan.serving.turns().saturating_sub(link.receives());
     let (end, passes) = serve(rt, alloc, &node, link, passes, &OpenGate, stop, turns);
-    let end = if node.commit(rt).is_ok() {
-        end
-    } else {
-        uncommitted(end)
-    };
     match node.close_standing(rt, passes) {
-        Ok((keeper, stood)) => Ok((end, Resting { keeper, stood })),
+        Ok((keeper, stood, committed)) => match committed {
+            Ok(()) => Ok((end, Resting { keeper, stood })),
+            Err(_) => Err(RuntimeError::from(uncommitted(end))),
+        },
         Err(error) => Err(RuntimeError::from(PartyError::from(error.cause))),
     }
 }
@@ -111,7 +111,8 @@ where
     E: Write + Drop,
     W: Write,
     R: Threads + Wait + Clock + Sync,
-    ensures { IfOk result (λ r. GoesFurther K.handlers K.is_honest resting.stood resting.keeper r.stood r.keeper) }
+    ensures goes { IfOk result (λ r. GoesFurther K.handlers K.is_honest resting.stood resting.keeper r.stood r.keeper) }
+    ensures outlasts { IfOk result (λ r. K.is_honest r.keeper → Stays (K.handlers r.keeper) (K.outlasting r.keeper)) }
 {
     for _ in rt.forever() {
         let (end, kept) = serve_once(rt, alloc, plan, resting, link, around.ending)?;
@@ -129,7 +130,7 @@ where
 /// 2. It serves until its turns are over or another thread asks it to end. When its history is full, it closes the node, which
 ///    compares each pass with the history, and opens it again over the same keeper and link. A client sees this as a restart of
 ///    the node: it loses no answer if it repeats.
-/// 3. It closes the node and returns the keeper.
+/// 3. It closes the node, commits, and returns the keeper. All that this one has outlasts the process.
 ///
 /// It writes a line when it is ready, one at each reopening, and one at its end. The link notes its failed calls; only the
 /// thousandth in a row ends the node.
@@ -156,7 +157,8 @@ where
     E: Write + Drop,
     W: Write,
     R: Threads + Wait + Clock + Sync,
-    ensures { IfOk result (NodeRan K.handlers K.is_honest plan.now.members.items keeper) }
+    ensures ran { IfOk result (NodeRan K.handlers K.is_honest plan.now.members.items keeper) }
+    ensures outlasts { IfOk result (λ now. K.is_honest now → Stays (K.handlers now) (K.outlasting now)) }
 {
     let resting = run_first(rt, alloc, plan, keeper)?;
     let written = print_ready(&plan.place, &plan.numbers, around.lines);

@@ -113,8 +113,9 @@ impl<B: Behaviour, K: Keeper<A>, A: Allocator + Copy> Book<B, K, A> {
         }
     }
 
-    /// A handler hears a message, for the pass of this number. The keeper stores the new state before the handler
-    /// takes it. The book skips the put if the keeper is known to have that state. The entry is the history's last.
+    /// A handler hears a message, for the pass of this number, and the keeper stores the new state. If it refuses, the
+    /// handler goes back to the old one. The book skips the put if the keeper is known to have that state. The entry is
+    /// the history's last.
     ///
     /// A refusal leaves handlers, history and record as they were. In this order: `NodeFailed`, `HistoryFull`,
     /// `UnknownHandler`, `StoreRefused`, after which the book enters nothing any more, `OutOfMemory`.
@@ -131,8 +132,8 @@ impl<B: Behaviour, K: Keeper<A>, A: Allocator + Copy> Book<B, K, A> {
         ensures failed { IfErr result (λ e. self.new.failed ≡ (self.old.failed || fails e)) }
         ensures kept { K.is_honest self.new.keeper → OnErr result (KeeperStays (K.handlers self.old.keeper) (K.handlers self.new.keeper)) }
         ensures honest { K.is_honest self.new.keeper → K.is_honest self.old.keeper }
-        ensures was { IsBook K.handlers K.is_honest self.old }
-        ensures sound { IsBook K.handlers K.is_honest self.new }
+        ensures was { IsBook K.handlers K.outlasting K.is_honest self.old }
+        ensures sound { IsBook K.handlers K.outlasting K.is_honest self.new }
     {
         match self.hear(pass, event.message()) {
             Ok(heard) => Ok(heard_reply(&heard)),
@@ -152,8 +153,8 @@ impl<B: Behaviour, K: Keeper<A>, A: Allocator + Copy> Book<B, K, A> {
         ensures failed { IfErr result (λ e. self.new.failed ≡ (self.old.failed || fails e)) }
         ensures kept { K.is_honest self.new.keeper → OnErr result (KeeperStays (K.handlers self.old.keeper) (K.handlers self.new.keeper)) }
         ensures honest { K.is_honest self.new.keeper → K.is_honest self.old.keeper }
-        ensures was { IsBook K.handlers K.is_honest self.old }
-        ensures sound { IsBook K.handlers K.is_honest self.new }
+        ensures was { IsBook K.handlers K.outlasting K.is_honest self.old }
+        ensures sound { IsBook K.handlers K.outlasting K.is_honest self.new }
     {
         let at = self.place_for(message.handler())?;
         let Ok(()) = self.history.make_room() else {
@@ -182,8 +183,8 @@ impl<B: Behaviour, K: Keeper<A>, A: Allocator + Copy> Book<B, K, A> {
         ensures kept { K.is_honest self.new.keeper → KeeperStays (K.handlers self.old.keeper) (K.handlers self.new.keeper) }
         ensures incarnations { K.is_honest self.new.keeper → IsSame (K.incarnations self.old.keeper) (K.incarnations self.new.keeper) }
         ensures honest { K.is_honest self.new.keeper → K.is_honest self.old.keeper }
-        ensures was { IsBook K.handlers K.is_honest self.old }
-        ensures sound { IsBook K.handlers K.is_honest self.new }
+        ensures was { IsBook K.handlers K.outlasting K.is_honest self.old }
+        ensures sound { IsBook K.handlers K.outlasting K.is_honest self.new }
     {
         if self.failed {
             return Err(BookError::NodeFailed);
@@ -208,8 +209,8 @@ impl<B: Behaviour, K: Keeper<A>, A: Allocator + Copy> Book<B, K, A> {
         ensures unasked { IfErr result (λ e. e ≢ BookError.StoreRefused) }
         ensures stays { OnErr result (Stays self.old self.new) }
         ensures failed { self.new.failed ≡ self.old.failed }
-        ensures was { IsBook K.handlers K.is_honest self.old }
-        ensures sound { IsBook K.handlers K.is_honest self.new }
+        ensures was { IsBook K.handlers K.outlasting K.is_honest self.old }
+        ensures sound { IsBook K.handlers K.outlasting K.is_honest self.new }
     {
         let at = self.place_for(handler)?;
         let Ok(()) = self.history.make_room() else {
@@ -241,8 +242,8 @@ impl<B: Behaviour, K: Keeper<A>, A: Allocator + Copy> Book<B, K, A> {
         ensures failed { IfErr result (λ e. self.new.failed ≡ (self.old.failed || fails_to_finish e.cause)) }
         ensures kept { K.is_honest self.new.keeper → OnErr result (KeeperStays (K.handlers self.old.keeper) (K.handlers self.new.keeper)) }
         ensures honest { K.is_honest self.new.keeper → K.is_honest self.old.keeper }
-        ensures was { IsBook K.handlers K.is_honest self.old }
-        ensures sound { IsBook K.handlers K.is_honest self.new }
+        ensures was { IsBook K.handlers K.outlasting K.is_honest self.old }
+        ensures sound { IsBook K.handlers K.outlasting K.is_honest self.new }
     {
         let handler = done.handler();
         let at = match self.place_for(handler) {

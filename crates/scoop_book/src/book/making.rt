@@ -11,7 +11,7 @@ use crate::book::Book;
 use crate::error::OpenError;
 use crate::handlers::Handlers;
 use crate::history::History;
-use crate::opening::{open_all, refusal};
+use crate::opening::{open_all, refusal, settle};
 use scoop_keeper::Keeper;
 use scoop_message::HandlerId;
 use scoop_message::limits::MAX_HISTORY;
@@ -21,13 +21,14 @@ use std::alloc::Allocator;
 impl<B: Behaviour, K: Keeper<A>, A: Allocator + Copy> Book<B, K, A> {
     /// A book of these handlers. Each is given as its number, the class of its object, and the object. A handler
     /// opens with its stored state and no job out. If the keeper has none, it opens with no holder, no marks, no
-    /// private queues, and the words of its object. Nothing is stored yet. The history is empty, and may have
-    /// 1,000,000 entries.
+    /// private queues, and the words of its object. Nothing is stored yet, but what the keeper has is committed. The
+    /// history is empty, and may have 1,000,000 entries.
     ///
     /// A refusal drops handlers and keeper. In this order:
     /// - `WrongClass` if an object hasn't its class;
     /// - `Repeated` if two handlers have one number;
     /// - handler by handler, `Keeper` if its load is refused, and `WrongClass` if the stored words don't fit the class;
+    /// - `Keeper` if the commit is refused;
     /// - `OutOfMemory`.
     pub fn open(
         alloc: A,
@@ -38,7 +39,7 @@ impl<B: Behaviour, K: Keeper<A>, A: Allocator + Copy> Book<B, K, A> {
         ensures made { IfOk result (λ b. b ≡ book_kept b.opening b.opening [] MAX_HISTORY false b.keeper) }
         ensures opens { IfOk result (λ b. AllOpen B.words (K.handlers keeper) (K.is_honest b.keeper) handlers.items b.opening) }
         ensures may { OnOk result (MayOpen B.class handlers.items) }
-        ensures sound { IfOk result (IsBook K.handlers K.is_honest) }
+        ensures sound { IfOk result (IsBook K.handlers K.outlasting K.is_honest) }
         ensures kept { IfOk result (λ b. K.is_honest b.keeper → KeeperStays (K.handlers keeper) (K.handlers b.keeper)) }
         ensures incarnations { IfOk result (λ b. K.is_honest b.keeper → IsSame (K.incarnations keeper) (K.incarnations b.keeper)) }
         ensures honest { IfOk result (λ b. K.is_honest b.keeper → K.is_honest keeper) }
@@ -58,7 +59,7 @@ impl<B: Behaviour, K: Keeper<A>, A: Allocator + Copy> Book<B, K, A> {
         ensures made { IfOk result (λ b. b ≡ book_kept b.opening b.opening [] limit false b.keeper) }
         ensures opens { IfOk result (λ b. AllOpen B.words (K.handlers keeper) (K.is_honest b.keeper) handlers.items b.opening) }
         ensures may { OnOk result (MayOpen B.class handlers.items) }
-        ensures sound { IfOk result (IsBook K.handlers K.is_honest) }
+        ensures sound { IfOk result (IsBook K.handlers K.outlasting K.is_honest) }
         ensures kept { IfOk result (λ b. K.is_honest b.keeper → KeeperStays (K.handlers keeper) (K.handlers b.keeper)) }
         ensures incarnations { IfOk result (λ b. K.is_honest b.keeper → IsSame (K.incarnations keeper) (K.incarnations b.keeper)) }
         ensures honest { IfOk result (λ b. K.is_honest b.keeper → K.is_honest keeper) }
@@ -72,6 +73,9 @@ impl<B: Behaviour, K: Keeper<A>, A: Allocator + Copy> Book<B, K, A> {
             Ok(opened) => opened,
             Err(error) => return Err(error),
         };
+        if let Err(error) = settle(&mut keeper) {
+            return Err(error);
+        }
         Ok(Book {
             opening,
             handlers: Handlers::new(locals, keeper),

@@ -21,7 +21,7 @@ impl<B: Behaviour, K: Keeper<A>, A: Allocator + Copy> Book<B, K, A> {
     pub fn into_standing(self) -> (K, Standing<B, A>)
         ensures keeper { result.0 ≡ self.keeper }
         ensures stand { result.1 ≡ self.handlers }
-        ensures sound { IsBook K.handlers K.is_honest self }
+        ensures sound { IsBook K.handlers K.outlasting K.is_honest self }
     {
         let Book {
             opening,
@@ -47,7 +47,7 @@ impl<B: Behaviour, K: Keeper<A>, A: Allocator + Copy> Book<B, K, A> {
         ensures opens { IfOk result (λ b. AllOpen B.words (K.handlers keeper) (K.is_honest b.keeper) handlers.items b.opening) }
         ensures again { IfOk result (λ b. AllOpenAgain stood.now b.opening) }
         ensures may { OnOk result (MayOpen B.class handlers.items) }
-        ensures sound { IfOk result (IsBook K.handlers K.is_honest) }
+        ensures sound { IfOk result (IsBook K.handlers K.outlasting K.is_honest) }
         ensures honest { IfOk result (λ b. K.is_honest b.keeper → K.is_honest keeper) }
         // The keeper is dropped, so the clause speaks of the record only if every such keeper is honest.
         ensures refused { IfErr result (IsNotReopened B.class B.words (K.handlers keeper) ((k : K) → K.is_honest k) handlers.items stood.now) }
@@ -67,7 +67,7 @@ impl<B: Behaviour, K: Keeper<A>, A: Allocator + Copy> Book<B, K, A> {
         ensures opens { IfOk result (λ b. AllOpen B.words (K.handlers keeper) (K.is_honest b.keeper) handlers.items b.opening) }
         ensures again { IfOk result (λ b. AllOpenAgain stood.now b.opening) }
         ensures may { OnOk result (MayOpen B.class handlers.items) }
-        ensures sound { IfOk result (IsBook K.handlers K.is_honest) }
+        ensures sound { IfOk result (IsBook K.handlers K.outlasting K.is_honest) }
         ensures honest { IfOk result (λ b. K.is_honest b.keeper → K.is_honest keeper) }
         // The keeper is dropped, so the clause speaks of the record only if every such keeper is honest.
         ensures refused { IfErr result (IsNotReopened B.class B.words (K.handlers keeper) ((k : K) → K.is_honest k) handlers.items stood.now) }

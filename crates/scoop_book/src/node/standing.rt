@@ -1,14 +1,16 @@
 //! Nodes that end, and open again with the handlers as they stood.
 
 ghost use Rattle.std.specs.Prelude.{◌≡◌, ◌≢◌, ◌≤◌, ◌<◌, ◌↔◌, ℕ, Some, length, slice_get, IfOk, IfErr, OnOk};
+ghost use Rattle.scoop_keeper.specs.Keeper.{Stays};
 ghost use Rattle.scoop_message.specs.declared.limits.TheConstants.{MAX_HANDLERS, MAX_HISTORY};
-ghost use Rattle.scoop_book.specs.Closing.{Differs, FollowsOpening, IsComplete, WasSo};
+ghost use Rattle.scoop_book.specs.Closing.{AreAllPasses, Differs, FollowsOpening, IsComplete, WasSo};
+ghost use Rattle.scoop_book.specs.Books.{IsUncommitted};
 ghost use Rattle.scoop_book.specs.Passes.{fresh_pass};
-ghost use Rattle.scoop_book.specs.Reopening.{ClosesWith, HasEnded, HasReopened, IsNodeNotReopened};
+ghost use Rattle.scoop_book.specs.Reopening.{HasEnded, HasReopened, IsNodeNotReopened};
 
 use crate::book::Book;
 use crate::closing::refusal;
-use crate::error::{CloseError, CloseRefusal, OpenError, ReopenError};
+use crate::error::{BookError, CloseError, CloseRefusal, OpenError, ReopenError};
 use crate::node::Node;
 use crate::pass::{Pass, fresh_passes};
 use crate::standing::Standing;
@@ -42,12 +44,11 @@ impl<B: Behaviour, K: Keeper<A>, A: Allocator + Copy> Node<B, K, A> {
         self,
         passes: Vec<Pass<A>, A>,
     ) -> Result<Book<B, K, A>, CloseError<B, K, A>>
-        ensures closes { IfOk result (λ b. ClosesWith self.passes passes.items b.history (K.handlers b.keeper) (K.is_honest b.keeper) b.handlers) }
-        ensures since { IfOk result (λ b. FollowsOpening K.handlers K.is_honest passes.items b.keeper) }
+        ensures agree { IfOk result (λ b. AreAllPasses self.passes passes.items b.opening b.history) }
         ensures handed_back { IfErr result (λ e. (e.node ≡ self) × (e.passes ≡ passes)) }
         ensures missing { IfErr result (λ e. (e.cause ≡ CloseRefusal.MissingPass) ↔ (IsComplete self.passes passes.items → ⊥)) }
         ensures differs { IfErr result (λ e. (n : ℕ) → e.cause ≡ CloseRefusal.PassDiffers n
-            → WasSo K.handlers K.is_honest (λ b. Differs b.opening b.history self.passes passes.items) n) }
+            → WasSo K.handlers K.outlasting K.is_honest (λ b. Differs b.opening b.history self.passes passes.items) n) }
         ensures memory { IfErr result (λ e. e.cause ≢ CloseRefusal.OutOfMemory) }
     {
         let Node {
@@ -71,27 +72,32 @@ impl<B: Behaviour, K: Keeper<A>, A: Allocator + Copy> Node<B, K, A> {
         }
     }
 
-    /// Ends the node as [`Node::close`] does, and returns its keeper and the handlers as they stand. Takes no memory, and
-    /// never waits.
+    /// Ends the node as [`Node::close`] does, commits what its handlers' events have stored, and returns its keeper, the
+    /// handlers as they stand, and the commit's refusal if there is one. Waits for no lock.
     ///
-    /// Refused as `close`.
+    /// Refused as `close`, with nothing committed.
     pub fn close_standing<R: Wait>(
         self,
         _rt: &R,
         passes: Vec<Pass<A>, A>,
-    ) -> Result<(K, Standing<B, A>), CloseError<B, K, A>>
-        ensures ended { IfOk result (λ r. HasEnded self.passes passes.items (K.handlers r.0) (K.is_honest r.0) r.1) }
+    ) -> Result<(K, Standing<B, A>, Result<(), BookError>), CloseError<B, K, A>>
+        ensures ended { IfOk result (λ r. HasEnded self.passes passes.items (K.handlers r.0) (K.outlasting r.0) (K.is_honest r.0) r.1) }
+        ensures outlasts { IfOk result (λ r. K.is_honest r.0 → OnOk r.2 (Stays (K.handlers r.0) (K.outlasting r.0))) }
+        ensures uncommitted { IfOk result (λ r. IfErr r.2 (WasSo K.handlers K.outlasting K.is_honest IsUncommitted)) }
         ensures since { IfOk result (λ r. FollowsOpening K.handlers K.is_honest passes.items r.0) }
         ensures handed_back { IfErr result (λ e. (e.node ≡ self) × (e.passes ≡ passes)) }
         ensures missing { IfErr result (λ e. (e.cause ≡ CloseRefusal.MissingPass) ↔ (IsComplete self.passes passes.items → ⊥)) }
         ensures differs { IfErr result (λ e. (n : ℕ) → e.cause ≡ CloseRefusal.PassDiffers n
-            → WasSo K.handlers K.is_honest (λ b. Differs b.opening b.history self.passes passes.items) n) }
+            → WasSo K.handlers K.outlasting K.is_honest (λ b. Differs b.opening b.history self.passes passes.items) n) }
         ensures memory { IfErr result (λ e. e.cause ≢ CloseRefusal.OutOfMemory) }
     {
-        match self.into_agreed(passes) {
-            Ok(book) => Ok(book.into_standing()),
-            Err(error) => Err(error),
-        }
+        let mut book = match self.into_agreed(passes) {
+            Ok(book) => book,
+            Err(error) => return Err(error),
+        };
+        let committed = book.commit();
+        let (keeper, stood) = book.into_standing();
+        Ok((keeper, stood, committed))
     }
 
     /// A node of handlers that have stood so, as [`Node::open_limited`] opens one.

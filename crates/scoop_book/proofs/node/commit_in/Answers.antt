@@ -7,5 +7,5 @@ returns-clause-committed g c = if_committed g.K.Keeper.handlers g.K.Keeper.outla
     c.commit.result c.commit.ensures.outlasts c.commit.ensures.sound
 
 pub returns-clause-refused : goal.returns-clause-refused
-returns-clause-refused g c = if_refused g.K.Keeper.handlers g.K.Keeper.is_honest IsUncommitted c.args.book.now c.commit.result c.commit.ensures.refused
+returns-clause-refused g c = if_refused g.K.Keeper.handlers g.K.Keeper.outlasting g.K.Keeper.is_honest IsUncommitted c.args.book.now c.commit.result c.commit.ensures.refused
     c.commit.ensures.was

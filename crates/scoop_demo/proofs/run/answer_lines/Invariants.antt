@@ -12,7 +12,7 @@ invariant-loop-lines g l = record {
   progress : Progress (g.R.Read.remaining l.fn.reader) l.lines l.initial.book l.book (g.W.Write.contents l.initial.writer) (g.W.Write.contents l.writer);
   others : KeepsElsewhere g.K.Keeper.handlers g.K.Keeper.incarnations g.K.Keeper.is_honest l.initial.book.handlers l.initial.book.keeper l.book.keeper;
   absent : (h : HandlerId) → handler_in h l.initial.book.handlers ≡ None → handler_in h l.book.handlers ≡ None;
-  sound : IsBook g.K.Keeper.handlers g.K.Keeper.is_honest l.initial.book → IsBook g.K.Keeper.handlers g.K.Keeper.is_honest l.book;
+  sound : IsBook g.K.Keeper.handlers g.K.Keeper.outlasting g.K.Keeper.is_honest l.initial.book → IsBook g.K.Keeper.handlers g.K.Keeper.outlasting g.K.Keeper.is_honest l.book;
 }
 
 abbrev pub decreases-loop-lines : goal.decreases-loop-lines

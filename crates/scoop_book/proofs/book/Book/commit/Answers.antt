@@ -7,14 +7,14 @@ use Rattle.scoop_book.proofs.book.Book.commit.Goals as goal
 pub invariant_of-self : goal.invariant_of-self
 invariant_of-self g c =
     book_same c.self.inside.opening.items c.self.inside.handlers c.self.inside.history.entries c.self.inside.limit c.self.inside.failed c.args.self.now
-    c.self.view_is g.K.Keeper.handlers g.K.Keeper.is_honest c.commit.new.self c.self.inside.history.entries c.self.inside.failed c.self.invariant
-    c.commit.ensures.handlers refl c.commit.ensures.held c.commit.ensures.honest
+    c.self.view_is g.K.Keeper.handlers g.K.Keeper.outlasting g.K.Keeper.is_honest c.commit.new.self c.self.inside.history.entries c.self.inside.failed c.self.invariant
+    c.commit.ensures.handlers refl c.commit.ensures.held c.commit.ensures.honest c.commit.ensures.lasts
 
 pub invariant_of-self-in-Err : goal.invariant_of-self-in-Err
 invariant_of-self-in-Err g c =
     book_same c.self.inside.opening.items c.self.inside.handlers c.self.inside.history.entries c.self.inside.limit c.self.inside.failed c.args.self.now
-    c.self.view_is g.K.Keeper.handlers g.K.Keeper.is_honest c.commit.new.self c.self.inside.history.entries _ c.self.invariant
-    c.commit.ensures.handlers refl c.commit.ensures.held c.commit.ensures.honest
+    c.self.view_is g.K.Keeper.handlers g.K.Keeper.outlasting g.K.Keeper.is_honest c.commit.new.self c.self.inside.history.entries _ c.self.invariant
+    c.commit.ensures.handlers refl c.commit.ensures.held c.commit.ensures.honest c.commit.ensures.lasts
 
 pub returns-in-Ok-clause-kept : goal.returns-in-Ok-clause-kept
 returns-in-Ok-clause-kept g c honest =
@@ -55,14 +55,14 @@ returns-in-Err-clause-honest g c honest =
 pub returns-in-Ok-clause-sound : goal.returns-in-Ok-clause-sound
 returns-in-Ok-clause-sound g c =
     book_same c.self.inside.opening.items c.self.inside.handlers c.self.inside.history.entries c.self.inside.limit c.self.inside.failed c.args.self.now
-    c.self.view_is g.K.Keeper.handlers g.K.Keeper.is_honest c.commit.new.self c.self.inside.history.entries c.self.inside.failed c.self.invariant
-    c.commit.ensures.handlers refl c.commit.ensures.held c.commit.ensures.honest
+    c.self.view_is g.K.Keeper.handlers g.K.Keeper.outlasting g.K.Keeper.is_honest c.commit.new.self c.self.inside.history.entries c.self.inside.failed c.self.invariant
+    c.commit.ensures.handlers refl c.commit.ensures.held c.commit.ensures.honest c.commit.ensures.lasts
 
 pub returns-in-Err-clause-sound : goal.returns-in-Err-clause-sound
 returns-in-Err-clause-sound g c =
     book_same c.self.inside.opening.items c.self.inside.handlers c.self.inside.history.entries c.self.inside.limit c.self.inside.failed c.args.self.now
-    c.self.view_is g.K.Keeper.handlers g.K.Keeper.is_honest c.commit.new.self c.self.inside.history.entries _ c.self.invariant
-    c.commit.ensures.handlers refl c.commit.ensures.held c.commit.ensures.honest
+    c.self.view_is g.K.Keeper.handlers g.K.Keeper.outlasting g.K.Keeper.is_honest c.commit.new.self c.self.inside.history.entries _ c.self.invariant
+    c.commit.ensures.handlers refl c.commit.ensures.held c.commit.ensures.honest c.commit.ensures.lasts
 
 pub returns-in-Err-clause-before : goal.returns-in-Err-clause-before
 returns-in-Err-clause-before g c honest =

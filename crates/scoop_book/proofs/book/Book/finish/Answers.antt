@@ -49,8 +49,8 @@ returns-in-Err-clause-failed g c =
 pub invariant_of-self-in-Err-finish : goal.invariant_of-self-in-Err-finish
 invariant_of-self-in-Err-finish g c =
     book_same c.self.inside.opening.items c.self.inside.handlers c.self.inside.history.entries c.self.inside.limit c.self.inside.failed c.args.self.now
-    c.self.view_is g.K.Keeper.handlers g.K.Keeper.is_honest c.finish.new.self c.make_room.new.self.entries _ c.self.invariant c.in-Err-finish.ensures.err
-    c.make_room.ensures.entries c.finish.ensures.held c.finish.ensures.honest
+    c.self.view_is g.K.Keeper.handlers g.K.Keeper.outlasting g.K.Keeper.is_honest c.finish.new.self c.make_room.new.self.entries _ c.self.invariant c.in-Err-finish.ensures.err
+    c.make_room.ensures.entries c.finish.ensures.held c.finish.ensures.honest c.finish.ensures.lasts
 
 pub returns-in-Err-finish-clause-incarnations : goal.returns-in-Err-finish-clause-incarnations
 returns-in-Err-finish-clause-incarnations g c honest =
@@ -76,8 +76,8 @@ returns-in-Err-finish-clause-kept g c honest =
 pub returns-in-Err-finish-clause-sound : goal.returns-in-Err-finish-clause-sound
 returns-in-Err-finish-clause-sound g c =
     book_same c.self.inside.opening.items c.self.inside.handlers c.self.inside.history.entries c.self.inside.limit c.self.inside.failed c.args.self.now
-    c.self.view_is g.K.Keeper.handlers g.K.Keeper.is_honest c.finish.new.self c.make_room.new.self.entries _ c.self.invariant c.in-Err-finish.ensures.err
-    c.make_room.ensures.entries c.finish.ensures.held c.finish.ensures.honest
+    c.self.view_is g.K.Keeper.handlers g.K.Keeper.outlasting g.K.Keeper.is_honest c.finish.new.self c.make_room.new.self.entries _ c.self.invariant c.in-Err-finish.ensures.err
+    c.make_room.ensures.entries c.finish.ensures.held c.finish.ensures.honest c.finish.ensures.lasts
 
 pub returns-clause-stored : goal.returns-clause-stored
 returns-clause-stored g c honest =
@@ -105,9 +105,9 @@ invariant_of-self-2 g c =
     (Finished c.in-Ok-finish.ran) c.finished-reply.result
     (subst (λ (h : HandlerId). c.enter.new.self.entries ≡ c.make_room.new.self.entries ++ (c.args.pass, Finish h, c.finished-reply.result) ∷ [])
     c.handler-handler.ensures c.enter.ensures) c.make_room.ensures.entries c.finished-reply.ensures)
-    g.K.Keeper.handlers g.K.Keeper.is_honest c.self.invariant
+    g.K.Keeper.handlers g.K.Keeper.outlasting g.K.Keeper.is_honest c.self.invariant
     (room_left c.self.inside.opening.items c.self.inside.handlers c.self.inside.history.entries c.self.inside.limit c.self.inside.failed c.args.self.now
-    c.self.view_is c.handler-handler.result c.in-Ok.ensures.may) c.finish.ensures.held c.finish.ensures.honest
+    c.self.view_is c.handler-handler.result c.in-Ok.ensures.may) c.finish.ensures.held c.finish.ensures.honest c.finish.ensures.lasts
 
 pub returns-clause-gains : goal.returns-clause-gains
 returns-clause-gains g c =
@@ -127,9 +127,9 @@ returns-clause-sound g c =
     (Finished c.in-Ok-finish.ran) c.finished-reply.result
     (subst (λ (h : HandlerId). c.enter.new.self.entries ≡ c.make_room.new.self.entries ++ (c.args.pass, Finish h, c.finished-reply.result) ∷ [])
     c.handler-handler.ensures c.enter.ensures) c.make_room.ensures.entries c.finished-reply.ensures)
-    g.K.Keeper.handlers g.K.Keeper.is_honest c.self.invariant
+    g.K.Keeper.handlers g.K.Keeper.outlasting g.K.Keeper.is_honest c.self.invariant
     (room_left c.self.inside.opening.items c.self.inside.handlers c.self.inside.history.entries c.self.inside.limit c.self.inside.failed c.args.self.now
-    c.self.view_is c.handler-handler.result c.in-Ok.ensures.may) c.finish.ensures.held c.finish.ensures.honest
+    c.self.view_is c.handler-handler.result c.in-Ok.ensures.may) c.finish.ensures.held c.finish.ensures.honest c.finish.ensures.lasts
 
 pub returns-in-Err-finish-clause-honest : goal.returns-in-Err-finish-clause-honest
 returns-in-Err-finish-clause-honest g c honest = subst (λ k. g.K.Keeper.is_honest k)

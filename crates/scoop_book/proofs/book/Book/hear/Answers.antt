@@ -20,8 +20,8 @@ returns-in_default-clause-kept g c honest =
 pub invariant_of-self-in-Err : goal.invariant_of-self-in-Err
 invariant_of-self-in-Err g c =
     book_same c.self.inside.opening.items c.self.inside.handlers c.self.inside.history.entries c.self.inside.limit c.self.inside.failed c.args.self.now
-    c.self.view_is g.K.Keeper.handlers g.K.Keeper.is_honest c.hear.new.self c.make_room.new.self.entries _ c.self.invariant c.in-Err.ensures.err
-    c.make_room.ensures.entries c.hear.ensures.held c.hear.ensures.honest
+    c.self.view_is g.K.Keeper.handlers g.K.Keeper.outlasting g.K.Keeper.is_honest c.hear.new.self c.make_room.new.self.entries _ c.self.invariant c.in-Err.ensures.err
+    c.make_room.ensures.entries c.hear.ensures.held c.hear.ensures.honest c.hear.ensures.lasts
 
 pub returns-in-Err-clause-incarnations : goal.returns-in-Err-clause-incarnations
 returns-in-Err-clause-incarnations g c honest =
@@ -43,8 +43,8 @@ returns-in-Err-clause-kept g c honest =
 pub returns-in-Err-clause-sound : goal.returns-in-Err-clause-sound
 returns-in-Err-clause-sound g c =
     book_same c.self.inside.opening.items c.self.inside.handlers c.self.inside.history.entries c.self.inside.limit c.self.inside.failed c.args.self.now
-    c.self.view_is g.K.Keeper.handlers g.K.Keeper.is_honest c.hear.new.self c.make_room.new.self.entries _ c.self.invariant c.in-Err.ensures.err
-    c.make_room.ensures.entries c.hear.ensures.held c.hear.ensures.honest
+    c.self.view_is g.K.Keeper.handlers g.K.Keeper.outlasting g.K.Keeper.is_honest c.hear.new.self c.make_room.new.self.entries _ c.self.invariant c.in-Err.ensures.err
+    c.make_room.ensures.entries c.hear.ensures.held c.hear.ensures.honest c.hear.ensures.lasts
 
 pub returns-clause-incarnations : goal.returns-clause-incarnations
 returns-clause-incarnations g c honest =
@@ -58,9 +58,9 @@ invariant_of-self-2 g c =
     c.self.view_is c.hear.new.self c.enter_heard.new.self.entries c.args.pass (Hear c.args.message.now) (Heard c.in-Ok-hear.heard)
     c.in-Ok-hear.ensures.moves (entered c.self.inside.history.entries c.make_room.new.self.entries c.enter_heard.new.self.entries c.args.pass
     (Hear c.args.message.now) (Heard c.in-Ok-hear.heard) (Heard c.in-Ok-hear.heard) c.enter_heard.ensures c.make_room.ensures.entries refl)
-    g.K.Keeper.handlers g.K.Keeper.is_honest c.self.invariant
+    g.K.Keeper.handlers g.K.Keeper.outlasting g.K.Keeper.is_honest c.self.invariant
     (room_left c.self.inside.opening.items c.self.inside.handlers c.self.inside.history.entries c.self.inside.limit c.self.inside.failed c.args.self.now
-    c.self.view_is c.handler.result c.in_ok-at.ensures.may) c.hear.ensures.held c.hear.ensures.honest
+    c.self.view_is c.handler.result c.in_ok-at.ensures.may) c.hear.ensures.held c.hear.ensures.honest c.hear.ensures.lasts
 
 pub returns-clause-gains : goal.returns-clause-gains
 returns-clause-gains g c =
@@ -75,9 +75,9 @@ returns-clause-sound g c =
     c.self.view_is c.hear.new.self c.enter_heard.new.self.entries c.args.pass (Hear c.args.message.now) (Heard c.in-Ok-hear.heard)
     c.in-Ok-hear.ensures.moves (entered c.self.inside.history.entries c.make_room.new.self.entries c.enter_heard.new.self.entries c.args.pass
     (Hear c.args.message.now) (Heard c.in-Ok-hear.heard) (Heard c.in-Ok-hear.heard) c.enter_heard.ensures c.make_room.ensures.entries refl)
-    g.K.Keeper.handlers g.K.Keeper.is_honest c.self.invariant
+    g.K.Keeper.handlers g.K.Keeper.outlasting g.K.Keeper.is_honest c.self.invariant
     (room_left c.self.inside.opening.items c.self.inside.handlers c.self.inside.history.entries c.self.inside.limit c.self.inside.failed c.args.self.now
-    c.self.view_is c.handler.result c.in_ok-at.ensures.may) c.hear.ensures.held c.hear.ensures.honest
+    c.self.view_is c.handler.result c.in_ok-at.ensures.may) c.hear.ensures.held c.hear.ensures.honest c.hear.ensures.lasts
 
 pub returns-in-Err-clause-honest : goal.returns-in-Err-clause-honest
 returns-in-Err-clause-honest g c honest = subst (λ k. g.K.Keeper.is_honest k)

@@ -1,14 +1,28 @@
-use Rattle.scoop_book.specs.Closing.{FollowsOpening}
 use Rattle.std.proofs.Common.{sym, subst}
-use Rattle.scoop_book.proofs.ReopeningLemmas.{ended_with}
+use Rattle.std.specs.Prelude.{OnOk}
+use Rattle.scoop_keeper.specs.Keeper.{Stays}
+use Rattle.scoop_book.specs.Books.{IsUncommitted}
+use Rattle.scoop_book.proofs.NodeLemmas.{closes_of, follows_of, if_refused}
 use Rattle.scoop_book.proofs.node.Node.close_standing.Goals as goal
 
-pub returns-in-Ok-clause-ended : goal.returns-in-Ok-clause-ended
-returns-in-Ok-clause-ended g c =
-    ended_with g.K.Keeper.handlers g.K.Keeper.is_honest c.args.self.passes c.args.passes.items c.in-Ok.book.history
-    c.in-Ok.book.keeper c.into_standing.result.0 c.in-Ok.book.handlers c.into_standing.result.1 c.into_standing.ensures.keeper c.into_standing.ensures.stand
-    c.in-Ok.ensures.closes
+pub returns-clause-ended : goal.returns-clause-ended
+returns-clause-ended g c = record {
+  history = c.in-Ok.book.history;
+  closes = closes_of g.K.Keeper.handlers g.K.Keeper.outlasting g.K.Keeper.is_honest c.in-Ok.book c.commit-committed.new.self c.args.self.passes c.args.passes.items
+      c.in-Ok.ensures.agree c.commit-committed.ensures.stays c.commit-committed.ensures.sound c.into_standing-keeper.result.1 c.into_standing-keeper.result.0 c.into_standing-keeper.ensures.stand
+      c.into_standing-keeper.ensures.keeper;
+}
 
-pub returns-in-Ok-clause-since : goal.returns-in-Ok-clause-since
-returns-in-Ok-clause-since g c =
-    subst (λ k. FollowsOpening g.K.Keeper.handlers g.K.Keeper.is_honest c.args.passes.items k) (sym c.into_standing.ensures.keeper) c.in-Ok.ensures.since
+pub returns-clause-outlasts : goal.returns-clause-outlasts
+returns-clause-outlasts g c =
+    subst (λ k. g.K.Keeper.is_honest k → OnOk c.commit-committed.result (Stays (g.K.Keeper.handlers k) (g.K.Keeper.outlasting k))) (sym c.into_standing-keeper.ensures.keeper)
+    c.commit-committed.ensures.outlasts
+
+pub returns-clause-uncommitted : goal.returns-clause-uncommitted
+returns-clause-uncommitted g c = if_refused g.K.Keeper.handlers g.K.Keeper.outlasting g.K.Keeper.is_honest IsUncommitted c.in-Ok.book c.commit-committed.result
+    c.commit-committed.ensures.refused c.commit-committed.ensures.was
+
+pub returns-clause-since : goal.returns-clause-since
+returns-clause-since g c =
+    follows_of g.K.Keeper.handlers g.K.Keeper.outlasting g.K.Keeper.is_honest c.in-Ok.book c.commit-committed.new.self c.args.self.passes c.args.passes.items
+    c.in-Ok.ensures.agree c.commit-committed.ensures.stays c.commit-committed.ensures.sound c.into_standing-keeper.result.0 c.into_standing-keeper.ensures.keeper

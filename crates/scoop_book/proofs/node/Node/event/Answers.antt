@@ -8,5 +8,5 @@ use Rattle.scoop_book.proofs.node.Node.event.Goals as goal
 
 pub returns-in-Err-clause-refused : goal.returns-in-Err-clause-refused
 returns-in-Err-clause-refused g c =
-    subst (λ (e : Event). (c.in-Err.error ≡ OutOfMemory) ⊎ WasSo g.K.Keeper.handlers g.K.Keeper.is_honest (λ b. IsRefused b (handler_at e)) c.in-Err.error)
+    subst (λ (e : Event). (c.in-Err.error ≡ OutOfMemory) ⊎ WasSo g.K.Keeper.handlers g.K.Keeper.outlasting g.K.Keeper.is_honest (λ b. IsRefused b (handler_at e)) c.in-Err.error)
     (sym c.message.ensures) c.in-Err.ensures.refused

@@ -1,17 +1,15 @@
-use Rattle.std.proofs.Common.{◌≡◌, ◌↔◌, ℕ, List, refl, ap, subst}
+use Rattle.std.proofs.Common.{◌≡◌, ◌↔◌, ℕ, List, ap, subst}
 use Rattle.scoop_book.specs.declared.error.CloseRefusal.TheVariants.{MissingPass}
 use Rattle.scoop_book.specs.Closing.{IsComplete}
 use Rattle.scoop_book.specs.Passes.{NodeValue, PassValue}
-use Rattle.scoop_book.proofs.NodeLemmas.{differs_of, follows_of}
-use Rattle.scoop_book.proofs.ReopeningLemmas.{closes_of}
+use Rattle.scoop_book.proofs.NodeLemmas.{all_passes, differs_of}
 use Rattle.scoop_book.proofs.node.Node.into_agreed.Goals as goal
 
-pub returns-in-None-clause-closes : goal.returns-in-None-clause-closes
-returns-in-None-clause-closes g c =
-    closes_of g.K.Keeper.handlers g.K.Keeper.is_honest c.into_inner-book.result c.args.self.passes c.self.inside.passes c.args.passes.items c.deref.result.now
-    c.opening.result.now c.history.result.now.entries
-    (ap (λ (n : NodeValue). n.passes) c.self.view_is) c.deref.ensures.value c.opening.ensures c.history.ensures.entries
-    c.history.ensures.sound c.in-None.ensures.complete c.in-None.ensures.agree c.in-None.ensures.no_others
+pub returns-in-None-clause-agree : goal.returns-in-None-clause-agree
+returns-in-None-clause-agree g c =
+    all_passes c.into_inner-book.result c.args.self.passes c.self.inside.passes c.args.passes.items c.deref.result.now c.opening.result.now
+    c.history.result.now.entries (ap (λ (n : NodeValue). n.passes) c.self.view_is) c.deref.ensures.value c.opening.ensures c.history.ensures.entries
+    c.in-None.ensures.complete c.in-None.ensures.agree c.in-None.ensures.no_others
 
 pub returns-in-Some-clause-missing : goal.returns-in-Some-clause-missing
 returns-in-Some-clause-missing g c =
@@ -19,14 +17,8 @@ returns-in-Some-clause-missing g c =
     (subst (λ (ps : List PassValue). (c.in-Some.cause ≡ MissingPass) ↔ (IsComplete c.self.inside.passes ps → ⊥))
     c.deref.ensures.value c.in-Some.ensures.missing)
 
-pub returns-in-None-clause-since : goal.returns-in-None-clause-since
-returns-in-None-clause-since g c =
-    follows_of g.K.Keeper.handlers g.K.Keeper.is_honest c.into_inner-book.result c.args.passes.items c.deref.result.now c.opening.result.now
-    c.history.result.now.entries c.into_inner-book.result.keeper c.deref.ensures.value c.opening.ensures refl c.history.ensures.sound
-    c.in-None.ensures.agree
-
 pub returns-in-Some-clause-differs : goal.returns-in-Some-clause-differs
 returns-in-Some-clause-differs g c n is =
-    differs_of g.K.Keeper.handlers g.K.Keeper.is_honest c.into_inner-book.result c.args.self.passes c.self.inside.passes c.args.passes.items c.deref.result.now
+    differs_of g.K.Keeper.handlers g.K.Keeper.outlasting g.K.Keeper.is_honest c.into_inner-book.result c.args.self.passes c.self.inside.passes c.args.passes.items c.deref.result.now
     c.opening.result.now c.history.result.now.entries n (ap (λ (x : NodeValue). x.passes) c.self.view_is) c.deref.ensures.value c.opening.ensures
     c.history.ensures.entries c.history.ensures.sound (c.in-Some.ensures.differs n is)

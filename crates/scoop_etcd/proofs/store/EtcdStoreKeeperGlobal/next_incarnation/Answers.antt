@@ -19,3 +19,10 @@ returns-in-Ok-Some-clause-handlers g c sound =
     (Over c.self.inside.pending.items (handlers_in c.self.inside.keys.name.items (g.E.Etcd.contents c.advance.new.etcd))))
     (c.self.view_is ∙ c.in_ok-begin.ensures.ok.0)
     (over_stays c.self.inside.pending.items _ _ (advance_states _ _ _ _ _ (rw c.in-Ok-Some.field-0-is at (c.in-Ok-Some.ensures.advances sound.0)) sound.1))
+
+pub returns-in-Ok-Some-clause-outlasting : goal.returns-in-Ok-Some-clause-outlasting
+returns-in-Ok-Some-clause-outlasting g c sound =
+    subst (λ r. Stays (handlers_in r.keys.name (g.E.Etcd.contents r.etcd))
+    (handlers_in c.self.inside.keys.name.items (g.E.Etcd.contents c.advance.new.etcd)))
+    (c.self.view_is ∙ c.in_ok-begin.ensures.ok.0)
+    (advance_states _ _ _ _ _ (rw c.in-Ok-Some.field-0-is at (c.in-Ok-Some.ensures.advances sound.0)) sound.1)
