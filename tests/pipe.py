@@ -56,41 +56,30 @@ def the_dialogue_of_the_protocol_is_what_the_client_says():
         same("its end", client.end().result, (1, ""))
 
 
-@test
-def each_refusal_has_its_form():
-    needs_pipe()
-    outside = [("", "UnknownLine"), ("# no remark", "UnknownLine #"), ("help", "UnknownLine help"), ("réserve 1", "UnknownLine r??serve"),
-               ("reserve", "Empty"), ("reserve 9", "Unknown 9"), ("reserve ann", "NoSuchHandler ann"), ("reserve 1 1", "Repeated 1"),
-               ("reserve 99999999999", "NotANumber 99999999999"), ("reserve" + " 1" * 9, "TooMany"),
-               ("reserve" + " 1" * 10, "TooManyHandlers"),
-               ("reserve 1 when 1 balance least 1", "WrongNumberOfWords"), ("reserve 1 when 2 balance least 1 tries 1", "NotReserved 2"),
-               ("end", "NoBlock"), ("end now", "WrongNumberOfWords"), ("giveup", "NoBlock"), ("query 1 balance", "NoBlock")]
-    inside = [("call 1 deposit", "TooFewArguments 1"), ("call 1 balance 1", "TooManyArguments 0"),
-              ("call 1 deposit 1 2 3 4 5", "TooManyArguments 4"), ("call 1 pay 1", "NoSuchOperation pay"),
-              ("call 1 deposit x", "NotANumber x"), ("call 2 deposit 1", "NotReserved 2"), ("reserve 1", "NotIdle"), ("call", "WrongNumberOfWords"), ("help", "UnknownLine help")]
-    with accounts() as system:
-        client = piped(system)
-        for line, wanted in outside:
-            same(f"the reply to {line!r}", client.ask(line), f"refused {wanted}")
-        same("its end", client.end().result, (0, ""))
-        for line, wanted in inside:
-            client = piped(system)
-            block = client.ask("reserve 1", "reserved ").split()[1]
-            same(f"its end by {line!r}", client.end(f"{line}\nend\n").result, (1, f"refused {wanted}\ncut {block}\n"))
-        client = piped(system, 9)
-        same("the reply about a handler that isn't used", client.ask("reserve 2"), "refused NotUsed 2")
+def table(head):
+    """The first cells of a table of the protocol."""
+    with open(os.path.join(TOP, "docs", "PROTOCOL.md")) as file:
+        rows = file.read().split(f"\n{head}\n", 1)[1].split("\n\n")[0].splitlines()[1:]
+    return [row.split("|")[1] for row in rows]
+
+
+# The case of `Spent` is out of reach: a client with 2^32 blocks, or a block with as many entries.
+OUT_OF_REACH = {"Spent"}
 
 
 @test
-def input_that_breaks_off_is_not_done():
-    needs_pipe()
-    with accounts() as system:
-        for text, wanted in (("reserve 1", "refused NoNewline\n"), ("x" * 4097 + "\nreserve 1\n", "refused LineTooLong\n")):
-            same(f"its end by {text[:9]!r}", piped(system).end(text).result, (1, wanted))
-        client = piped(system)
-        block = client.ask("reserve 1", "reserved ").split()[1]
-        wanted = f"logged 1 1\nrefused NoNewline\ncut {block}\n"
-        same("its end inside a block", client.end("call 1 deposit 0\nquery 1 balance").result, (1, wanted))
+def the_rows_have_each_reply_and_refusal_of_the_protocol():
+    with open(os.path.join(HERE, "rows", "pipes.rows")) as file:
+        told = [line[2:] for line in file.read().splitlines() if line.startswith("> ")]
+    names = [name for cell in table("| `refused` .. | Case |") for name in re.findall("`([A-Za-z]+)", cell)]
+    holds("the protocol names refusals", len(names) > 20, names)
+    same("names without a row", {it for it in names if not any(re.match(f"refused {it}( |$)", line) for line in told)}, OUT_OF_REACH)
+    replies = [reply for cell in table("| Reply | To | Meaning |") for reply in re.findall("`([^`]+)`", cell)]
+    for reply in replies:
+        form = re.escape(reply).replace("\\ \\.\\.", ".*")
+        for word, stands_for in (("B", r"\d+\.\d+\.\d+"), ("V", r"\d+"), ("[HNKT]", r"\d+"), ("NAME", "[A-Z].*")):
+            form = re.sub(rf"\b{word}\b", lambda _: stands_for, form)
+        holds(f"a row has {reply}", any(re.fullmatch(form, line) for line in told), form)
 
 
 @test
@@ -105,18 +94,6 @@ def replies_come_when_the_client_would_wait():
         client.tell("call 1 deposit 0\n" * 62 + "query 1 balance\nend\n")
         client.expect(*(f"logged 1 {number}" for number in range(2, 64)), "answer 100", "ended")
         same("its end", client.end("quit\nreserve 1\n").result, (0, ""))
-
-
-@test
-def answers_of_a_waiting_block_come_before_its_reply():
-    needs_pipe()
-    with accounts() as system:
-        client = piped(system)
-        client.tell("reserve 1 2 when 1 balance least 100 tries 2\nquery 1 balance\nquery 2 withdraw 101\nend\n")
-        client.tell("reserve 1 when 1 balance least 101 tries 2\nend\nreserve 1 when 1 balance least 1 tries 1\ngiveup\n")
-        client.expect("noted", "noted", "noted", "+ answer 100", "+ answer refused", "ended 1")
-        client.expect("noted", "condition failed 2", "noted", "given up")
-        same("its end", client.end().result, (0, ""))
 
 
 @test

@@ -2,20 +2,21 @@
 
 A file begins with `rows AREA`. `case NAME` begins a case, which is a test of its own, `#` a remark. A row is a command with its
 answer, `COMMAND > ANSWER`; or the command, and then each line of its answer after `> `. A row without an answer has `ok`. The
-classes of rows_running.py and rows_stores.py have the commands. A wrong row is reported as FILE:LINE. ROWS pins how many each
+classes of rows_running.py, rows_piped.py and rows_stores.py have the commands. A wrong row is reported as FILE:LINE. ROWS pins how many each
 file has, so that none is lost.
 """
 import collections
 import os
 import re
 
+from rows_piped import Piped
 from rows_running import Reopening, Running
 from rows_stores import Members, Nodes
 from systems import TOP, same, test
 
 FOLDER = os.path.join(TOP, "tests", "rows")
-AREAS = {"running": Running, "reopening": Reopening, "nodes": Nodes, "members": Members}
-ROWS = {"running.rows": 24, "reopening.rows": 1, "nodes.rows": 28, "members.rows": 164}
+AREAS = {"running": Running, "reopening": Reopening, "pipes": Piped, "nodes": Nodes, "members": Members}
+ROWS = {"running.rows": 24, "reopening.rows": 1, "pipes.rows": 44, "nodes.rows": 28, "members.rows": 164}
 
 Case = collections.namedtuple("Case", "area name rows")
 Row = collections.namedtuple("Row", "place command wanted")

@@ -145,9 +145,9 @@ class Party:
             return file.read()
 
     def tell(self, text):
-        """Gives it lines of input."""
+        """Gives it lines of input, as text or bytes."""
         try:
-            self.process.stdin.write(text.encode())
+            self.process.stdin.write(in_bytes(text))
             self.process.stdin.flush()
         except BrokenPipeError:
             raise Ended(f"it takes no input: {self}") from None
@@ -181,7 +181,7 @@ class Party:
 
     def end(self, text="", patience=PATIENCE):
         """Gives it its last lines, and waits for its end. The output is what it printed since its last line."""
-        output, _ = self.process.communicate(text.encode(), timeout=patience)
+        output, _ = self.process.communicate(in_bytes(text), timeout=patience)
         return Ran(self.process.returncode, (self.came + output).decode(), self.notes())
 
     def kill(self):
@@ -191,6 +191,11 @@ class Party:
         for stream in (self.process.stdin, self.process.stdout):
             if stream is not None:
                 close(stream)
+
+
+def in_bytes(text):
+    """Input that may be given as text."""
+    return text.encode() if isinstance(text, str) else text
 
 
 def close(stream):

@@ -1,0 +1,116 @@
+#!/usr/bin/env python3
+"""Measures clients over a pipe: python3 bench/piped.py [--program PATH] [--blocks N] [--rounds N] [--in-file]
+
+Two nodes as processes of their own, with a cell each. Clients set both cells in each of their blocks: as a script in a file, as Python
+programs and as Node programs over the packages of clients/, in turn, one client and eight at once. It prints how many joint blocks a
+second they have together, by the median and the best round, and each package's rate by the script's.
+
+A run of one block each is taken off, so starts don't count: those of interpreters, greetings and the making of stores. --in-file keeps
+the nodes' records in files, else they are in memory.
+"""
+import argparse
+import os
+import shutil
+import statistics
+import subprocess
+import sys
+import time
+
+from joint import CLIENTS, TOP, System, blocks
+
+PYTHON = """
+import sys
+import kazhneg
+
+system, number, store, count = sys.argv[1:]
+with kazhneg.Client(system, int(number), store=store) as client:
+    for _ in range(int(count)):
+        with client.reserve(1, 2) as block:
+            block.call(1, "set", 1)
+            block.call(2, "set", 1)
+"""
+NODE = """
+import { Client } from "%s";
+
+const [system, number, store, count] = process.argv.slice(2);
+const client = await Client.open(system, Number(number), { store });
+for (let left = Number(count); left > 0; left -= 1) {
+  await client.reserve([1, 2], (block) => {
+    block.call(1, "set", 1);
+    block.call(2, "set", 1);
+  });
+}
+await client.close();
+"""
+
+
+class Kind:
+    """A kind of client: the words that run it for this many blocks."""
+
+    def __init__(self, name, system):
+        self.name, self.system = name, system
+
+    def write(self, name, text):
+        path = os.path.join(self.system.folder, name)
+        with open(path, "w") as file:
+            file.write(text)
+        return path
+
+    def words(self, client, count):
+        store, system = os.path.join(self.system.folder, f"client-{client}.db"), self.system.file
+        if self.name == "script":
+            path = self.write(f"{count}.lines", blocks(count)(1).decode())
+            return [self.system.program, "client", str(client), "--system", system, choice(store), store, "--lines", path]
+        if self.name == "Python":
+            return [sys.executable, self.write("client.py", PYTHON), system, str(client), store, str(count)]
+        source = os.path.join(TOP, "clients", "node", "src", "index.js")
+        return ["node", self.write("client.mjs", NODE % source), system, str(client), store, str(count)]
+
+    def seconds(self, clients, count):
+        """How long these clients take together for this many blocks each."""
+        words = [self.words(client, count) for client in clients]
+        begun = time.perf_counter()
+        running = [subprocess.Popen(it, stdin=subprocess.DEVNULL, stdout=subprocess.DEVNULL) for it in words]
+        if any([it.wait() for it in running]):
+            sys.exit(f"a client failed: {self.name}")
+        return time.perf_counter() - begun
+
+
+def choice(store):
+    return "--store" if os.path.exists(store) else "--new"
+
+
+def rate(name, program, in_file, some, count):
+    """The joint blocks a second of this many clients of a kind."""
+    system = System(program, in_file)
+    try:
+        kind, clients = Kind(name, system), list(CLIENTS)[:some]
+        alone = kind.seconds(clients, 1)
+        return some * (count - 1) / (kind.seconds(clients, count) - alone)
+    finally:
+        system.end()
+
+
+def main():
+    parser = argparse.ArgumentParser(description=__doc__, formatter_class=argparse.RawDescriptionHelpFormatter)
+    parser.add_argument("--program", default=os.path.join(TOP, "crates/scoop/out/scoop"))
+    parser.add_argument("--blocks", type=int, default=8000, help="of all clients together")
+    parser.add_argument("--rounds", type=int, default=5)
+    parser.add_argument("--in-file", action="store_true")
+    given = parser.parse_args()
+    os.environ["SCOOP"] = program = os.path.abspath(given.program)
+    os.environ["PYTHONPATH"] = os.path.join(TOP, "clients", "python", "src")
+    kinds = ["script", "Python"] + (["Node"] if shutil.which("node") else [])
+    for some in (1, 8):
+        rates = {kind: [] for kind in kinds}
+        for _ in range(given.rounds):
+            for kind in kinds:
+                rates[kind].append(rate(kind, program, given.in_file, some, given.blocks // some))
+        for kind, found in rates.items():
+            by_script = statistics.median(found) / statistics.median(rates["script"])
+            print(f"joint blocks, {some} clients, {kind}: median {statistics.median(found):.0f} a second, best {max(found):.0f}; "
+                  f"{by_script:.2f} times the script's", flush=True)
+
+
+if __name__ == "__main__":
+    main()
