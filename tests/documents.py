@@ -27,7 +27,7 @@ from systems import SCOOP, TOP, Skipped, System, free_ports, holds, same, test
 
 README, GUIDE, OPERATING = "README.md", os.path.join("docs", "GUIDE.md"), os.path.join("docs", "OPERATING.md")
 # Words of blocks.
-WORDS = ["sh", "output", "text", "toml", "rust", "python"]
+WORDS = ["sh", "output", "text", "toml", "rust", "python", "js"]
 # The first line of each block of commands that isn't run, and why.
 NOT_RUN = {
     "etcd --data-dir try/etcd": "needs an etcd, for which the tests have a stand-in",

@@ -9,6 +9,7 @@ import { PATIENCE, Program } from "./program.js";
 /** Milliseconds in which an earlier run of the same client may still be ending, and the reason of a start meanwhile. */
 const BETWEEN_RUNS = 10_000;
 const IN_USE = "link: Fault";
+const CLOSED = "the client was closed";
 
 /** The clients in whose blocks the running function is. */
 const inside = new AsyncLocalStorage();
@@ -41,6 +42,7 @@ export class Client {
   #system;
   #options;
   #program = null;
+  #starting = null;
   #incarnation = null;
   #block = null;
   #turn = Promise.resolve();
@@ -53,10 +55,15 @@ export class Client {
     this.number = number;
   }
 
-  /** Starts a client, and waits until all its handlers have welcomed it. */
-  static async open(system, number, options) {
+  /** Starts a client, and waits until all its handlers have welcomed it, or until the signal. */
+  static async open(system, number, { signal, ...options } = {}) {
     const client = new Client(system, number, options);
-    await client.#start();
+    try {
+      await unless(signal, client.#start());
+    } catch (error) {
+      await client.#stop();
+      throw error;
+    }
     return client;
   }
 
@@ -186,7 +193,7 @@ export class Client {
 
   /** Sends lines of a block. Returns what the last one's reply has after this word. If that fails, the block is cut. */
   async #ask(lines, wanted, signal) {
-    if (this.#program === null) throw new ClientEnded({ status: null, signal: null, notes: ["the client was closed"], last: null });
+    if (this.#program === null) throw new ClientEnded({ status: null, signal: null, notes: [CLOSED], last: null });
     try {
       return restOf(await unless(signal, this.#program.exchange(lines)), wanted);
     } catch (error) {
@@ -195,15 +202,26 @@ export class Client {
     }
   }
 
-  /** Starts the program, unless it runs. */
-  async #start() {
-    const end = Date.now() + BETWEEN_RUNS;
-    while (this.#program === null) {
+  /** Starts the program, unless it runs. Starts that are asked for together are one. */
+  #start() {
+    this.#starting ??= this.#startIn(BETWEEN_RUNS).finally(() => {
+      this.#starting = null;
+    });
+    return this.#starting;
+  }
+
+  /** Starts the program, unless it runs. If an earlier run may still be ending, it tries again for this many milliseconds. */
+  async #startIn(patience) {
+    const end = Date.now() + patience;
+    while (this.#incarnation === null) {
       try {
         await this.#startOnce();
       } catch (error) {
-        if (!(error instanceof StartError && error.reason === IN_USE && Date.now() < end)) throw error;
-        await sleep(50);
+        const isInUse = error instanceof StartError && error.reason === IN_USE && Date.now() < end;
+        if (isInUse) await sleep(50);
+        if (isInUse && this.#program !== null) continue;
+        this.#program = null;
+        throw error;
       }
     }
   }
@@ -211,17 +229,19 @@ export class Client {
   async #startOnce() {
     const { onNote = (line) => console.warn(line) } = this.#options;
     const program = new Program(wordsOf(this.#system, this.number, this.#options), onNote);
+    this.#program = program;
     const first = await program.first.catch(() => null);
     const told = FIRST.exec(first ?? "");
-    if (told === null) {
+    const isClosed = this.#program !== program;
+    if (told === null || isClosed) {
       const ending = await program.stop();
-      throw new StartError(first === null ? ending : { ...ending, notes: [`another form of the pipe: ${first}`] });
+      const why = isClosed ? CLOSED : `another form of the pipe: ${first}`;
+      throw new StartError(isClosed || first !== null ? { ...ending, notes: [why] } : ending);
     }
-    this.#program = program;
     this.#incarnation = Number(told[1]);
   }
 
-  /** Ends the program if it runs. It gives up or cuts its block. */
+  /** Ends the program if it runs or starts. It gives up or cuts its block. */
   async #stop() {
     const program = this.#program;
     this.#program = this.#incarnation = null;

@@ -24,6 +24,8 @@ export interface ClientOptions {
   readonly options?: readonly string[];
   /** Hears each line that the program writes on standard error. Without it they are warnings of the console. */
   readonly onNote?: (line: string) => void;
+  /** Ends the wait of `open`. */
+  readonly signal?: AbortSignal;
 }
 
 export interface ReserveOptions {
@@ -38,7 +40,7 @@ export interface ReserveOptions {
 /** A client of a system. It has one block at a time: a `reserve` waits until the block before is over. */
 export class Client implements AsyncDisposable {
   private constructor();
-  /** Starts a client, and waits until all its handlers have welcomed it. */
+  /** Starts a client, and waits until all its handlers have welcomed it, or until the signal. */
   static open(system: string, number: number, options: ClientOptions): Promise<Client>;
   readonly number: number;
   /** The number of the client's life. `null` while it doesn't run. */

@@ -4,7 +4,7 @@
  * The system's file has JSON: `handlers` has the balance of each name, numbered from 1; `SYSTEM.words` keeps the balances. `lives` has
  * faults, by incarnation:
  *
- * - `first`: another first line. `start`: a status and notes, before any line.
+ * - `first`: another first line. `start`: a status and notes, before any line. `greet`: milliseconds before the first line.
  * - `wait`: for how many milliseconds lines of a kind wait. `crosses`: a `reserve` waits for `giveup`, and is reserved all the same.
  * - `kill`: a line's number, and whether that is done `before` the kill. `fault`: a line's number, a status, notes and a last word.
  *
@@ -113,6 +113,12 @@ class Client {
 
   async run() {
     if (this.plan.start) fail(...this.plan.start);
+    const end = Date.now() + (this.plan.greet ?? 0);
+    while (Date.now() < end) {
+      const line = await this.input.peek(end - Date.now());
+      if (line === null) fail(1, []);
+      if (line !== LATER) break;
+    }
     say(this.plan.first ?? `scoop pipe 1 client ${this.number} ${this.incarnation}`);
     try {
       while (await this.next());

@@ -11,8 +11,9 @@ import * as kazhneg from "../src/index.js";
 
 const FAKE = fileURLToPath(new URL("fake_scoop.js", import.meta.url));
 const INDEX = new URL("../src/index.js", import.meta.url).href;
-/** Milliseconds for a reply that doesn't come. */
+/** Milliseconds for a reply that doesn't come, and for what has to come on a loaded machine. */
 const TIMEOUT = 300;
+const PATIENCE = 60_000;
 
 let folder, system, store, program;
 
@@ -246,9 +247,39 @@ describe("waits", () => {
   test("an aborted query cuts its block", async () => {
     write({ 1: { wait: { query: 60_000 } } });
     await withClient(async (client) => {
-      const signal = AbortSignal.timeout(TIMEOUT);
-      await assert.rejects(client.reserve(["ann"], { signal }, (block) => block.query("ann", "balance")), { name: "TimeoutError" });
+      const controller = new AbortController();
+      const asking = client.reserve(["ann"], { signal: controller.signal }, (block) => {
+        setTimeout(() => controller.abort(), TIMEOUT);
+        return block.query("ann", "balance");
+      });
+      await assert.rejects(asking, { name: "AbortError" });
       assert.equal(log().at(-1), "cut 7.1.1");
+    });
+  });
+
+  test("an aborted start ends the program", async () => {
+    write({ 1: { greet: 60_000 } });
+    await assert.rejects(withClient(() => {}, { signal: AbortSignal.timeout(TIMEOUT) }), { name: "TimeoutError" });
+    await withClient((client) => client.reserve(["ann"], () => {}));
+  });
+
+  test("a reservation that is aborted while the client starts again leaves the start to the next one", async () => {
+    write({ 2: { greet: 2 * TIMEOUT } });
+    await withClient(async (client) => {
+      await client.close();
+      await assert.rejects(client.reserve(["ann"], { signal: AbortSignal.timeout(TIMEOUT) }), { name: "TimeoutError" });
+      assert.equal(await client.reserve(["ann"], (block) => block.query("ann", "balance")), 100n);
+      assert.equal(client.incarnation, 2);
+    });
+  });
+
+  test("a close ends a start", async () => {
+    write({ 2: { greet: 60_000 } });
+    await withClient(async (client) => {
+      await client.close();
+      const starting = client.reserve(["ann"]);
+      setTimeout(() => client.close(), TIMEOUT);
+      await assert.rejects(starting, { name: "StartError", reason: "the client was closed" });
     });
   });
 
@@ -319,7 +350,7 @@ describe("ends", () => {
       await sleep(TIMEOUT);
       // The whole group gets it, as at a terminal.
       process.kill(-child.pid, signal);
-      const end = Date.now() + 10_000;
+      const end = Date.now() + PATIENCE;
       while (log().at(-1) !== "cut 7.1.1") {
         assert.ok(Date.now() < end, log().join("; "));
         await sleep(20);

@@ -21,8 +21,9 @@ sys.path.insert(0, SOURCE)
 import kazhneg
 import kazhneg.aio
 
-# Seconds for a reply that doesn't come. A start has to take less.
+# Seconds for a reply that doesn't come, and for what has to come on a loaded machine. A start has to take less than TIMEOUT.
 TIMEOUT = 5
+PATIENCE = 60
 ACCOUNTS = {"ann": ["account", [100]], "shop": ["account", [0]]}
 PURSES = {"ann": ["purse", [100, 0]], "shop": ["purse", [0, 0]]}
 
@@ -39,6 +40,8 @@ class Case(unittest.TestCase):
             file.write(f'#!/bin/sh\nexec {shlex.quote(sys.executable)} -S -E {shlex.quote(FAKE)} "$@"\n')
         os.chmod(self.fake, 0o755)
         logging.getLogger("kazhneg").setLevel(logging.CRITICAL)
+        # A shell lets programs in the background ignore Ctrl-C, also those below them.
+        signal.signal(signal.SIGINT, signal.default_int_handler)
 
     def write(self, lives, handlers=ACCOUNTS):
         """Writes the system's file. `lives` has the faults of each incarnation."""
@@ -271,10 +274,10 @@ class Ends(Case):
             self.assertEqual(client.incarnation, 1)
 
     def test_a_greeting_that_takes_too_long_is_left(self):
-        self.write({"1": {"greet": 60}})
+        self.write({"1": {"greet": 10 * PATIENCE}})
         began = time.monotonic()
         self.assertRaises(kazhneg.TimedOut, self.client(timeout=TIMEOUT).open)
-        self.assertLess(time.monotonic() - began, 10)
+        self.assertLess(time.monotonic() - began, PATIENCE)
 
     def test_the_variable_scoop_names_the_program(self):
         os.environ["SCOOP"] = self.fake
@@ -331,7 +334,7 @@ class Owners(Case):
         time.sleep(0.3)
         os.killpg(program.pid, number)
         program.communicate()
-        end = time.monotonic() + 10
+        end = time.monotonic() + PATIENCE
         while self.log()[-1] != "cut 7.1.1":
             self.assertLess(time.monotonic(), end, self.log())
             time.sleep(0.02)

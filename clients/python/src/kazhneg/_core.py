@@ -136,8 +136,19 @@ class Core:
         """Begins a block over these handlers in which the conditions hold, and returns its name."""
         if self.block is not None or self.is_asking:
             raise Refused("NotIdle")
-        line, failed = _form.reserve(handlers), 0
+        line = _form.reserve(handlers)
         await self.start()
+        try:
+            return await self.try_blocks(line, when, tries)
+        except BaseException:
+            # Ctrl-C may come between two lines.
+            if self.block is not None:
+                await self.stop()
+            raise
+
+    async def try_blocks(self, line: str, when: Sequence[_form.Test], tries: Optional[int]) -> str:
+        """Tries blocks until the conditions hold in one, and returns its name."""
+        failed = 0
         while True:
             began = time.monotonic()
             self.block = await self.lock(line)
@@ -168,7 +179,12 @@ class Core:
         """Gives up a `reserve` that waits for its reply. A block that begins meanwhile is ended, and nothing is done in it."""
         try:
             await self.transport.write("giveup\n")
-            first, _ = await self.reply(PATIENCE), await self.reply(PATIENCE)
+            first = await self.reply(PATIENCE)
+            if first.startswith("refused "):
+                # This may be the reply to either line.
+                await self.stop()
+                return
+            await self.reply(PATIENCE)
             if first.startswith("reserved "):
                 await self.exchange("end")
         except BaseException as error:
