@@ -16,7 +16,7 @@ from systems import TOP, same, test
 
 FOLDER = os.path.join(TOP, "tests", "rows")
 AREAS = {"running": Running, "reopening": Reopening, "pipes": Piped, "nodes": Nodes, "members": Members}
-ROWS = {"running.rows": 24, "reopening.rows": 1, "pipes.rows": 44, "nodes.rows": 28, "members.rows": 164}
+ROWS = {"running.rows": 24, "reopening.rows": 1, "pipes.rows": 46, "nodes.rows": 28, "members.rows": 164}
 
 Case = collections.namedtuple("Case", "area name rows")
 Row = collections.namedtuple("Row", "place command wanted")

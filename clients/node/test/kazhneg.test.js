@@ -332,7 +332,7 @@ describe("ends", () => {
   });
 
   test("a start waits for the end of an earlier run", async () => {
-    writeFileSync(system + ".busy", "2");
+    writeFileSync(system + ".busy", "1");
     await withClient((client) => assert.equal(client.incarnation, 1));
   });
 

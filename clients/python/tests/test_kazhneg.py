@@ -269,7 +269,7 @@ class Ends(Case):
 
     def test_a_start_waits_for_the_end_of_an_earlier_run(self):
         with open(self.system + ".busy", "w") as file:
-            file.write("2")
+            file.write("1")
         with self.client() as client:
             self.assertEqual(client.incarnation, 1)
 
