@@ -3,7 +3,8 @@
 
 Two nodes as processes of their own, with a cell each. Clients set both cells in each of their blocks: as a script in a file, as Python
 programs and as Node programs over the packages of clients/, in turn, one client and eight at once. It prints how many joint blocks a
-second they have together, by the median and the best round, and each package's rate by the script's.
+second they have together, by the median and the best round, and each package's rate by the script's. Beside it stands the processor
+time of a block, of nodes, clients and programs together, by the median: on a machine that others use too, trust that.
 
 A run of one block each is taken off, so starts don't count: those of interpreters, greetings and the making of stores. --in-file keeps
 the nodes' records in files, else they are in memory.
@@ -67,26 +68,39 @@ class Kind:
         return ["node", self.write("client.mjs", NODE % source), system, str(client), store, str(count)]
 
     def seconds(self, clients, count):
-        """How long these clients take together for this many blocks each."""
+        """How long these clients take together for this many blocks each, and the processor seconds of all parties."""
         words = [self.words(client, count) for client in clients]
-        begun = time.perf_counter()
+        begun, used = time.perf_counter(), self.node_seconds()
         running = [subprocess.Popen(it, stdin=subprocess.DEVNULL, stdout=subprocess.DEVNULL) for it in words]
-        if any([it.wait() for it in running]):
-            sys.exit(f"a client failed: {self.name}")
-        return time.perf_counter() - begun
+        ends = [os.wait4(it.pid, 0) for it in running]
+        taken = time.perf_counter() - begun
+        for process, (_, status, _) in zip(running, ends):
+            process.returncode = os.waitstatus_to_exitcode(status)
+            if process.returncode:
+                sys.exit(f"a client failed: {self.name}")
+        return taken, self.node_seconds() - used + sum(it.ru_utime + it.ru_stime for _, _, it in ends)
+
+    def node_seconds(self):
+        """The processor seconds of the nodes until now."""
+        ticks = 0
+        for node in self.system.nodes:
+            with open(f"/proc/{node.pid}/stat") as file:
+                ticks += sum(map(int, file.read().rpartition(")")[2].split()[11:13]))
+        return ticks / os.sysconf("SC_CLK_TCK")
 
 
 def choice(store):
     return "--store" if os.path.exists(store) else "--new"
 
 
-def rate(name, program, in_file, some, count):
-    """The joint blocks a second of this many clients of a kind."""
+def measure(name, program, in_file, some, count):
+    """The joint blocks a second of this many clients of a kind, and the processor seconds of a block."""
     system = System(program, in_file)
     try:
         kind, clients = Kind(name, system), list(CLIENTS)[:some]
-        alone = kind.seconds(clients, 1)
-        return some * (count - 1) / (kind.seconds(clients, count) - alone)
+        (first, first_used), (taken, used) = kind.seconds(clients, 1), kind.seconds(clients, count)
+        blocks = some * (count - 1)
+        return blocks / (taken - first), (used - first_used) / blocks
     finally:
         system.end()
 
@@ -102,14 +116,15 @@ def main():
     os.environ["PYTHONPATH"] = os.path.join(TOP, "clients", "python", "src")
     kinds = ["script", "Python"] + (["Node"] if shutil.which("node") else [])
     for some in (1, 8):
-        rates = {kind: [] for kind in kinds}
+        found = {kind: [] for kind in kinds}
         for _ in range(given.rounds):
             for kind in kinds:
-                rates[kind].append(rate(kind, program, given.in_file, some, given.blocks // some))
-        for kind, found in rates.items():
-            by_script = statistics.median(found) / statistics.median(rates["script"])
-            print(f"joint blocks, {some} clients, {kind}: median {statistics.median(found):.0f} a second, best {max(found):.0f}; "
-                  f"{by_script:.2f} times the script's", flush=True)
+                found[kind].append(measure(kind, program, given.in_file, some, given.blocks // some))
+        script = [statistics.median(it) for it in zip(*found["script"])]
+        for kind, rounds in found.items():
+            (rate, used), best = (statistics.median(it) for it in zip(*rounds)), max(rounds)[0]
+            print(f"joint blocks, {some} clients, {kind}: median {rate:.0f} a second, best {best:.0f}; {rate / script[0]:.2f} times the "
+                  f"script's; {used * 1e6:.0f} µs of processor a block, the script's is {script[1] / used:.2f} of that", flush=True)
 
 
 if __name__ == "__main__":

@@ -18,8 +18,8 @@ def input_of(text):
 class Piped(System):
     """Node 1 has account 1, with 100, and node 2 account 2, with 0. Clients come to them over a relay. Client 9 uses handler 1 alone.
 
-    - `pipe C [OPTIONS]: LINE; LINE..` runs client C over a pipe with these lines. It answers its output and notes, and how it ends.
-      `breaks C: ..` does so without the last newline.
+    - `pipe C [OPTIONS]: LINE; LINE..` runs client C over a pipe, and gives it these lines after its first one. It answers its
+      output and notes, and how it ends. `breaks C: ..` does so without the last newline.
     - `begins C: LINE; ..` begins a client, and answers its first line and the replies to these lines. `ends [LINE; ..]` gives it its last
       lines, and answers as `pipe`.
     - `loses H [KIND]` loses client 7's messages to this handler from now on, all or those of a kind; `loses 0` loses none.
@@ -48,7 +48,8 @@ class Piped(System):
 
     def do_pipe(self, words, end=b"\n"):
         who, _, lines = words.partition(":")
-        return told(self.begin_piped(who).end(input_of(lines) + end))
+        client = self.begin_piped(who)
+        return f"{client.line()}\n{told(client.end(input_of(lines) + end))}"
 
     def do_breaks(self, words):
         return self.do_pipe(words, b"")
