@@ -172,25 +172,31 @@ where
     K: Keeper<Global> + Send,
     L: Link,
 {
-    /// The lines of the node, which its watch sees, over this output.
-    pub fn lines<T: Wait, W: Write + Drop>(
-        &self,
+    /// Runs the node until its turns are over or it is asked to end, lets its watch end, and returns the keeper. Its lines go to
+    /// this output, and notes of failed calls, which it tolerates, to these notes.
+    pub fn run<T: Threads + Wait + Clock + Sync, W: Write + Drop>(
+        self,
         alloc: Global,
-        threads: &'r T,
+        threads: &T,
         output: W,
-    ) -> Result<WatchedOutput<'r, BufWriter<W>, T>, RuntimeError> {
-        match BufWriter::new(alloc, output) {
-            Ok(output) => Ok(WatchedOutput::new(output, threads, self.watch)),
-            Err(_) => {
-                self.watch.end();
-                Err(RuntimeError::from(OutOfMemory))
+        notes: Stderr,
+        ending: &Ending,
+    ) -> Result<K, RuntimeError> {
+        let watch = self.watch;
+        let ended = match BufWriter::new(alloc, output) {
+            Ok(output) => {
+                let lines = WatchedOutput::new(output, threads, watch);
+                let notes = SlowNotes::new(notes, SystemTimes::new(threads));
+                self.run_noted(alloc, threads, lines, notes, ending)
             }
-        }
+            Err(_) => Err(RuntimeError::from(OutOfMemory)),
+        };
+        watch.end();
+        ended
     }
 
-    /// Runs the node until its turns are over or it is asked to end, lets its watch end, and returns the keeper. It writes these
-    /// lines, and notes of failed calls, which it tolerates, to these notes.
-    pub fn run<T: Threads + Wait + Clock + Sync, W: Write + Drop, E: Write + Drop>(
+    // Runs the node with these lines and notes.
+    fn run_noted<T: Threads + Wait + Clock + Sync, W: Write + Drop, E: Write + Drop>(
         self,
         alloc: Global,
         threads: &T,
@@ -200,24 +206,17 @@ where
     ) -> Result<K, RuntimeError> {
         let NodeRun {
             plan,
-            watch,
             keeper,
             link,
+            ..
         } = self;
         let mut link = PatientLink::new(link, notes);
         let mut around = Around {
             lines: &mut lines,
             ending,
         };
-        let ended = node_run(threads, alloc, plan, keeper, &mut link, &mut around);
-        watch.end();
-        ended
+        node_run(threads, alloc, plan, keeper, &mut link, &mut around)
     }
-}
-
-/// Notes to this output, of which those that come too fast are left out.
-pub fn slow_notes<T: Clock>(threads: &T, output: Stderr) -> SlowNotes<Stderr, SystemTimes<'_, T>> {
-    SlowNotes::new(output, SystemTimes::new(threads))
 }
 
 /// The run of a host over a store K.
@@ -265,10 +264,10 @@ fn warn_unsealed(rt: &HostRuntime, config: &NodeConfig<'_, '_>, address: SocketA
 }
 
 /// Runs the node in a thread, does the task in this one, and returns the node's keeper when both have ended.
-pub(crate) fn run_beside<'r, K, L, O, T, S>(
-    rt: &'r HostRuntime,
-    threads: &'r T,
-    node: NodeRun<'r, O, K, L>,
+pub(crate) fn run_beside<K, L, O, T, S>(
+    rt: &HostRuntime,
+    threads: &T,
+    node: NodeRun<'_, O, K, L>,
     task: S,
 ) -> Result<K, RuntimeError>
 where
@@ -282,11 +281,7 @@ where
     let ending = Ending::new();
     let ending = &ending;
     thread::scope(thread::scope_env(), threads, move |scope| {
-        let started = scope.spawn(move || match node.lines(alloc, threads, output) {
-            Ok(lines) => node.run(alloc, threads, lines, slow_notes(threads, notes), ending),
-            Err(error) => Err(error),
-        });
-        match started {
+        match scope.spawn(move || node.run(alloc, threads, output, notes, ending)) {
             Ok(running) => {
                 task.run();
                 running.join(threads)

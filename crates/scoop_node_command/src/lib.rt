@@ -12,5 +12,5 @@ mod page;
 mod serving;
 
 pub use config::NodeConfig;
-pub use host::{Host, HostKeeper, HostLink, HostRun, NodeRun, Task, slow_notes};
+pub use host::{Host, HostKeeper, HostLink, HostRun, NodeRun, Task};
 pub use serving::serve_node;

@@ -4,7 +4,7 @@ use scoop_files::StoreName;
 use scoop_keeper::{Keeper, SharedKeeper};
 use scoop_link::{Link, UdpLink};
 use scoop_message::OutOfMemory;
-use scoop_node_command::{Host, HostKeeper, HostLink, NodeRun, Task, slow_notes};
+use scoop_node_command::{Host, HostKeeper, HostLink, NodeRun, Task};
 use scoop_opening::{node_end, report_plainly};
 use scoop_report::{Hints, Status, hint, report};
 use scoop_runtime::{Ending, Objects, RuntimeError, Tables};
@@ -150,14 +150,7 @@ where
     L: Link + Send + 's,
     T: Threads + Wait + Clock + Sync + 's,
 {
-    let started = scope.spawn(move || {
-        let ended = match node.lines(alloc, threads, output) {
-            Ok(lines) => node.run(alloc, threads, lines, slow_notes(threads, output), ending),
-            Err(error) => Err(error),
-        };
-        told(ended, output)
-    });
-    match started {
+    match scope.spawn(move || told(node.run(alloc, threads, output, output, ending), output)) {
         Ok(handle) => Some(handle),
         Err(_) => None,
     }
