@@ -31,12 +31,14 @@
 mod beside;
 mod error;
 mod foreign;
+mod medium;
 mod named;
 mod report;
 mod store;
 
 pub use beside::{note_marks, replace_text, text_file, update_marks};
 pub use error::FileError;
+pub use medium::FileMedium;
 pub use named::{NameWatch, Named, StoreName};
 pub use report::report_file;
 pub use store::{

@@ -2,16 +2,18 @@
 
 use crate::error::FileError;
 use crate::foreign::refuse_foreign;
+use crate::medium::{FileMedium, close_medium, open_medium};
 use crate::named::StoreName;
 use scoop_keeper::KeeperError;
 use scoop_message::ClientId;
 use scoop_record::{Store, adopt_tables};
-use sqlite::{Alter, Connection, Error, ErrorCode, File, FileStore, Row, params};
+use sqlite::{Alter, Connection, Error, ErrorCode, Row, params};
+use sqlite_trees::error::StoreError;
 use std::alloc::Global;
 use std::fs;
 
 /// A store in a file, with its log beside it.
-pub type FiledStore = Store<FileStore<File>>;
+pub type FiledStore = Store<FileMedium>;
 
 /// A new store in the file, which is made if there is none. `Taken` if the file has anything.
 pub fn create(rt: &HostRuntime, path: &str) -> Result<FiledStore, FileError> {
@@ -188,9 +190,11 @@ fn first_number(row: &Row) -> Result<Option<i64>, FileError> {
 /// Copies the log into the file, so that the file is whole without it. `Unclosed` if that is refused: then both
 /// together are the store.
 pub fn close(store: FiledStore) -> Result<(), FileError> {
-    match store.into_connection().close() {
+    match close_medium(store.into_connection()) {
         Ok(()) => Ok(()),
-        Err(error) => Err(unread(error, FileError::Unclosed)),
+        Err(StoreError::OutOfMemory) => Err(FileError::Store(KeeperError::OutOfMemory)),
+        Err(StoreError::Corrupt) => Err(FileError::Foreign),
+        Err(_) => Err(FileError::Unclosed),
     }
 }
 
@@ -203,7 +207,7 @@ pub fn close_named(store: FiledStore, name: &StoreName) -> Result<(), FileError>
 }
 
 // Opens the file as a database, if there is one.
-fn open_old(rt: &HostRuntime, path: &str) -> Result<Connection<FileStore<File>>, FileError> {
+fn open_old(rt: &HostRuntime, path: &str) -> Result<Connection<FileMedium>, FileError> {
     match fs::exists(rt, path) {
         Ok(true) => open(rt, path),
         Ok(false) => Err(FileError::NoFile),
@@ -212,12 +216,12 @@ fn open_old(rt: &HostRuntime, path: &str) -> Result<Connection<FileStore<File>>,
 }
 
 // Opens the file as a database, unless it has something else.
-fn open(rt: &HostRuntime, path: &str) -> Result<Connection<FileStore<File>>, FileError> {
+fn open(rt: &HostRuntime, path: &str) -> Result<Connection<FileMedium>, FileError> {
     match refuse_foreign(rt, path) {
         Ok(()) => {}
         Err(error) => return Err(error),
     }
-    match Connection::open(rt, path) {
+    match open_medium(rt, path) {
         Ok(connection) => Ok(connection),
         Err(error) => Err(unread(error, FileError::Unopened)),
     }

@@ -2,6 +2,7 @@
 
 use jiff::Timestamp;
 use scoop_command_line::{JournalChoice, LogChoice, NodeOptions, StoreChoice};
+use scoop_files::FileMedium;
 use scoop_journal::Owner;
 use scoop_opening::{
     End, OpenStore, Party, check_owner, open_node, read_key, report_end, report_fault, report_range,
@@ -11,7 +12,6 @@ use scoop_runtime::{FileFault, Serving};
 use scoop_seal::Key;
 use scoop_system::{NodePlace, System};
 use scoop_watch::{LogLevel, Settings};
-use sqlite::{File, FileStore};
 use std::net::SocketAddr;
 
 /// All that is said of a node, by its system and its command line. It is read once.
@@ -100,7 +100,7 @@ impl<'s, 'o> NodeConfig<'s, 'o> {
     }
 
     /// Opens its store. An old one in an etcd is taken over.
-    pub fn open<'r>(&self, rt: &'r HostRuntime) -> Result<OpenStore<'r, FileStore<File>>, End> {
+    pub fn open<'r>(&self, rt: &'r HostRuntime) -> Result<OpenStore<'r, FileMedium>, End> {
         open_node(rt, self.store, self.system, self.place.number)
     }
 

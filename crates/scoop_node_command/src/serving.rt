@@ -5,7 +5,7 @@ use crate::host::{Host, run_beside};
 use crate::page::{Screen, open_server};
 use scoop_command_line::{NodeOptions, StoreChoice};
 use scoop_etcd_stores::Fate;
-use scoop_files::{FiledStore, StoreName};
+use scoop_files::{FileMedium, FiledStore, StoreName};
 use scoop_journal::{JournalFile, Owner};
 use scoop_keeper::SharedKeeper;
 use scoop_link::UdpLink;
@@ -20,7 +20,7 @@ use scoop_runtime::{Objects, RuntimeError};
 use scoop_status::{About, Log};
 use scoop_status_server::Server;
 use scoop_system::System;
-use sqlite::{Alter, File, FileStore};
+use sqlite::Alter;
 use std::alloc::Global;
 use std::net::Net;
 use std::sync::Wait;
@@ -96,7 +96,7 @@ fn beside(
 fn open_behind<'r, O: Objects>(
     rt: &'r HostRuntime,
     host: &Host<'_, '_, '_, O>,
-) -> Result<(Option<Server>, OpenStore<'r, FileStore<File>>), End> {
+) -> Result<(Option<Server>, OpenStore<'r, FileMedium>), End> {
     let config = host.config();
     let server = open_server(rt, config)?;
     if let StoreChoice::None = config.store {

@@ -10,14 +10,15 @@ use scoop_etcd_stores::{
     EtcdFault, Fate, FatefulKeeper, SharedEtcd, SharedStore, connect, has_state,
 };
 use scoop_files::{
-    FileError, FiledStore, StoreName, adopt, adopt_since, close_named, create, create_after,
+    FileError, FileMedium, FiledStore, StoreName, adopt, adopt_since, close_named, create,
+    create_after,
 };
 use scoop_keeper::MemoryKeeper;
 use scoop_message::{ClientId, HandlerId, OutOfMemory};
 use scoop_observed::AnyKeeper;
 use scoop_record::{GatheringStore, Store};
 use scoop_system::System;
-use sqlite::{Alter, File, FileStore};
+use sqlite::Alter;
 use std::alloc::Global;
 
 /// The store of a party, which is open.
@@ -107,7 +108,7 @@ pub fn open_node<'a>(
     choice: StoreChoice<'_>,
     system: &System,
     number: u32,
-) -> Result<OpenStore<'a, FileStore<File>>, End> {
+) -> Result<OpenStore<'a, FileMedium>, End> {
     if let Some(place) = place_chosen(choice) {
         return match open_shared_node(rt, choice, &place, system, number) {
             Ok(store) => Ok(OpenStore::Shared(store)),
@@ -132,7 +133,7 @@ pub fn open_client<'a>(
     choice: StoreChoice<'_>,
     after: Option<u32>,
     client: ClientId,
-) -> Result<OpenStore<'a, FileStore<File>>, End> {
+) -> Result<OpenStore<'a, FileMedium>, End> {
     if let Some(place) = place_chosen(choice) {
         return match open_shared_client(rt, choice, &place, after, client) {
             Ok(store) => Ok(OpenStore::Shared(store)),

@@ -15,7 +15,8 @@
 use crate::disk::files;
 use crate::keeping::keeper_does;
 use scoop_files::{
-    FileError, NameWatch, Named, StoreName, adopt_for, close_named, create_after, update_marks,
+    FileError, FileMedium, NameWatch, Named, StoreName, adopt_for, close_named, create_after,
+    update_marks,
 };
 use scoop_journal::{Journal, JournalFile, Owner, read};
 use scoop_keeper::{FailingKeeper, Keeper, MemoryKeeper};
@@ -31,7 +32,7 @@ use scoop_row_player::words::{
 use scoop_row_player::{Bad, Subject};
 use scoop_rows_parts::stand_ins::Owning;
 use scoop_watch::Unwatched;
-use sqlite::{Alter, File, FileStore};
+use sqlite::Alter;
 use std::alloc::Global;
 use std::time::{Duration, Instant};
 use std::{fs, thread};
@@ -160,7 +161,7 @@ impl<'a, S: Alter + Drop> Folder<'a, S> {
 }
 
 /// The folder of stores in files.
-pub type FileFolder<'a> = Folder<'a, FileStore<File>>;
+pub type FileFolder<'a> = Folder<'a, FileMedium>;
 
 impl<'a> FileFolder<'a> {
     fn closes(&mut self, answer: &mut Vec<u8>) -> Result<(), Bad> {

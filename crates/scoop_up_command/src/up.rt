@@ -7,7 +7,7 @@ use scoop_client_command::{
 use scoop_command_line::{JournalChoice, StoreChoice, UpOptions};
 use scoop_etcd_place::begins_as_etcd;
 use scoop_etcd_stores::Fate;
-use scoop_files::{FileError, FiledStore, StoreName, close_named, report_file};
+use scoop_files::{FileError, FileMedium, FiledStore, StoreName, close_named, report_file};
 use scoop_journal::Owner;
 use scoop_link::UdpLink;
 use scoop_message::{ClientId, OutOfMemory};
@@ -20,7 +20,7 @@ use scoop_record::Store;
 use scoop_report::{Hints, Status, hint, report};
 use scoop_runtime::{ClientPlan, FileFault, OutOfRange, RuntimeError, Serving, Tables};
 use scoop_system::{ClientPlace, System};
-use sqlite::{Alter, File, FileStore};
+use sqlite::Alter;
 use std::net::Net;
 use std::sync::Wait;
 use std::thread::Threads;
@@ -273,7 +273,7 @@ fn open_hosts<'p, 's, 'o, T: Net>(
 fn open_stores<'r>(
     rt: &'r HostRuntime,
     parties: &Parties<'_, '_, '_>,
-    stores: &mut Vec<OpenStore<'r, FileStore<File>>>,
+    stores: &mut Vec<OpenStore<'r, FileMedium>>,
 ) -> Result<(), Status> {
     for config in parties.nodes {
         match config.open(rt) {
