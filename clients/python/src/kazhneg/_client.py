@@ -7,8 +7,9 @@ import select
 import subprocess
 import threading
 import time
+from collections import deque
 from types import TracebackType
-from typing import Any, Coroutine, List, Optional, Sequence, Type, TypeVar
+from typing import Any, Coroutine, Deque, List, Optional, Sequence, Type, TypeVar
 
 from . import _form
 from ._core import PATIENCE, BaseBlock, BaseClient
@@ -43,7 +44,8 @@ class Pipes:
         # In a session of its own the program gets no Ctrl-C. Without buffers nothing is left to be written when the input closes.
         process = subprocess.Popen(words, stdin=pipe, stdout=pipe, stderr=pipe, bufsize=0, start_new_session=True)
         assert process.stdin and process.stdout and process.stderr
-        self.process, self.came = process, b""
+        self.process, self.rest = process, b""
+        self.lines: Deque[str] = deque()
         self.notes: List[str] = []
         self.input, self.output, self.errors = process.stdin, process.stdout, process.stderr
         self.poll = select.poll()
@@ -59,17 +61,20 @@ class Pipes:
         except BrokenPipeError:
             pass
 
+    def came(self) -> Optional[str]:
+        return self.lines.popleft() if self.lines else None
+
     async def line(self, patience: Optional[float]) -> Optional[str]:
         end = None if patience is None else time.monotonic() + patience
-        while b"\n" not in self.came:
+        while not self.lines:
             if end is not None and not self.poll.poll(max(0.0, end - time.monotonic()) * 1000):
                 raise TimedOut("no reply in time")
             part = os.read(self.output.fileno(), 65536)
             if not part:
                 return None
-            self.came += part
-        line, _, self.came = self.came.partition(b"\n")
-        return line.decode("ascii", "replace")
+            *lines, self.rest = (self.rest + part).split(b"\n")
+            self.lines.extend(line.decode("ascii", "replace") for line in lines)
+        return self.lines.popleft()
 
     async def stop(self, patience: float) -> Ending:
         if self.process is None:

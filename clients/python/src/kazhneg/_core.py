@@ -26,6 +26,9 @@ class Transport(Protocol):
     async def write(self, text: str) -> None:
         """Writes to the program. What an ended one doesn't take is lost."""
 
+    def came(self) -> Optional[str]:
+        """The next line of output, if it was read with an earlier one."""
+
     async def line(self, patience: Optional[float]) -> Optional[str]:
         """The next line of output, `None` at its end. Raises `TimedOut` after this many seconds."""
 
@@ -99,8 +102,8 @@ class Core:
     async def reply(self, patience: Optional[float]) -> str:
         """The last line of the next reply."""
         while True:
-            line = await self.transport.line(patience)
-            if line is None or _form.LAST.fullmatch(line):
+            line = self.transport.came() or await self.transport.line(patience)
+            if line is None or line.startswith(_form.LAST):
                 ending = await self.stop()
                 raise ClientEnded(ending if line is None else ending._replace(lines=[line]))
             if not line.startswith("+ "):

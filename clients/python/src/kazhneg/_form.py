@@ -1,6 +1,7 @@
 """The lines of a client, and the words of its program. docs/PROTOCOL.md has the form: "Over a pipe"."""
 from __future__ import annotations
 
+import functools
 import operator
 import os
 import re
@@ -12,7 +13,8 @@ Path = Union[str, "os.PathLike[str]"]
 Condition = Tuple[Name, ...]
 
 FIRST = re.compile(r"scoop pipe 1 client \d+ (\d+)")
-LAST = re.compile(r"(cut|given up|held) \d+\.\d+\.\d+")
+# The beginnings of a client's last line.
+LAST = ("cut ", "given up ", "held ")
 # A program that is more lines ahead has to read meanwhile.
 AHEAD = 64
 TESTS: Dict[object, Callable[[int, int], bool]] = {
@@ -28,6 +30,7 @@ def number(value: object, bits: int) -> str:
     return str(value)
 
 
+@functools.lru_cache(maxsize=1024, typed=True)
 def name(value: object, bits: int) -> str:
     """The name or number of a handler or an operation, as a word of a line."""
     if not isinstance(value, str):

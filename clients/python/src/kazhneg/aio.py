@@ -41,6 +41,9 @@ class Streams:
         except (BrokenPipeError, ConnectionResetError):
             pass
 
+    def came(self) -> Optional[str]:
+        return None
+
     async def line(self, patience: Optional[float]) -> Optional[str]:
         try:
             line = await asyncio.wait_for(self.output.readline(), patience)
