@@ -298,11 +298,15 @@ def a_node_program_that_gets_ctrl_c_leaves_nothing():
     is_free_after("node", signal.SIGINT)
 
 
+# More than is paid in these seconds.
+MONEY = 1_000_000
+
+
 def pays_through_kills(name, seconds=15):
     """A program that pays is killed again and again, and so are its client and the nodes. In the end no money is made or lost."""
     needs_pipe()
     chance = random.Random(name)
-    with System({h: (h, "purse", [1000 * (h == 1), 0]) for h in (1, 2)}, {7: {"batch": 4}}, PURSE) as system:
+    with System({h: (h, "purse", [MONEY * (h == 1), 0]) for h in (1, 2)}, {7: {"batch": 4}}, PURSE) as system:
         nodes = {n: system.node(n, "--journal", system.path(f"node-{n}.journal")) for n in (1, 2)}
         party, end = begin(system, name, "pay", 7), time.monotonic() + seconds
         # From now on the client's store is there.
@@ -323,7 +327,7 @@ def pays_through_kills(name, seconds=15):
         lines = "reserve 1 2\nquery 1 ticket\nquery 2 ticket\nquery 1 take 0 0\nquery 2 put 0 0\nend\n"
         replies = system.asks(7, lines, "--journal", system.path("client-7.journal")).output.splitlines()
         taken, put, left, had = [int(line.split()[1]) for line in replies if line.startswith("answer ")]
-        same(f"money after {taken} transfers", (left, had, put), (1000 - taken, taken, taken))
+        same(f"money after {taken} transfers", (left, had, put), (MONEY - taken, taken, taken))
         for party in nodes.values():
             party.kill()
         journals = [system.path(f"{who}.journal") for who in ("node-1", "node-2", "client-7")]
