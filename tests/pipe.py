@@ -397,8 +397,8 @@ class Program(Client):
     def asks(self, lines):
         """The client of a killed program may still be ending."""
         system = self.storm.system
-        ran = until("the address of a killed program's client is free", lambda: system.asks(self.number, lines, *self.options),
-                    lambda ran: "link: Fault" not in ran.notes)
+        ran = until("the address and journal of a killed program's client are free", lambda: system.asks(self.number, lines, *self.options),
+                    lambda ran: not re.search("link: Fault|journal: InUse", ran.notes))
         holds(f"client {self.number} ends well", ran.status == 0, ran)
         return [line.split()[1] for line in ran.output.splitlines() if line.startswith("answer ")]
 

@@ -6,9 +6,9 @@ import { AnswerRefused, ClientEnded, ConditionFailed, KazhnegError, Refused, Sta
 import { FIRST, reserveLine, testsOf, wordsOf } from "./form.js";
 import { PATIENCE, Program } from "./program.js";
 
-/** Milliseconds in which an earlier run of the same client may still be ending, and the reason of a start meanwhile. */
+/** Milliseconds in which an earlier run of the same client may still be ending, and the reasons of a start meanwhile. */
 const BETWEEN_RUNS = 10_000;
-const IN_USE = "link: Fault";
+const IN_USE = ["link: Fault", "journal: InUse"];
 const CLOSED = "the client was closed";
 
 /** The clients in whose blocks the running function is. */
@@ -217,7 +217,7 @@ export class Client {
       try {
         await this.#startOnce();
       } catch (error) {
-        const isInUse = error instanceof StartError && error.reason === IN_USE && Date.now() < end;
+        const isInUse = error instanceof StartError && IN_USE.includes(error.reason) && Date.now() < end;
         if (isInUse) await sleep(50);
         if (isInUse && this.#program !== null) continue;
         this.#program = null;

@@ -12,8 +12,8 @@ from .errors import AnswerRefused, ClientEnded, ConditionFailed, Ended, Ending, 
 
 # Seconds for a client to end. It gives up or cuts its block in at most twice 500 polls.
 PATIENCE = 20.0
-# Seconds in which an earlier run of the same client may still be ending, and the reason of a start meanwhile.
-BETWEEN_RUNS, IN_USE = 10.0, "link: Fault"
+# Seconds in which an earlier run of the same client may still be ending, and the reasons of a start meanwhile.
+BETWEEN_RUNS, IN_USE = 10.0, ("link: Fault", "journal: InUse")
 B = TypeVar("B")
 
 
@@ -70,7 +70,7 @@ class Core:
             try:
                 self.incarnation = await self.begin()
             except StartError as error:
-                if error.reason != IN_USE or time.monotonic() > end:
+                if error.reason not in IN_USE or time.monotonic() > end:
                     raise
                 await self.transport.sleep(0.05)
 
