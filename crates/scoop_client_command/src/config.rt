@@ -3,7 +3,9 @@
 use scoop_command_line::{ClientOptions, JournalChoice, StoreChoice};
 use scoop_journal::Owner;
 use scoop_message::ClientId;
-use scoop_opening::{End, Party, check_owner, read_key, report_end, report_fault, report_range};
+use scoop_opening::{
+    End, Party, PartyFiles, check_owner, read_key, report_end, report_fault, report_range,
+};
 use scoop_report::Status;
 use scoop_runtime::{ClientMode, ClientPlan, FileFault};
 use scoop_seal::Key;
@@ -25,12 +27,13 @@ pub struct ClientConfig<'s, 'o> {
 }
 
 impl<'s, 'o> ClientConfig<'s, 'o> {
-    /// The client of these options in this system, and where its lines come from. Reports what is wrong: the number of a client
+    /// The client of these options in this system, with these files, and where its lines come from. Reports what is wrong: the number of a client
     /// that the file lacks, a number out of its range, the key, a store of another owner.
     pub(crate) fn read(
         rt: &HostRuntime,
-        options: &ClientOptions<'o>,
+        options: &ClientOptions<'_>,
         system: &'s System,
+        files: &'o PartyFiles,
         mode: ClientMode,
     ) -> Result<ClientConfig<'s, 'o>, Status> {
         let client = ClientId(options.number);
@@ -48,12 +51,13 @@ impl<'s, 'o> ClientConfig<'s, 'o> {
             Err(range) => return Err(report_range(rt, range)),
         };
         let key = read_key(rt, options.key, system)?;
-        check_owner(rt, options.store, system, Owner::Client(client))?;
+        let store = files.store();
+        check_owner(rt, store, system, Owner::Client(client))?;
         Ok(ClientConfig {
             plan,
-            store: options.store,
+            store,
             after: options.after,
-            journal: options.journal,
+            journal: files.journal(),
             key,
         })
     }
