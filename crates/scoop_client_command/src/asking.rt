@@ -1,6 +1,7 @@
 //! `scoop client`: a client of a system, whose commands are the lines of standard input.
 
 use crate::config::ClientConfig;
+use crate::freeing::{freeing_another, tell_freeing};
 use crate::script_lines::ScriptLines;
 use crate::tasks::{ClientTask, Cut, Input, Program, Script};
 use scoop_command_line::{ClientOptions, LinesChoice};
@@ -9,7 +10,7 @@ use scoop_files::{FiledStore, Named, StoreName, close};
 use scoop_journal::{Journal, JournalFile, Owner};
 use scoop_lines::{SourceError, SourceFault};
 use scoop_link::UdpLink;
-use scoop_links::{ClientLink, ClientNotes};
+use scoop_links::{ClientLink, ClientNotes, WaitPlace};
 use scoop_message::ClientId;
 use scoop_observed::{NodeJournal, ObservedKeeper, Observers};
 use scoop_opening::{
@@ -63,6 +64,7 @@ fn files_of(
 ) -> Result<PartyFiles, Status> {
     let named = NamedFiles {
         system: options.system,
+        key: options.key,
         store: options.store,
         journal: options.journal,
         folder: if options.lines == LinesChoice::None {
@@ -239,7 +241,10 @@ fn run_at<T: Net, C: ClientTask>(
     };
     let client = config.plan.place().client;
     let (ran, store) = match open_client(rt, config.store, config.after, client) {
-        Ok(store) => run_over(rt, config, papers, link, store, task),
+        Ok(store) => {
+            tell_freeing(rt, config);
+            run_over(rt, config, papers, link, store, task)
+        }
         Err(end) => return Err(end),
     };
     closed(ran, store)
@@ -267,6 +272,8 @@ pub fn client_link<'r, T: Net>(
     let notes = ClientNotes {
         waits: slow_notes(rt),
         faults: slow_notes(rt),
+        freeing: freeing_another(rt, config)?,
+        places: WaitPlace::all(rt.alloc(), system)?,
     };
     let clock = SystemTimes::new(rt);
     Ok(ClientLink::new(rt.alloc(), link, clock, notes, system, place.client.0)?)
