@@ -34,8 +34,8 @@ pub struct NodeConfig<'s, 'o> {
 }
 
 impl<'s, 'o> NodeConfig<'s, 'o> {
-    /// The node of these options in this system, with these settings and these files. Reports what is wrong: the number of a node that the file
-    /// lacks, its key, a store of another owner, the clock, the address of its status.
+    /// The node of these options in this system, with these settings and these files. Reports what is wrong: the number of a node
+    /// that the file lacks, its key, a store of another owner, the clock, the address of its status.
     pub(crate) fn read(
         rt: &HostRuntime,
         options: &NodeOptions<'_>,

@@ -92,6 +92,7 @@ fn files_of(
 ) -> Result<PartyFiles, Status> {
     let named = NamedFiles {
         system: options.system,
+        key: options.key,
         store: options.store,
         journal: options.journal,
         folder: if options.is_volatile {

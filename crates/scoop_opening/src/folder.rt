@@ -80,6 +80,41 @@ pub fn journal_path(rt: &HostRuntime, dir: &str, owner: Owner) -> Result<String,
     path_in(rt, dir, owner, "journal")
 }
 
+/// The journals in the folder that the system's file names. None if it asks for no journals.
+pub fn journals_in(rt: &HostRuntime, file: &str, system: &System) -> Result<Vec<String>, Status> {
+    let mut journals = Vec::new(rt.alloc());
+    if !system.has_journals() {
+        return Ok(journals);
+    }
+    let Some(dir) = folder_of(rt, file, system)? else {
+        return Ok(journals);
+    };
+    for place in system.nodes() {
+        add_journal(rt, dir.as_str(), Owner::Node(place.number), &mut journals)?;
+    }
+    for place in system.clients() {
+        add_journal(rt, dir.as_str(), Owner::Client(place.client), &mut journals)?;
+    }
+    Ok(journals)
+}
+
+// Adds the party's journal in the folder, if it is there.
+fn add_journal(
+    rt: &HostRuntime,
+    dir: &str,
+    owner: Owner,
+    journals: &mut Vec<String>,
+) -> Result<(), Status> {
+    let path = journal_path(rt, dir, owner)?;
+    if !fs::exists(rt, path.as_str()).unwrap_or(true) {
+        return Ok(());
+    }
+    match journals.push(path) {
+        Ok(()) => Ok(()),
+        Err(_) => Err(no_memory(rt)),
+    }
+}
+
 // A party's file with this ending in the folder.
 fn path_in(rt: &HostRuntime, dir: &str, owner: Owner, ending: &str) -> Result<String, Status> {
     let (kind, number) = match owner {

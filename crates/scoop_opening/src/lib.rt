@@ -17,7 +17,9 @@ mod stores;
 mod system_file;
 
 pub use ending::{End, Party, fated_end, node_end, report_end, report_plainly, report_range};
-pub use folder::{choice_of, folder_of, journal_path, make_folder, refuse_etcd, store_path};
+pub use folder::{
+    choice_of, folder_of, journal_path, journals_in, make_folder, refuse_etcd, store_path,
+};
 pub use going_on::go_on;
 pub use journaling::{open_journal, with_journal};
 pub use keys::{make_key, read_key};

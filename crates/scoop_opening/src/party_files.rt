@@ -25,14 +25,19 @@ pub enum FolderUse {
 pub struct NamedFiles<'a> {
     /// The system's file.
     pub system: &'a str,
+    /// The key's file.
+    pub key: Option<&'a str>,
     pub store: StoreChoice<'a>,
     pub journal: JournalChoice<'a>,
     pub folder: FolderUse,
 }
 
-/// The store and the journal of a party: those that its command line names, or else those in the folder of its system's file.
+/// The files of a party. Its store and its journal are those that its command line names, or else those in the folder of its
+/// system's file.
 #[derive(Drop)]
 pub struct PartyFiles {
+    system: String,
+    key: Option<String>,
     store: Option<String>,
     is_new: bool,
     journal: Option<String>,
@@ -48,6 +53,8 @@ impl PartyFiles {
         named: &NamedFiles<'_>,
     ) -> Result<PartyFiles, Status> {
         let mut files = PartyFiles {
+            system: copy_of(rt, named.system)?,
+            key: copied(rt, named.key)?,
             store: copied(rt, named.store.path())?,
             is_new: matches!(named.store, StoreChoice::New(_)),
             journal: copied(rt, named.journal.path)?,
@@ -90,6 +97,16 @@ impl PartyFiles {
         Ok(())
     }
 
+    /// The system's file.
+    pub fn system(&self) -> &str {
+        self.system.as_str()
+    }
+
+    /// The key's file, if there is one.
+    pub fn key(&self) -> Option<&str> {
+        self.key.as_deref()
+    }
+
     /// The store, if there is one.
     pub fn store(&self) -> StoreChoice<'_> {
         match &self.store {
@@ -109,11 +126,15 @@ impl PartyFiles {
 }
 
 fn copied(rt: &HostRuntime, path: Option<&str>) -> Result<Option<String>, Status> {
-    let Some(path) = path else {
-        return Ok(None);
-    };
+    match path {
+        Some(path) => Ok(Some(copy_of(rt, path)?)),
+        None => Ok(None),
+    }
+}
+
+fn copy_of(rt: &HostRuntime, path: &str) -> Result<String, Status> {
     match String::from_str(rt.alloc(), path) {
-        Ok(path) => Ok(Some(path)),
+        Ok(path) => Ok(path),
         Err(_) => Err(report_plainly(rt, RuntimeError::from(OutOfMemory))),
     }
 }

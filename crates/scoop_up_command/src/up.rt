@@ -14,11 +14,11 @@ use scoop_message::{ClientId, OutOfMemory};
 use scoop_node_command::{Host, NodeConfig, Task};
 use scoop_opening::{
     End, NodeKeeper, OpenStore, check_owner, choice_of, folder_of, journal_path, make_folder,
-    node_keeper, open_client, open_journal, read_system, refuse_etcd, report_fault, report_plainly, report_range,
-    store_in_node, store_path, with_journal,
+    node_keeper, open_client, open_journal, read_system, refuse_etcd, report_fault, report_plainly,
+    report_range, store_in_node, store_path, with_journal,
 };
 use scoop_record::Store;
-use scoop_report::{Hints, Status, hint, report};
+use scoop_report::{Hints, Status, report};
 use scoop_runtime::{ClientPlan, FileFault, OutOfRange, RuntimeError, Serving, Tables};
 use scoop_system::{ClientPlace, System};
 use sqlite::{Alter, File, FileStore};
@@ -120,25 +120,40 @@ fn run_in<T: Threads + Wait + Clock + Net + Sync>(
     place: &ClientPlace,
 ) -> Result<(), Status> {
     let folder = folder_in(rt, options, system)?;
-    let Paths { stores, journals } = paths_of(rt, system, place.client, folder.as_deref())?;
-    let names = names_of(rt, &stores)?;
-    let choices = choices_of(rt, &stores)?;
-    let nodes = match nodes_of(rt, system, serving, &choices, &journals) {
+    let paths = paths_of(rt, system, place.client, folder.as_deref())?;
+    match plan_of(rt, system, place, options.is_strict) {
+        Ok(plan) => run_filed(rt, threads, options.system, serving, plan, &paths),
+        Err(range) => Err(report_range(rt, range)),
+    }
+}
+
+// Runs the parties over the stores in these files. The client has this plan, and `file` is the system's.
+fn run_filed<'p, T: Threads + Wait + Clock + Net + Sync>(
+    rt: &HostRuntime,
+    threads: &T,
+    file: &'p str,
+    serving: Serving,
+    plan: ClientPlan<'_>,
+    paths: &'p Paths,
+) -> Result<(), Status> {
+    let names = names_of(rt, &paths.stores)?;
+    let stores = choices_of(rt, &paths.stores)?;
+    let nodes = match nodes_of(rt, plan.system(), serving, &stores, &paths.journals) {
         Ok(nodes) => nodes,
         Err(status) => return Err(status),
     };
-    match client_of(rt, system, place, options.is_strict, &choices, &journals) {
+    match client_of(rt, plan, file, &stores, &paths.journals) {
         Ok(client) => run_journaled(rt, threads, &nodes, &client, &names),
         Err(status) => Err(status),
     }
 }
 
 // Opens the parties' journals, if they write any, and runs the parties with them.
-fn run_journaled<T: Threads + Wait + Clock + Net + Sync>(
+fn run_journaled<'s, 'o, T: Threads + Wait + Clock + Net + Sync>(
     rt: &HostRuntime,
     threads: &T,
-    nodes: &[NodeConfig<'_, '_>],
-    client: &ClientConfig<'_, '_>,
+    nodes: &[NodeConfig<'s, 'o>],
+    client: &ClientConfig<'s, 'o>,
     names: &[StoreName],
 ) -> Result<(), Status> {
     let mut journals = Vec::new(rt.alloc());
@@ -289,27 +304,26 @@ fn nodes_of<'s, 'o>(
     Ok(nodes)
 }
 
-// The client over the last of these stores, with the last of these journals.
+// The client of this plan over the last of these stores, with the last of these journals.
 fn client_of<'s, 'o>(
     rt: &HostRuntime,
-    system: &'s System,
-    place: &ClientPlace,
-    is_strict: bool,
+    plan: ClientPlan<'s>,
+    file: &'o str,
     stores: &[StoreChoice<'o>],
     journals: &'o [String],
 ) -> Result<ClientConfig<'s, 'o>, Status> {
     let store = stores.last().copied().unwrap_or(StoreChoice::None);
-    check_owner(rt, store, system, Owner::Client(place.client))?;
-    match plan_of(rt, system, place, is_strict) {
-        Ok(plan) => Ok(ClientConfig {
-            plan,
-            store,
-            after: None,
-            journal: journal_in(journals.last()),
-            key: None,
-        }),
-        Err(range) => Err(report_range(rt, range)),
-    }
+    let owner = Owner::Client(plan.place().client);
+    check_owner(rt, store, plan.system(), owner)?;
+    Ok(ClientConfig {
+        plan,
+        store,
+        after: None,
+        journal: journal_in(journals.last()),
+        file,
+        key_file: None,
+        key: None,
+    })
 }
 
 // ---- opening
