@@ -58,11 +58,17 @@ pub(crate) struct Showing {
 impl fmt::Display for Showing {
     fn fmt<W: fmt::Write>(&self, f: &mut fmt::Formatter<W>) -> fmt::Result {
         match self.place {
-            Some(WaitPlace {
-                page: Some(page), ..
-            }) => write!(f, ". http://{page}/ shows whose block that is"),
+            Some(
+                WaitPlace {
+                    page: Some(page),
+                    ..
+                },
+            ) => write!(f, ". http://{page}/ shows whose block that is"),
             Some(WaitPlace { node, address, .. }) => {
-                write!(f, ". The status of node {node} at {address} shows whose block that is")
+                write!(
+                    f,
+                    ". The status of node {node} at {address} shows whose block that is"
+                )
             }
             None => Ok(()),
         }

@@ -105,7 +105,10 @@ fn folder_in(
     };
     match &folder {
         Some(folder) => make_folder(rt, folder.as_str())?,
-        None => report(rt, "no --dir, and no [store] in the file: nothing is stored"),
+        None => report(
+            rt,
+            "no --dir, and no [store] in the file: nothing is stored",
+        ),
     }
     Ok(folder)
 }
