@@ -32,7 +32,7 @@ class Bank(System):
     def begins(self, number, name=""):
         """A client with its lines of examples/, which ends at its first refusal."""
         lines = os.path.join(TOP, "examples", f"bank-{number}{name}.lines")
-        return self.client(number, "--strict", "--lines", lines, file=self.toml)
+        return self.client(number, "--lines", lines, file=self.toml)
 
     def look(self):
         """What client 9 sees in a block: both balances, what is left, and what was sold."""

@@ -2,6 +2,7 @@
 import os
 import pty
 import re
+import subprocess
 import time
 from contextlib import contextmanager
 
@@ -131,6 +132,19 @@ def a_killed_client_is_freed_by_cut():
 
 
 @test
+def a_file_of_lines_ends_at_its_first_refusal_unless_it_is_lenient():
+    with accounts() as system:
+        path = system.write("refused.lines", "reserve 1\nquery 1 withdraw 1000\ncall 2 deposit 0\ncall 1 deposit 0\nend\n")
+        refused = "reserved 7.{0}.1\nanswer refused\n"
+        ran = system.asks(7, "", "--lines", path)
+        same("its status and output", ran.result, (1, refused.format(1) + "cut 7.1.1\n"))
+        holds("it names the line", "scoop: line 2: refused\n" in ran.notes, ran)
+        ran = system.asks(7, "", "--lines", path, "--lenient")
+        same("the status and output of a lenient one", ran.result, (1, refused.format(3) + "refused NotReserved 2\nlogged 1 2\nended\n"))
+        holds("it names the first such line", "scoop: line 2: refused, the first of 2\n" in ran.notes, ran)
+
+
+@test
 def a_file_of_lines_with_faults_sends_nothing():
     with accounts() as system:
         path = system.write("faults.lines", "reserve 1 2\ncall 1 withdraw\ncall 9 deposit 1\n")
@@ -183,6 +197,29 @@ def terminal():
     finally:
         os.close(ours)
         os.close(theirs)
+
+
+@test
+def a_terminal_has_a_marker_and_the_command_that_frees_a_block():
+    with terminal() as (theirs, types), accounts() as system:
+        client = system.client(7, stdin=theirs)
+        types("reserve 1\nend\nquit\n")
+        client.expect("reserved", "ended")
+        same("its status", client.process.wait(SOON), 0)
+        words = client.words[2:]
+        wanted = f"hint: Ctrl-C kills this client. Its next start frees a block that it leaves, and so does `scoop client {' '.join(words[:3])} --store "
+        holds(f"it says {wanted!r}", wanted in client.notes() and " --cut`\n" in client.notes(), client.notes())
+        holds("a file has no marker", "> " not in client.notes(), client.notes())
+        ours, screen = pty.openpty()
+        with subprocess.Popen(system.words("client", 7, []), stdin=theirs, stdout=subprocess.PIPE, stderr=screen) as typed:
+            came = b""
+            while not came.endswith(b"> "):
+                came += os.read(ours, 4096)
+            types("query 1 balance\nquit\n")
+            output, _ = typed.communicate(timeout=SOON)
+        same("its output", (typed.returncode, output), (0, b"refused NoBlock\n"))
+        os.close(ours)
+        os.close(screen)
 
 
 @test

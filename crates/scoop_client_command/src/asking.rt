@@ -1,21 +1,22 @@
 //! `scoop client`: a client of a system, whose commands are the lines of standard input.
 
 use crate::config::ClientConfig;
+use crate::freeing::{freeing_another, tell_freeing};
 use crate::script_lines::ScriptLines;
 use crate::tasks::{ClientTask, Cut, Input, Program, Script};
-use scoop_command_line::{ClientOptions, LinesChoice, StoreChoice};
+use scoop_command_line::{ClientOptions, LinesChoice};
 use scoop_etcd_stores::Fate;
 use scoop_files::{FiledStore, Named, StoreName, close};
-use scoop_journal::{Journal, JournalFile};
+use scoop_journal::{Journal, JournalFile, Owner};
 use scoop_lines::{SourceError, SourceFault};
 use scoop_link::UdpLink;
-use scoop_links::{ClientLink, ClientNotes};
+use scoop_links::{ClientLink, ClientNotes, WaitPlace};
 use scoop_message::ClientId;
 use scoop_observed::{NodeJournal, ObservedKeeper, Observers};
 use scoop_opening::{
-    End, OpenStore, check_choice, client_keeper, fated_end, note_owner, open_client, open_journal,
-    read_system, read_text, report_fault, report_plainly, store_in_client, store_name,
-    with_journal,
+    End, FolderUse, NamedFiles, OpenStore, PartyFiles, check_choice, client_keeper, fated_end,
+    note_owner, open_client, open_journal, read_system, read_text, report_fault, report_plainly,
+    store_in_client, store_name, with_journal,
 };
 use scoop_pacing::{SlowNotes, SystemTimes};
 use scoop_record::Store;
@@ -38,7 +39,8 @@ pub type AskingLink<'r> = ClientLink<
     SlowNotes<Stderr, SystemTimes<'r, HostRuntime>>,
 >;
 
-/// Runs the client of the options. Its system, its key and its port come first, and then its store.
+/// Runs the client of the options. If they name no store, it is in the folder that the system's file names. The system, the key and
+/// the port come first, and then the store.
 pub fn run_client<T: Net>(
     rt: &HostRuntime,
     net: &T,
@@ -48,13 +50,36 @@ pub fn run_client<T: Net>(
     run_in(rt, net, options, &system)
 }
 
-// The system of the options, which name a store.
+// The system of the options.
 fn system_of(rt: &HostRuntime, options: &ClientOptions<'_>) -> Result<System, Status> {
-    if let StoreChoice::None = options.store {
-        return Err(report_no_store(rt));
-    }
     check_choice(rt, options.store)?;
     read_system(rt, options.system)
+}
+
+// The files of the client, which has a store. A client that only cuts makes none.
+fn files_of(
+    rt: &HostRuntime,
+    options: &ClientOptions<'_>,
+    system: &System,
+) -> Result<PartyFiles, Status> {
+    let named = NamedFiles {
+        system: options.system,
+        key: options.key,
+        store: options.store,
+        journal: options.journal,
+        folder: if options.lines == LinesChoice::None {
+            FolderUse::Finds
+        } else {
+            FolderUse::Makes
+        },
+    };
+    let owner = Owner::Client(ClientId(options.number));
+    let files = PartyFiles::find(rt, system, owner, &named)?;
+    if files.store().path().is_some() {
+        Ok(files)
+    } else {
+        Err(report_no_store(rt))
+    }
 }
 
 fn report_no_store(rt: &HostRuntime) -> Status {
@@ -62,8 +87,8 @@ fn report_no_store(rt: &HostRuntime) -> Status {
     hint(
         rt,
         Hints::Always,
-        "use --new FILE for a client that never ran, and --store FILE to resume the store that it made. If that store is lost, \
-        use --new FILE --after N",
+        "use --new FILE for a client that never ran, and --store FILE to resume the store that it made. Or name the folder of all \
+        stores in the system's file: [store] with folder = \"data\". If a store is lost, use --new FILE --after N",
     );
     Status(2)
 }
@@ -174,7 +199,8 @@ fn run_task<T: Net, C: ClientTask>(
     mode: ClientMode,
     task: &mut C,
 ) -> Result<(), Status> {
-    match ClientConfig::read(rt, options, system, mode) {
+    let files = files_of(rt, options, system)?;
+    match ClientConfig::read(rt, options, system, &files, mode) {
         Ok(config) => match run_journaled(rt, net, &config, task) {
             Ok(()) => Ok(()),
             Err(End::Lines(stop)) if mode == ClientMode::Piped && is_replied(stop.error) => {
@@ -215,7 +241,10 @@ fn run_at<T: Net, C: ClientTask>(
     };
     let client = config.plan.place().client;
     let (ran, store) = match open_client(rt, config.store, config.after, client) {
-        Ok(store) => run_over(rt, config, papers, link, store, task),
+        Ok(store) => {
+            tell_freeing(rt, config);
+            run_over(rt, config, papers, link, store, task)
+        }
         Err(end) => return Err(end),
     };
     closed(ran, store)
@@ -243,6 +272,8 @@ pub fn client_link<'r, T: Net>(
     let notes = ClientNotes {
         waits: slow_notes(rt),
         faults: slow_notes(rt),
+        freeing: freeing_another(rt, config)?,
+        places: WaitPlace::all(rt.alloc(), system)?,
     };
     let clock = SystemTimes::new(rt);
     Ok(ClientLink::new(rt.alloc(), link, clock, notes, system, place.client.0)?)

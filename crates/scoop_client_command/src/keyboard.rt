@@ -11,12 +11,15 @@ use scoop_runtime::{ClientMode, ClientPlan, Interrupt};
 use scoop_system::{ClientLine, System, read_line};
 use std::alloc::Global;
 use std::io;
-use std::io::{Read, StdinLock, Write};
+use std::io::{IsTerminal, Read, Stderr, StdinLock, Write};
 use std::net::Net;
 use std::os::fd::{AsRawFd, RawFd};
 use std::time::Duration;
 
 const INPUT: Token = Token(0);
+
+// It stands before each line that is typed.
+const MARKER: &[u8] = b"> ";
 
 // How many seconds an input is waited for between two looks at the names of stores.
 const BETWEEN_LOOKS: u64 = 1;
@@ -134,6 +137,8 @@ pub struct Keyboard<'a> {
     readiness: Option<Readiness>,
     // The number of a `giveup` that has ended a wait.
     gave_up: Option<u32>,
+    // Where a user who types sees the marker, if that is a terminal.
+    prompt: Option<Stderr>,
     watches: Watches<'a>,
 }
 
@@ -158,8 +163,20 @@ impl<'a> Keyboard<'a> {
             lines: LiveLines::new(typed, mode == ClientMode::Piped),
             readiness: Readiness::of(net, rt.alloc(), descriptor),
             gave_up: None,
+            prompt: prompt_for(rt, mode),
             watches: Watches::new(rt, names)?,
         })
+    }
+
+    // Writes the marker if the client waits for the next line. What it has answered comes first. A marker that can't be written is
+    // lost.
+    fn mark<W: Write>(&mut self, output: &mut W) {
+        let is_awaited = self.lines.ahead() == Ahead::Part && !self.lines.has_rest();
+        if let Some(notes) = &mut self.prompt {
+            if is_awaited && output.flush().is_ok() && notes.write_all(MARKER).is_ok() {
+                let _flushed = notes.flush();
+            }
+        }
     }
 
     // Whether some bytes of the input can be taken at once.
@@ -202,6 +219,16 @@ impl<'a> Keyboard<'a> {
     }
 }
 
+// Where the marker goes: to a terminal, for a user who types.
+fn prompt_for(rt: &HostRuntime, mode: ClientMode) -> Option<Stderr> {
+    let notes = rt.stderr();
+    if mode == ClientMode::Typed && notes.is_terminal() {
+        Some(notes)
+    } else {
+        None
+    }
+}
+
 impl LineSource for Keyboard<'_> {
     fn next_line<W: Write>(
         &mut self,
@@ -213,6 +240,7 @@ impl LineSource for Keyboard<'_> {
             let _fits = line.try_extend_from_slice(b"giveup");
             return Ok(Some(number));
         }
+        self.mark(output);
         let came = self.lines.next_line(line, output);
         if self.watches.have_names() {
             came

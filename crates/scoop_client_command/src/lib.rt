@@ -9,6 +9,7 @@
 
 mod asking;
 mod config;
+mod freeing;
 mod keyboard;
 mod script_lines;
 mod tasks;

@@ -9,7 +9,8 @@ pub(crate) const AUDIT: CommandRow = CommandRow {
     help: "Checks a run of the system in a file, kills included. It reads the journals that the system's nodes and clients wrote \
         (`--journal`), replays every life by the rules of handlers and clients, and finds one order of all moves in which each \
         message that is heard was sent before.\n\n\
-        Give the journal of each party that ran. One without a journal counts as idle, and a hint names it.\n\n\
+        Give the journal of each party that ran. One without a journal counts as idle, and a hint names it. Without any the journals are \
+        those in the folder that the system's file names, if it has `journals = true`.\n\n\
         Input: none but the files. Output:\n\
         \x20 node 1: 3 lives, 12345 entries        what the journal of a node has\n\
         \x20 client 7: 2 lives, 678 steps          what the journal of a client has\n\

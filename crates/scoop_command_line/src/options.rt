@@ -291,10 +291,16 @@ pub fn client_options<'a>(given: &'a ArgMatches<'_>) -> ClientOptions<'a> {
         after: given.get_one::<u32>("after"),
         journal: journal_choice(given),
         key: given.get_str("key"),
-        is_strict: given.get_flag("strict"),
+        is_strict: is_strict(given),
         turns: given.get_one::<u64>("turns").unwrap_or(100_000),
         lines: lines_choice(given),
     }
+}
+
+// Whether the first refusal ends a client. It ends one whose lines are in a file, unless that is lenient.
+fn is_strict(given: &ArgMatches<'_>) -> bool {
+    let is_file = given.get_str("lines").is_some();
+    given.get_flag("strict") || (is_file && !given.get_flag("lenient"))
 }
 
 fn lines_choice<'a>(given: &'a ArgMatches<'_>) -> LinesChoice<'a> {

@@ -27,7 +27,7 @@ const OWN_CLIENT: CommandRow = CommandRow {
 };
 
 // The arguments that only a client of lines has.
-const OF_LINES: [&str; 3] = ["strict", "lines", "pipe"];
+const OF_LINES: [&str; 4] = ["strict", "lines", "lenient", "pipe"];
 
 /// The matches of the words of a program that is a node, the program's name first. They are read by [`crate::node_options`].
 pub fn parse_node<'a>(alloc: Global, words: &'a [String]) -> Result<ArgMatches<'a>, Error> {

@@ -9,6 +9,7 @@ pub(crate) const CHECK: CommandRow = CommandRow {
     help: "Reads a TOML file with a system's nodes, handlers, clients, addresses and own classes, and prints what it \
         understood.\n\n\
         Input: none but the file. Output:\n\
+        \x20 store data journals                   the folder of the stores, and of the journals\n\
         \x20 node 1 127.0.0.1:47101                a node, and its address\n\
         \x20   handler 1 stock 10 0 name goods     a handler there, with its class, its words and its name\n\
         \x20 client 7 127.0.0.1:47107 batch 4      a client, and how many entries it puts into one Log\n\
@@ -35,9 +36,10 @@ pub(crate) const NODE: CommandRow = CommandRow {
     usage: None,
     about: "Runs a node of a system, over UDP",
     help: "Runs a node of the system in a file (`scoop check` shows it): it answers the datagrams that come to its \
-        address, and runs its handlers in threads. It stores their states in the file of --new or --store. With \
-        --volatile it stores nothing, and a restart breaks the promise.\n\n\
-        You may kill the node at any time and resume it with --store and its own store. That store must have every handler that \
+        address, and runs its handlers in threads. It stores their states in the file of --new or --store, or else in the folder \
+        that the system's file names: `folder = \"data\"` in its table [store]. There the node makes its store at its first start, and \
+        resumes it later. With --volatile it stores nothing, and a restart breaks the promise.\n\n\
+        You may kill the node at any time and resume it with its own store. That store must have every handler that \
         the system's file gives the node. The node first runs what it had taken and not run. When its history is full, it \
         closes, which compares the history with its threads' records, and reopens.\n\n\
         Input: none.\n\n\
@@ -198,9 +200,9 @@ pub(crate) const CLIENT: CommandRow = CommandRow {
     usage: None,
     about: "Runs a client of a system, over UDP, with the commands of standard input",
     help: "Runs a client of the system in a file (`scoop check` shows it). It binds its port, and then takes its next \
-        incarnation from its store. Use --new for a client that never ran, and --store for one that did. If its store is \
-        lost, use --new with --after N. It greets every handler, which frees what an earlier incarnation has held. Then it runs \
-        the lines, one after another.\n\n\
+        incarnation from its store. Use --new for a client that never ran, and --store for one that did. With neither its store is in \
+        the folder that the system's file names, as of `scoop node`. If its store is lost, use --new with --after N. It greets every \
+        handler, which frees what an earlier incarnation has held. Then it runs the lines, one after another.\n\n\
         Input: lines. Output: a line for each:\n\
         \x20 reserve H..         `reserved 7.1.1`: a block over 1 to 8 handlers\n\
         \x20 call H OP A..       `logged H N`: the call is in the client's log, as the block's N-th entry for the handler. It \
@@ -220,31 +222,35 @@ pub(crate) const CLIENT: CommandRow = CommandRow {
         reads: set A or get of a cell, add A or get of a counter, deposit A, withdraw A or balance of an account, put A of an \
         exchange; `scoop check` shows those of the file's classes. \
         A line that the client refuses gets `refused` and why (`NotIdle`, `NoBlock`, `NotReserved H`, `Empty`, `TooMany`, \
-        `Repeated H`, `Unknown H`, `NotInWhen`, `TooLate`, `Spent`); the client goes on. Empty lines and lines that begin with `#` \
+        `Repeated H`, `Unknown H`, `NotInWhen`, `TooLate`, `Spent`); unless the lines are strict the client goes on. Empty lines and lines that begin with `#` \
         are skipped; a line may end in a carriage return and a newline.\n\n\
         Lines that come while the client waits: `giveup` ends the wait of a `reserve` or of a block's condition. At a terminal and over \
-        a pipe `quit` and the end of the input end every wait. Control-C kills the client; --cut then frees its block.\n\n\
+        a pipe `quit` and the end of the input end every wait.\n\n\
+        Control-C kills the client, as each signal does. Inside a block it then leaves its handlers locked or its queues open, and other \
+        clients wait. The client's next start frees them, with any lines. --cut does nothing else:\n\
+        \x20 scoop client 7 --system examples/bank.toml --store /tmp/client-7.db --cut\n\n\
         However a client ends that isn't killed, it leaves no block behind as long as its handlers answer. It gives up a block that \
         isn't reserved yet (`given up 7.1.1`), and cuts any other that isn't ended (`cut 7.1.1`): the handlers run what they had \
         received of it, and are free. If one doesn't answer within four seconds, standard error says which, and --cut frees it \
         later.\n\n\
-        At a terminal, standard error announces that the client is ready and which lines there are. It explains refusals, and \
-        counts the tries of a waiting block. When 100 polls bring nothing new, standard error names the handlers that the client \
-        waits for, and likely reasons.\n\n\
+        At a terminal, standard error announces that the client is ready and which lines there are, and has the marker `> ` when the \
+        client takes a line. It explains refusals, and counts the tries of a waiting block. When 100 polls bring nothing new, \
+        standard error names the handlers that the client waits for, likely reasons, and the command that frees another client's block.\n\n\
         Statuses: 0; 1 for the file or the key, printed as `scoop: FILE: TEXT`, for a line that can't be read, printed as \
         `scoop: line N: TEXT` (at a terminal the client goes on), for an input that ends inside a block, and for lines that got \
-        `refused`, `answer refused` or `condition failed`, printed as `scoop: line N: refused` with --strict and as `scoop: line N: \
-        refused, the first of K` without (at a terminal 0); 2 for the command line; 3 for links, printed as `scoop: link: NAME` \
+        `refused`, `answer refused` or `condition failed`, printed as `scoop: line N: refused` with --lines or --strict, and as \
+        `scoop: line N: refused, the first of K` with --lenient or on standard input (at a terminal 0); 2 for the command line; 3 for \
+        links, printed as `scoop: link: NAME` \
         (`TurnsOver` if the greeting or a command has used up its --turns), for the store, printed as `scoop: store: NAME`, for \
         the journal, printed as `scoop: journal: NAME` or `scoop: write fault`, for memory or output. Further lines of standard error say which lines were answered, and, after `hint: `, where to look and \
         what to do.\n\n\
         Examples:\n\
-        \x20 scoop client 7 --system examples/bank.toml --new /tmp/client-7.db --strict --lines examples/bank-7.lines\n\
+        \x20 scoop client 7 --system examples/bank.toml --new /tmp/client-7.db --lines examples/bank-7.lines\n\
         \x20 scoop client 7 --system examples/bank.toml --store /tmp/client-7.db --cut",
     arguments: &CLIENT_ARGUMENTS,
 };
 
-pub(crate) const CLIENT_ARGUMENTS: [ArgumentRow; 13] = [
+pub(crate) const CLIENT_ARGUMENTS: [ArgumentRow; 14] = [
     ArgumentRow {
         name: "number",
         place: Place::Word,
@@ -291,7 +297,7 @@ pub(crate) const CLIENT_ARGUMENTS: [ArgumentRow; 13] = [
         value_name: "",
         default: None,
         help: "Ends after the first line that gets `refused`, `answer refused` or `condition failed`, before the next one, with \
-            status 1 and its line. A block that isn't ended is cut",
+            status 1 and its line. A block that isn't ended is cut. The lines of --lines are strict without it",
     },
     ArgumentRow {
         name: "lines",
@@ -300,11 +306,20 @@ pub(crate) const CLIENT_ARGUMENTS: [ArgumentRow; 13] = [
         value_name: "FILE",
         default: None,
         help: "Takes the lines from this file. All of it is read and checked first: if it has a fault, nothing is sent, and \
-            standard error has each fault with its line",
+            standard error has each fault with its line. The lines are strict, unless --lenient is given",
+    },
+    ArgumentRow {
+        name: "lenient",
+        place: Place::OptionWithButWithout("lines", "strict", "cut"),
+        value: Value::Flag,
+        value_name: "",
+        default: None,
+        help: "Goes on after a line of --lines that gets `refused`, `answer refused` or `condition failed`. At the end the status is \
+            1, and standard error has the first such line and how many there are",
     },
     ArgumentRow {
         name: "pipe",
-        place: Place::OptionWithoutAll(&["lines", "strict", "cut"]),
+        place: Place::OptionWithoutAll(&["lines", "strict", "lenient", "cut"]),
         value: Value::Flag,
         value_name: "",
         default: None,

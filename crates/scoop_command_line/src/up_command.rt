@@ -10,9 +10,11 @@ pub(crate) const UP: CommandRow = CommandRow {
         fastest way to try a system. Nodes and clients that run elsewhere may join: all use the addresses of the file, and no \
         seal.\n\n\
         With --dir, the stores of the nodes and the client are DIR/node-N.db and DIR/client-C.db: those that are there are \
-        resumed, the others are made. Without --dir nothing is stored.\n\n\
+        resumed, the others are made. Without --dir the folder is that of the system's file, if its table [store] names one. With \
+        `journals = true` there, each party also writes its journal into the folder. Without any folder nothing is stored.\n\n\
         Input and output are those of `scoop client`. Each node prints its own lines on standard error: that it is ready, and \
-        that it has closed. At `quit` or the end of the input the client ends first, and then the nodes.\n\n\
+        that it has closed. At `quit` or the end of the input the client ends first, and then the nodes. Control-C kills all of them; over stores \
+        the next `scoop up` frees what the client held.\n\n\
         Statuses: those of `scoop client`, and 3 if a node ended early.\n\n\
         Example: scoop up examples/bank.toml",
     arguments: &UP_ARGUMENTS,
@@ -33,7 +35,7 @@ const UP_ARGUMENTS: [ArgumentRow; 4] = [
         value: Value::Text,
         value_name: "DIR",
         default: None,
-        help: "The folder of the stores, which is made if it is missing. Without it nothing is stored",
+        help: "The folder of the stores, which is made if it is missing. Without it that of the system's file, if it names one",
     },
     ArgumentRow {
         name: "client",

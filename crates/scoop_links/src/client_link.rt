@@ -12,6 +12,7 @@ ghost use Rattle.scoop_links.specs.Waits.{fresh_waits, waits_after_receive, wait
 use crate::patience::Patience;
 use crate::roads::Roads;
 use crate::talks::Talks;
+use crate::wait_place::WaitPlace;
 use crate::waits::Waits;
 use scoop_frame::peek;
 use scoop_link::{Datagram, Link, LinkFault, Party, SetsAddress};
@@ -33,6 +34,10 @@ pub struct ClientNotes<E: Write + Drop> {
     pub waits: E,
     /// The calls of the link below that failed.
     pub faults: E,
+    /// The command that frees another client's block, for a client that waits for that block.
+    pub freeing: String,
+    /// Where the handlers stand. A handler without a place is noted without its node.
+    pub places: Vec<WaitPlace>,
 }
 
 /// A client's link to the handlers of a system, around a link that carries its datagrams.
@@ -90,11 +95,12 @@ fn hear_reply<A: Allocator>(pacing: &mut Pacing<A>, now: u64, bytes: &[u8])
 }
 
 // Records an empty poll, and writes the handlers that the client waits for if they are to be reported.
-fn report_wait<A: Allocator, E: Write>(waits: &mut Waits<A>, notes: &mut E)
+fn report_wait<A: Allocator, E: Write + Drop>(waits: &mut Waits<A>, notes: &mut ClientNotes<E>)
     ensures { waits.new ≡ waits_after_silence waits.old }
 {
     if let Some(awaited) = waits.wait() {
-        waits.tell(awaited, notes);
+        let (places, freeing) = (notes.places.as_slice(), notes.freeing.as_str());
+        waits.tell(awaited, places, freeing, &mut notes.waits);
     }
 }
 
@@ -279,7 +285,7 @@ impl<L: SetsAddress, C: Times, E: Write + Drop, A: Allocator> Link for ClientLin
         let got = self.receive_news(buffer)?;
         match got {
             Some(len) => self.waits.hear(&buffer[..len]),
-            None => report_wait(&mut self.waits, &mut self.notes.waits),
+            None => report_wait(&mut self.waits, &mut self.notes),
         }
         self.waits.clear();
         Ok(got)

@@ -7,7 +7,8 @@
 //!
 //! ```
 //! // failed calls are noted in `faults`, and the handlers that the client waits for in `waits`
-//! let notes = ClientNotes { waits, faults };
+//! let places = WaitPlace::all(alloc, &system)?;
+//! let notes = ClientNotes { waits, faults, freeing, places };
 //! let mut link = ClientLink::new(alloc, link, clock, notes, &system, seed)?;
 //! let client = Client::begin(alloc, client, incarnation, &known)?;
 //! let driver = Driver::new(client, LentLink::new(&mut link), TURNS);
@@ -21,6 +22,7 @@ mod patience;
 mod patient_link;
 mod roads;
 mod talks;
+mod wait_place;
 mod waits;
 
 pub use client_link::{ClientLink, ClientNotes};
@@ -29,4 +31,5 @@ pub use numbers::print_numbers;
 pub use patient_link::PatientLink;
 pub use roads::Road;
 pub use talks::Talk;
+pub use wait_place::WaitPlace;
 pub use waits::Awaited;

@@ -1,12 +1,11 @@
 //! The handlers that a client waits for, and the report on them.
 
-ghost use Rattle.std.specs.Prelude.{◌≡◌, ◌≤◌, ◌++◌, ◌∷◌, IfOk, OnOk, vec_len, vec_capacity};
-ghost use Rattle.std.specs.Io.KnownBytes.{Appends};
+ghost use Rattle.std.specs.Prelude.{◌≡◌, ◌≤◌, IfOk, vec_len, vec_capacity};
 ghost use Rattle.scoop_link.specs.Datagram.{kept};
 ghost use Rattle.scoop_links.specs.Waits.{Awaits, Reports, Says, asked_too, asking_none, awaited_of, fresh_waits, greets, is_asked, is_due, refuses_lock, waits_after_hearing, waits_after_send, waits_after_silence};
-ghost use Rattle.scoop_links.specs.Texts.{awaited_advice, awaited_text, waiting_text};
 
 use crate::numbers::print_numbers;
+use crate::wait_place::{Showing, Silent, WaitPlace};
 use scoop_frame::decode;
 use scoop_link::{Datagram, Party};
 use scoop_message::{HandlerId, Message, OutOfMemory};
@@ -145,9 +144,16 @@ impl<A: Allocator> Waits<A> {
         self.asked.clear();
     }
 
-    /// Writes the report, and flushes. A report that can't be written is lost.
-    pub(crate) fn tell<W: Write>(&self, awaited: Awaited, writer: &mut W) {
-        if print_waiting(awaited, &self.asked, writer).is_ok() {
+    /// Writes the report, and flushes. It names a node by these places. It has this command, if another client's block is why. A
+    /// report that can't be written is lost.
+    pub(crate) fn tell<W: Write>(
+        &self,
+        awaited: Awaited,
+        places: &[WaitPlace],
+        freeing: &str,
+        writer: &mut W,
+    ) {
+        if print_waiting(awaited, places, freeing, &self.asked, writer).is_ok() {
             let _flushed = writer.flush();
         }
     }
@@ -198,46 +204,53 @@ fn refuses_lock(message: &Message) -> bool
     matches!(message, Message::Busy(..))
 }
 
-// Why a client waits, and advice.
-fn awaited_advice(awaited: Awaited) -> &'static str
-    ensures { result.now ≡ awaited_advice awaited }
-{
+// Why a client waits, and advice. The command follows that frees another client's block, if that is why.
+fn awaited_advice(awaited: Awaited) -> &'static str {
     match awaited {
         Awaited::Welcome => {
             "no welcome yet. Check that the nodes run and that all programs have the same file and key. If this client ran \
             before with another store, resume that one"
         }
         Awaited::Lock => {
-            "busy, another block has the lock. If that block's client was killed, free the lock by `scoop client C --cut`"
+            "busy, another block has the lock. If that block's client was killed, free the lock by"
         }
         Awaited::Turn => {
-            "another block is in front. If that block's client was killed, free the handler by `scoop client C --cut`"
+            "another block is in front. If that block's client was killed, free the handler by"
         }
         Awaited::Reply => "no answer. Check that the nodes run",
     }
 }
 
-// Writes the handlers that the client waits for, and why that may be.
-fn print_awaited<W: Write>(
-    awaited: Awaited,
-    handlers: &[HandlerId],
-    writer: &mut W,
-) -> io::Result<()>
-    ensures { OnOk result (Appends (W.contents writer.old) (W.contents writer.new) (awaited_text awaited handlers.now)) }
-{
-    print_numbers(handlers, writer)?;
-    let advice = awaited_advice(awaited);
-    writeln!(writer, ": {advice}")
+// The place of the first of these handlers that has one.
+fn place_among(places: &[WaitPlace], handlers: &[HandlerId]) -> Option<WaitPlace> {
+    for place in places {
+        if is_asked(handlers, place.handler) {
+            return Some(*place);
+        }
+    }
+    None
 }
 
-// Writes the line on the handlers that the client waits for.
+// Writes the handlers that the client waits for, and why that may be.
 fn print_waiting<W: Write>(
     awaited: Awaited,
+    places: &[WaitPlace],
+    freeing: &str,
     handlers: &[HandlerId],
     writer: &mut W,
-) -> io::Result<()>
-    ensures { OnOk result (Appends (W.contents writer.old) (W.contents writer.new) (waiting_text awaited handlers.now)) }
-{
+) -> io::Result<()> {
     writer.write_all(b"scoop: waiting for handlers")?;
-    print_awaited(awaited, handlers, writer)
+    print_numbers(handlers, writer)?;
+    let advice = awaited_advice(awaited);
+    let place = place_among(places, handlers);
+    match awaited {
+        Awaited::Welcome | Awaited::Reply => {
+            let silent = Silent { place };
+            writeln!(writer, ": {advice}{silent}")
+        }
+        Awaited::Lock | Awaited::Turn => {
+            let showing = Showing { place };
+            writeln!(writer, ": {advice} `{freeing}`{showing}")
+        }
+    }
 }

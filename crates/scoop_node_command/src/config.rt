@@ -3,9 +3,10 @@
 use jiff::Timestamp;
 use scoop_command_line::{JournalChoice, LogChoice, NodeOptions, StoreChoice};
 use scoop_files::FileMedium;
-use scoop_journal::Owner;
+use scoop_journal::{JournalFile, Owner};
 use scoop_opening::{
-    End, OpenStore, Party, check_owner, open_node, read_key, report_end, report_fault, report_range,
+    End, OpenStore, Party, PartyFiles, check_owner, open_journal, open_node, read_key, report_end,
+    report_fault, report_range,
 };
 use scoop_report::{Hints, Status, hint, report};
 use scoop_runtime::{FileFault, Serving};
@@ -33,24 +34,26 @@ pub struct NodeConfig<'s, 'o> {
 }
 
 impl<'s, 'o> NodeConfig<'s, 'o> {
-    /// The node of these options in this system, with these settings. Reports what is wrong: the number of a node that the file
-    /// lacks, its key, a store of another owner, the clock, the address of its status.
+    /// The node of these options in this system, with these settings and these files. Reports what is wrong: the number of a node
+    /// that the file lacks, its key, a store of another owner, the clock, the address of its status.
     pub(crate) fn read(
         rt: &HostRuntime,
-        options: &NodeOptions<'o>,
+        options: &NodeOptions<'_>,
         serving: Serving,
         system: &'s System,
+        files: &'o PartyFiles,
     ) -> Result<NodeConfig<'s, 'o>, Status> {
         let place = place_of(rt, options, system)?;
         let key = read_key(rt, options.key, system)?;
-        check_owner(rt, options.store, system, Owner::Node(options.number))?;
+        let store = files.store();
+        check_owner(rt, store, system, Owner::Node(options.number))?;
         Ok(NodeConfig {
             system,
             place,
             started: now(rt)?,
-            serving,
-            store: options.store,
-            journal: options.journal,
+            serving: continued(serving, store),
+            store,
+            journal: files.journal(),
             key,
             log: level_of(options.log),
             status: status_of(rt, options.status, &place)?,
@@ -58,13 +61,14 @@ impl<'s, 'o> NodeConfig<'s, 'o> {
         })
     }
 
-    /// The node at this place of the system, over this store, without a key, a journal, a log and a status.
+    /// The node at this place of the system, over this store and with this journal, without a key, a log and a status.
     pub fn plain(
         rt: &HostRuntime,
         system: &'s System,
         place: NodePlace,
         serving: Serving,
         store: StoreChoice<'o>,
+        journal: JournalChoice<'o>,
     ) -> Result<NodeConfig<'s, 'o>, Status> {
         Ok(NodeConfig {
             system,
@@ -72,10 +76,7 @@ impl<'s, 'o> NodeConfig<'s, 'o> {
             started: now(rt)?,
             serving: continued(serving, store),
             store,
-            journal: JournalChoice {
-                path: None,
-                syncs: false,
-            },
+            journal,
             key: None,
             log: LogLevel::Off,
             status: None,
@@ -96,6 +97,14 @@ impl<'s, 'o> NodeConfig<'s, 'o> {
             log: self.log,
             status: self.status,
             may_lack_page: self.may_lack_page,
+        }
+    }
+
+    /// Opens its journal, if it writes one.
+    pub fn open_journal(&self, rt: &HostRuntime) -> Result<Option<JournalFile>, End> {
+        match open_journal(rt, self.journal, Owner::Node(self.place.number)) {
+            Ok(journal) => Ok(journal),
+            Err(error) => Err(End::from(error)),
         }
     }
 
@@ -132,7 +141,7 @@ impl<'s, 'o> NodeConfig<'s, 'o> {
 /// The settings that the options ask for.
 pub(crate) fn serving_of(rt: &HostRuntime, options: &NodeOptions<'_>) -> Result<Serving, Status> {
     match Serving::new(options.executors, options.history as usize, options.turns) {
-        Ok(serving) => Ok(continued(serving, options.store)),
+        Ok(serving) => Ok(serving),
         Err(range) => Err(report_range(rt, range)),
     }
 }

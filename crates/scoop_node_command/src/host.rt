@@ -84,6 +84,11 @@ impl<'s, 'o, 'p, O: Objects> Host<'s, 'o, 'p, O> {
         self.name
     }
 
+    /// Its journal, if it writes one.
+    pub fn journal(&self) -> Option<&'p JournalFile> {
+        self.journal
+    }
+
     /// Prepares this keeper of the node's store: an old one is refused if it is older than the text beside it says, and a note says
     /// how far it goes.
     pub fn go_on<K: Keeper<Global>>(&self, rt: &HostRuntime, keeper: &mut K) -> Result<(), Status> {

@@ -11,8 +11,8 @@ use scoop_keeper::SharedKeeper;
 use scoop_link::UdpLink;
 use scoop_message::OutOfMemory;
 use scoop_opening::{
-    End, OpenStore, check_choice, close_store, fated_end, go_on, node_end, node_keeper,
-    open_journal, read_system, store_in_node, store_name, with_journal,
+    End, FolderUse, NamedFiles, OpenStore, PartyFiles, check_choice, close_store, fated_end, go_on,
+    node_end, node_keeper, read_system, store_in_node, store_name, with_journal,
 };
 use scoop_record::Store;
 use scoop_report::{Hints, Status, hint, report};
@@ -27,28 +27,38 @@ use std::sync::Wait;
 use std::thread::Threads;
 use std::time::Clock;
 
-/// Serves the node of the options, whose objects these make. Its system, its key, its journal and its port come first, then the
-/// port of its status, and then its store.
+/// Serves the node of the options, whose objects these make. If they name no store, it is in the folder that the system's file
+/// names. The system, the key, the journal and the port come first, then the port of the status, and then the store.
 pub fn serve_node<T: Threads + Wait + Clock + Net + Sync, O: Objects + Sync>(
     rt: &HostRuntime,
     threads: &T,
     options: &NodeOptions<'_>,
     objects: O,
 ) -> Result<(), Status> {
-    require_store(rt, options)?;
+    refuse_both(rt, options)?;
     check_choice(rt, options.store)?;
     let serving = serving_of(rt, options)?;
     let system = read_system(rt, options.system)?;
-    let config = match NodeConfig::read(rt, options, serving, &system) {
-        Ok(config) => config,
-        Err(status) => return Err(status),
-    };
-    let (journal, name) = match beside(rt, &config) {
+    let files = files_of(rt, options, &system)?;
+    match NodeConfig::read(rt, options, serving, &system, &files) {
+        Ok(config) => serve(rt, threads, &config, objects),
+        Err(status) => Err(status),
+    }
+}
+
+// Serves this node. The arguments are borrowed, so that no early return has to drop them.
+fn serve<T: Threads + Wait + Clock + Net + Sync, O: Objects + Sync>(
+    rt: &HostRuntime,
+    threads: &T,
+    config: &NodeConfig<'_, '_>,
+    objects: O,
+) -> Result<(), Status> {
+    let (journal, name) = match beside(rt, config) {
         Ok(files) => files,
         Err(end) => return Err(config.report(rt, end)),
     };
     let journal = journal.as_ref();
-    let ended = match Host::open(rt, threads, &config, objects, journal, name.as_ref()) {
+    let ended = match Host::open(rt, threads, config, objects, journal, name.as_ref()) {
         Ok((host, link)) => match open_behind(rt, &host) {
             Ok((server, store)) => {
                 let (ended, store) = serve_over(rt, threads, &host, link, server, store);
@@ -64,22 +74,50 @@ pub fn serve_node<T: Threads + Wait + Clock + Net + Sync, O: Objects + Sync>(
     }
 }
 
-// A node has either a store or the option `--volatile`.
-fn require_store(rt: &HostRuntime, options: &NodeOptions<'_>) -> Result<(), Status> {
-    let (fault, advice) = match (options.store, options.is_volatile) {
-        (StoreChoice::None, false) => (
-            "a node needs a store",
-            "name one by --new or --store, or say --volatile for a trial: then a restart forgets what was acknowledged",
-        ),
-        (StoreChoice::New(_) | StoreChoice::Old(_), true) => (
-            "--volatile with a store",
-            "leave one of them out",
-        ),
-        _ => return Ok(()),
-    };
-    report(rt, fault);
-    hint(rt, Hints::Always, advice);
+// Refuses a store beside `--volatile`.
+fn refuse_both(rt: &HostRuntime, options: &NodeOptions<'_>) -> Result<(), Status> {
+    if !options.is_volatile || options.store.path().is_none() {
+        return Ok(());
+    }
+    report(rt, "--volatile with a store");
+    hint(rt, Hints::Always, "leave one of them out");
     Err(Status(2))
+}
+
+// The files of the node. It has either a store or the option `--volatile`, with which the file's folder doesn't count.
+fn files_of(
+    rt: &HostRuntime,
+    options: &NodeOptions<'_>,
+    system: &System,
+) -> Result<PartyFiles, Status> {
+    let named = NamedFiles {
+        system: options.system,
+        key: options.key,
+        store: options.store,
+        journal: options.journal,
+        folder: if options.is_volatile {
+            FolderUse::Ignores
+        } else {
+            FolderUse::Makes
+        },
+    };
+    let files = PartyFiles::find(rt, system, Owner::Node(options.number), &named)?;
+    if options.is_volatile || files.store().path().is_some() {
+        Ok(files)
+    } else {
+        Err(report_no_store(rt))
+    }
+}
+
+fn report_no_store(rt: &HostRuntime) -> Status {
+    report(rt, "a node needs a store");
+    hint(
+        rt,
+        Hints::Always,
+        "name one by --new or --store, or the folder of all stores in the system's file: [store] with folder = \"data\". Or say \
+        --volatile for a trial: then a restart forgets what was acknowledged",
+    );
+    Status(2)
 }
 
 // The node's journal, if it writes one, and the name of its store, if that is a file.
@@ -87,7 +125,7 @@ fn beside(
     rt: &HostRuntime,
     config: &NodeConfig<'_, '_>,
 ) -> Result<(Option<JournalFile>, Option<StoreName>), End> {
-    let journal = open_journal(rt, config.journal, Owner::Node(config.place.number))?;
+    let journal = config.open_journal(rt)?;
     let name = store_name(rt.alloc(), config.store)?;
     Ok((journal, name))
 }

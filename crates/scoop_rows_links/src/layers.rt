@@ -3,7 +3,7 @@
 ghost use Rattle.std.specs.Prelude.{[], None};
 
 use scoop_link::{Datagram, Link, LinkFault, PacedLink, Party, ScriptLink, SetsAddress, TapeLink};
-use scoop_links::{ClientLink, ClientNotes};
+use scoop_links::{ClientLink, ClientNotes, WaitPlace};
 use scoop_message::OutOfMemory;
 use scoop_message::limits::BUFFER_LEN;
 use scoop_node_link::NodeLink;
@@ -145,6 +145,8 @@ pub(crate) fn client_of<'a>(
     let notes = ClientNotes {
         waits: Paper::of(notes, u64::MAX),
         faults: Paper::of(notes, u64::MAX),
+        freeing: String::from_str(alloc, "scoop client C --cut")?,
+        places: WaitPlace::all(alloc, &system)?,
     };
     ClientLink::new(heap, Placed { tape }, Steps::of(50_000), notes, &system, 0)
 }

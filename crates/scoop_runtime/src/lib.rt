@@ -20,7 +20,7 @@
 //! let ended = node_run(rt, alloc, &plan, keeper, &mut link, &mut around);
 //! // a client of it, whose commands are these lines
 //! let plan = ClientPlan::new(system, place, TURNS, ClientMode::Script, is_strict).ok()?;
-//! let notes = ClientNotes { waits, faults };
+//! let notes = ClientNotes { waits, faults, freeing, places };
 //! let mut link = ClientLink::new(alloc, link, clock, notes, system, seed)?;
 //! let mut record = ClientRecord { store, journal };
 //! let mut console = Console { lines, output, notes, pause: Backoff::new(rt, client) };
@@ -56,7 +56,7 @@ pub use objects::{Native, Objects, Tables};
 pub use plan::{ClientMode, ClientPlan, NodePlan};
 pub use program::{ClientProgram, ProgramEnd, ProgramRun, program_run};
 pub use scoop_driver::Interrupt;
-pub use scoop_links::{ClientLink, ClientNotes};
+pub use scoop_links::{ClientLink, ClientNotes, WaitPlace};
 pub use scoop_texts::{
     About, ClientStop, FileFault, MAX_EXECUTORS, MIN_HISTORY, OutOfRange, Progress, Reply,
     RuntimeError, Unended, check_script, print_reply,

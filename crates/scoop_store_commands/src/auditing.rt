@@ -9,7 +9,7 @@ use scoop_command_line::AuditOptions;
 use scoop_errors::PartyError;
 use scoop_lines::decimal_u32;
 use scoop_message::{Block, ClientId, OutOfMemory};
-use scoop_opening::{read_system, report_plainly};
+use scoop_opening::{journals_in, read_system, report_plainly};
 use scoop_report::{Hints, Status, hint, hint_of_file, report};
 use scoop_runtime::RuntimeError;
 use scoop_system::System;
@@ -261,11 +261,32 @@ fn report_unwritten(rt: &HostRuntime, path: &str) -> Status {
     Status(UNREAD)
 }
 
-/// Audits the run that the journals tell, and prints its explanation.
+/// Audits the run that the journals tell, and prints its explanation. If the options name no journals, they are those in the folder
+/// that the system's file names.
 pub fn explain(rt: &HostRuntime, options: &AuditOptions<'_>) -> Result<(), Status> {
     let system = read_system(rt, options.system)?;
-    let contents = read_journals(rt, options.journals)?;
-    explain_all(rt, &system, &contents, options)
+    if !options.journals.is_empty() {
+        return explain_files(rt, &system, options.journals, options);
+    }
+    let found = journals_in(rt, options.system, &system)?;
+    let mut paths = Vec::new(rt.alloc());
+    for path in &found {
+        if paths.push(path.as_str()).is_err() {
+            return Err(report_memory(rt));
+        }
+    }
+    explain_files(rt, &system, &paths, options)
+}
+
+// Audits the run that the journals in these files tell.
+fn explain_files(
+    rt: &HostRuntime,
+    system: &System,
+    paths: &[&str],
+    options: &AuditOptions<'_>,
+) -> Result<(), Status> {
+    let contents = read_journals(rt, paths)?;
+    explain_all(rt, system, &contents, paths, options)
 }
 
 // The bytes of the journals, each.
@@ -285,6 +306,7 @@ fn explain_all(
     rt: &HostRuntime,
     system: &System,
     contents: &[Vec<u8>],
+    paths: &[&str],
     options: &AuditOptions<'_>,
 ) -> Result<(), Status> {
     let Ok(journals) = journals_of(rt.alloc(), contents) else {
@@ -292,7 +314,7 @@ fn explain_all(
     };
     match audit(rt.alloc(), system, &journals, options.chart.is_some()) {
         Ok(run) => show_run(rt, system, &run, options),
-        Err(error) => Err(report_error(rt, options.journals, error)),
+        Err(error) => Err(report_error(rt, paths, error)),
     }
 }
 

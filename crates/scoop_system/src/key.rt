@@ -20,6 +20,9 @@ pub enum Key {
     System,
     Life,
     Handlers,
+    Store,
+    Folder,
+    Journals,
 }
 
 impl Key {
@@ -43,6 +46,9 @@ impl Key {
             Key::System => "system",
             Key::Life => "life",
             Key::Handlers => "handlers",
+            Key::Store => "store",
+            Key::Folder => "folder",
+            Key::Journals => "journals",
         }
     }
 

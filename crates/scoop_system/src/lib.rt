@@ -41,6 +41,7 @@ mod place;
 mod printing;
 mod reading;
 mod shown_word;
+mod store_folder;
 mod system;
 mod using;
 
@@ -58,4 +59,5 @@ pub use phrase::{Form, Phrase, Shown};
 pub use place::{ClientPlace, HandlerClass, HandlerPlace, NodePlace};
 pub use printing::{print_class, print_system};
 pub use shown_word::ShownWord;
+pub use store_folder::StoreFolder;
 pub use system::System;

@@ -73,6 +73,10 @@ pub enum Form {
     OtherFamily,
     /// The value of the key isn't a list.
     NotAList,
+    /// The value of the key isn't the path of a folder.
+    NotAFolder,
+    /// The value of the key is neither true nor false.
+    NotABool,
     /// The value in place of a table isn't a table.
     NoTable,
     /// The list at the key has more values than this.
@@ -178,6 +182,8 @@ impl Form {
             Form::NotAnAddress => " must be an IP address with a port from 1 to 65535",
             Form::AddressTwice | Form::HandlerTwice => " stands twice",
             Form::NotAList => " must be a list",
+            Form::NotAFolder => " must be the path of a folder, in quotes",
+            Form::NotABool => " must be true or false",
             Form::TooMany => ": more than ",
             Form::NameTwice => "\" is used twice",
             Form::LineWord => "\" is a word of client lines",

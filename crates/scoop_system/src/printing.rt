@@ -4,6 +4,7 @@ mod class;
 
 use crate::identity::Identity;
 use crate::place::{ClientPlace, HandlerPlace, NodePlace};
+use crate::store_folder::StoreFolder;
 use crate::system::System;
 pub use class::print_class;
 use std::io::Write;
@@ -11,11 +12,13 @@ use std::{fmt, io};
 
 /// Writes a system:
 /// - a line of its name and life if it has one of them;
+/// - a line of the folder of its stores if it has one;
 /// - a line for each node and for each of its handlers;
 /// - a line for each client;
 /// - a line for each class of its own and for each of the class's operations.
 pub fn print_system<W: Write>(system: &System, writer: &mut W) -> io::Result<()> {
     print_identity(system.identity(), writer)?;
+    print_store(system.store(), writer)?;
     for node in system.nodes() {
         print_node(node, system.handlers(), writer)?;
     }
@@ -42,6 +45,20 @@ fn print_identity<W: Write>(identity: Identity, writer: &mut W) -> io::Result<()
         value: identity.life,
     };
     writeln!(writer, "system{name}{life}")
+}
+
+// The folder of the stores, and whether it has journals.
+fn print_store<W: Write>(store: Option<&StoreFolder>, writer: &mut W) -> io::Result<()> {
+    let Some(store) = store else {
+        return Ok(());
+    };
+    let path = store.path();
+    let journals = if store.has_journals() {
+        " journals"
+    } else {
+        ""
+    };
+    writeln!(writer, "store {path}{journals}")
 }
 
 // A node with its addresses, its status address if it has one, and its handlers.

@@ -20,12 +20,13 @@ use crate::class::OwnClass;
 use crate::fault::SystemError;
 use crate::identity::Identity;
 use crate::key::Key;
-use crate::phrase::Phrase;
+use crate::phrase::{Form, Phrase, Shown};
 use crate::place::{ClientPlace, HandlerPlace, NodePlace};
+use crate::store_folder::StoreFolder;
 use crate::system::System;
 use class::read_classes;
 use found::Found;
-use item::{Kind, number_at};
+use item::{Kind, needed, number_at};
 use party::{read_clients, read_handlers, read_nodes};
 use scoop_message::OutOfMemory;
 use std::alloc::Global;
@@ -68,12 +69,13 @@ fn read_parts(found: &mut Found<'_>) -> Result<System, OutOfMemory>
 {
     let alloc = found.alloc;
     let identity = read_identity(found);
+    let store = read_store(found)?;
     let mut classes = Vec::new(alloc);
     let mut nodes = Vec::new(alloc);
     let mut handlers = Vec::new(alloc);
     let mut clients = Vec::new(alloc);
     match read_lists(found, &mut classes, &mut nodes, &mut handlers, &mut clients) {
-        Ok(()) => Ok(System::new(identity, classes, nodes, handlers, clients)),
+        Ok(()) => Ok(System::new(identity, store, classes, nodes, handlers, clients)),
         Err(error) => Err(error),
     }
 }
@@ -108,6 +110,7 @@ fn read_identity(found: &mut Found<'_>) -> Identity
         &file,
         &[
             Key::System,
+            Key::Store,
             Key::Class,
             Key::Node,
             Key::Handler,
@@ -139,5 +142,43 @@ fn life_at(table: &Value) -> Result<Option<u32>, Phrase> {
     match number_at(table, Key::Life, 1, u64::from(u32::MAX)) {
         Ok(life) => Ok(Some(life as u32)),
         Err(wrong) => Err(wrong),
+    }
+}
+
+// The folder of the stores, if a file has a table of it.
+fn read_store(found: &mut Found<'_>) -> Result<Option<StoreFolder>, OutOfMemory> {
+    let file = found.file();
+    let Some(table) = file.value.get("store") else {
+        return Ok(None);
+    };
+    let item = found.item(table, Kind::Store, 0);
+    found.check_keys(&item, &[Key::Folder, Key::Journals]);
+    let folder = found.or_blank(&item, folder_at(table), "");
+    let has_journals = found.or_blank(&item, journals_at(table), false);
+    if !found.passes(&item, None) {
+        return Ok(None);
+    }
+    match StoreFolder::new(found.alloc, folder, has_journals) {
+        Ok(store) => Ok(Some(store)),
+        Err(error) => Err(error),
+    }
+}
+
+// The path of a folder that a table has.
+fn folder_at(table: &Value) -> Result<&str, Phrase> {
+    match needed(table, Key::Folder)?.as_str() {
+        Some(path) if !path.is_empty() => Ok(path),
+        _ => Err(Phrase::one(Form::NotAFolder, Shown::Key(Key::Folder))),
+    }
+}
+
+// Whether a table asks for journals.
+fn journals_at(table: &Value) -> Result<bool, Phrase> {
+    let Some(value) = table.get("journals") else {
+        return Ok(false);
+    };
+    match value.as_bool() {
+        Some(asks) => Ok(asks),
+        None => Err(Phrase::one(Form::NotABool, Shown::Key(Key::Journals))),
     }
 }

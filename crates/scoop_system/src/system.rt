@@ -11,16 +11,18 @@ use crate::identity::Identity;
 use crate::name::Name;
 use crate::operations::known_operation;
 use crate::place::{ClientPlace, HandlerClass, HandlerPlace, NodePlace};
+use crate::store_folder::StoreFolder;
 use scoop_message::{ClientId, HandlerId, OutOfMemory};
 use scoop_object::Class;
 use std::alloc::Global;
 use std::marker::Model;
 
 /// A system. Contracts see its name and life, and its classes, nodes, handlers and clients as lists, each in the order of
-/// the file.
+/// the file. They don't see the folder of its stores.
 #[derive(Drop)]
 pub struct System {
     identity: Identity,
+    store: Option<StoreFolder>,
     classes: Vec<OwnClass>,
     nodes: Vec<NodePlace>,
     handlers: Vec<HandlerPlace>,
@@ -39,6 +41,7 @@ impl System {
     // The system of these parts.
     pub(crate) fn new(
         identity: Identity,
+        store: Option<StoreFolder>,
         classes: Vec<OwnClass>,
         nodes: Vec<NodePlace>,
         handlers: Vec<HandlerPlace>,
@@ -48,6 +51,7 @@ impl System {
     {
         System {
             identity,
+            store,
             classes,
             nodes,
             handlers,
@@ -60,6 +64,22 @@ impl System {
         ensures { result ≡ self.now.identity }
     {
         self.identity
+    }
+
+    /// The folder of its stores, if the file names one.
+    pub fn store(&self) -> Option<&StoreFolder> {
+        match &self.store {
+            Some(store) => Some(store),
+            None => None,
+        }
+    }
+
+    /// Whether that folder has the journals too.
+    pub fn has_journals(&self) -> bool {
+        match &self.store {
+            Some(store) => store.has_journals(),
+            None => false,
+        }
     }
 
     /// The classes of the system's own.

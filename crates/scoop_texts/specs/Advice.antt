@@ -104,8 +104,8 @@ advice_text (NotWelcomed h) =
     codes "it has not welcomed this client. Check that its node runs and that all programs have the same file and key. If this client ran before with another store, resume that one and never this one. Else raise --turns"
 advice_text (NotAnswered h) =
     codes "it has not answered, or another client's block is in front. Check that its node runs. If a client was killed inside a block, run it with --cut. Else raise --turns"
-advice_text (Refused number) = codes "the last answer in the output says why; without --strict the client goes on after it"
-advice_text (SomeRefused first count) = codes "the answers in the output say why; with --strict the client ends at the first of them"
+advice_text (Refused number) = codes "the last answer in the output says why; with --lenient, or on standard input without --strict, the client goes on after it"
+advice_text (SomeRefused first count) = codes "the answers in the output say why; with --strict, or --lines without --lenient, the client ends at the first of them"
 advice_text (Ended error) = party_advice error
 
 -- for a node or a client with a store

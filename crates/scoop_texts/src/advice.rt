@@ -114,10 +114,10 @@ impl RuntimeError {
                 inside a block, run it with --cut. Else raise --turns"
             }
             RuntimeError::Refused(_) => {
-                "the last answer in the output says why; without --strict the client goes on after it"
+                "the last answer in the output says why; with --lenient, or on standard input without --strict, the client goes on after it"
             }
             RuntimeError::SomeRefused(..) => {
-                "the answers in the output say why; with --strict the client ends at the first of them"
+                "the answers in the output say why; with --strict, or --lines without --lenient, the client ends at the first of them"
             }
             RuntimeError::Ended(error) => party_advice(error),
         }

@@ -5,7 +5,7 @@ use scoop_keeper::{Keeper, SharedKeeper};
 use scoop_link::{Link, UdpLink};
 use scoop_message::OutOfMemory;
 use scoop_node_command::{Host, HostKeeper, HostLink, NodeRun, Task};
-use scoop_opening::{node_end, report_plainly};
+use scoop_opening::{node_end, report_plainly, with_journal};
 use scoop_report::{Hints, Status, hint, report};
 use scoop_runtime::{Ending, Objects, RuntimeError, Tables};
 use std::alloc::Global;
@@ -62,8 +62,10 @@ where
         let keeper = match end {
             Some(Ok(keeper)) => Some(keeper.into_inner()),
             Some(Err(error)) => {
-                let end = node_end(host.name(), error);
-                ran.ended = ran.ended.and(Err(host.config().report(rt, end)));
+                let ended = Err(node_end(host.name(), error));
+                if let Err(end) = with_journal(host.journal(), ended) {
+                    ran.ended = ran.ended.and(Err(host.config().report(rt, end)));
+                }
                 None
             }
             None => None,

@@ -8,16 +8,17 @@ use scoop_command_line::{JournalChoice, StoreChoice, UpOptions};
 use scoop_etcd_place::begins_as_etcd;
 use scoop_etcd_stores::Fate;
 use scoop_files::{FileError, FileMedium, FiledStore, StoreName, close_named, report_file};
-use scoop_journal::Owner;
+use scoop_journal::{JournalFile, Owner};
 use scoop_link::UdpLink;
 use scoop_message::{ClientId, OutOfMemory};
 use scoop_node_command::{Host, NodeConfig, Task};
 use scoop_opening::{
-    End, NodeKeeper, OpenStore, check_owner, choice_of, make_folder, node_keeper, open_client,
-    read_system, report_fault, report_plainly, report_range, store_in_node, store_path,
+    End, NodeKeeper, OpenStore, check_owner, choice_of, folder_of, journal_path, make_folder,
+    node_keeper, open_client, open_journal, read_system, refuse_etcd, report_fault, report_plainly,
+    report_range, store_in_node, store_path, with_journal,
 };
 use scoop_record::Store;
-use scoop_report::{Hints, Status, hint, report};
+use scoop_report::{Hints, Status, report};
 use scoop_runtime::{ClientPlan, FileFault, OutOfRange, RuntimeError, Serving, Tables};
 use scoop_system::{ClientPlace, System};
 use sqlite::Alter;
@@ -60,12 +61,7 @@ fn require_folder(rt: &HostRuntime, options: &UpOptions<'_>) -> Result<(), Statu
         _ => return Ok(()),
     }
     report(rt, "--dir takes a folder, and no etcd");
-    hint(
-        rt,
-        Hints::Always,
-        "run the nodes over an etcd by scoop node N --system FILE --new etcd://HOST:PORT/NAME",
-    );
-    Err(Status(2))
+    Err(refuse_etcd(rt))
 }
 
 // Reports that the system's file lacks the client that the options name, or any client.
@@ -94,7 +90,30 @@ fn plan_of<'a>(
     ClientPlan::new(system, *place, TURNS, input_mode(rt), is_strict)
 }
 
-// Runs the parties over stores in the folder of the options, or over memory alone.
+// The folder of the stores: that of the options, or that of the system's file. It is made if it is missing.
+fn folder_in(
+    rt: &HostRuntime,
+    options: &UpOptions<'_>,
+    system: &System,
+) -> Result<Option<String>, Status> {
+    let folder = match options.dir {
+        Some(dir) => match String::from_str(rt.alloc(), dir) {
+            Ok(dir) => Some(dir),
+            Err(_) => return Err(no_memory(rt)),
+        },
+        None => folder_of(rt, options.system, system)?,
+    };
+    match &folder {
+        Some(folder) => make_folder(rt, folder.as_str())?,
+        None => report(
+            rt,
+            "no --dir, and no [store] in the file: nothing is stored",
+        ),
+    }
+    Ok(folder)
+}
+
+// Runs the parties over stores in their folder, or over memory alone.
 fn run_in<T: Threads + Wait + Clock + Net + Sync>(
     rt: &HostRuntime,
     threads: &T,
@@ -103,38 +122,71 @@ fn run_in<T: Threads + Wait + Clock + Net + Sync>(
     system: &System,
     place: &ClientPlace,
 ) -> Result<(), Status> {
-    match options.dir {
-        Some(dir) => make_folder(rt, dir)?,
-        None => report(rt, "no --dir: nothing is stored"),
+    let folder = folder_in(rt, options, system)?;
+    let paths = paths_of(rt, system, place.client, folder.as_deref())?;
+    match plan_of(rt, system, place, options.is_strict) {
+        Ok(plan) => run_filed(rt, threads, options.system, serving, plan, &paths),
+        Err(range) => Err(report_range(rt, range)),
     }
-    let paths = paths_of(rt, system, place.client, options.dir)?;
-    let stores = choices_of(rt, &paths)?;
-    let names = names_of(rt, &paths)?;
-    let nodes = match nodes_of(rt, system, serving, &stores) {
+}
+
+// Runs the parties over the stores in these files. The client has this plan, and `file` is the system's.
+fn run_filed<'p, T: Threads + Wait + Clock + Net + Sync>(
+    rt: &HostRuntime,
+    threads: &T,
+    file: &'p str,
+    serving: Serving,
+    plan: ClientPlan<'_>,
+    paths: &'p Paths,
+) -> Result<(), Status> {
+    let names = names_of(rt, &paths.stores)?;
+    let stores = choices_of(rt, &paths.stores)?;
+    let nodes = match nodes_of(rt, plan.system(), serving, &stores, &paths.journals) {
         Ok(nodes) => nodes,
         Err(status) => return Err(status),
     };
-    match client_of(rt, system, place, options.is_strict, &stores) {
-        Ok(client) => {
-            let parties = Parties {
-                nodes: &nodes,
-                client: &client,
-                names: &names,
-            };
-            run_parties(rt, threads, &parties)
-        }
+    match client_of(rt, plan, file, &stores, &paths.journals) {
+        Ok(client) => run_journaled(rt, threads, &nodes, &client, &names),
         Err(status) => Err(status),
     }
 }
 
+// Opens the parties' journals, if they write any, and runs the parties with them.
+fn run_journaled<'s, 'o, T: Threads + Wait + Clock + Net + Sync>(
+    rt: &HostRuntime,
+    threads: &T,
+    nodes: &[NodeConfig<'s, 'o>],
+    client: &ClientConfig<'s, 'o>,
+    names: &[StoreName],
+) -> Result<(), Status> {
+    let mut journals = Vec::new(rt.alloc());
+    open_journals(rt, nodes, client, &mut journals)?;
+    let parties = Parties {
+        nodes,
+        client,
+        names,
+        journals: journals.as_slice(),
+    };
+    run_parties(rt, threads, &parties)
+}
+
 // ---- what is known before anything is opened
 
-// The nodes and the client, and the names of their stores in files, in this order. Without a folder there are no names.
+// The nodes and the client, and the names of their stores in files and their journals, in this order. Without a folder there are
+// none of these.
 #[derive(Clone, Copy)]
 struct Parties<'a, 's, 'o> {
     nodes: &'a [NodeConfig<'s, 'o>],
     client: &'a ClientConfig<'s, 'o>,
     names: &'a [StoreName],
+    journals: &'a [JournalFile],
+}
+
+// The files of the parties' stores and of their journals, the client's last.
+#[derive(Drop)]
+struct Paths {
+    stores: Vec<String>,
+    journals: Vec<String>,
 }
 
 impl<'a, 's, 'o> Parties<'a, 's, 'o> {
@@ -150,6 +202,11 @@ impl<'a, 's, 'o> Parties<'a, 's, 'o> {
     fn client_name(&self) -> Option<&'a StoreName> {
         self.names.last()
     }
+
+    // The client's journal, if it writes one.
+    fn client_journal(&self) -> Option<&'a JournalFile> {
+        self.journals.last()
+    }
 }
 
 fn no_memory(rt: &HostRuntime) -> Status {
@@ -164,22 +221,49 @@ fn put<T: Drop>(rt: &HostRuntime, list: &mut Vec<T>, it: T) -> Result<(), Status
     }
 }
 
-// The files of the parties' stores in the folder, the client's last. None without a folder.
+// The parties' files in the folder; no journals if the system's file doesn't ask for them. None without a folder.
 fn paths_of(
     rt: &HostRuntime,
     system: &System,
     client: ClientId,
     dir: Option<&str>,
-) -> Result<Vec<String>, Status> {
-    let mut paths = Vec::new(rt.alloc());
+) -> Result<Paths, Status> {
+    let mut paths = Paths {
+        stores: Vec::new(rt.alloc()),
+        journals: Vec::new(rt.alloc()),
+    };
     let Some(dir) = dir else {
         return Ok(paths);
     };
     for place in system.nodes() {
-        put(rt, &mut paths, store_path(rt, dir, "node", place.number)?)?;
+        add_paths(rt, system, dir, Owner::Node(place.number), &mut paths)?;
     }
-    put(rt, &mut paths, store_path(rt, dir, "client", client.0)?)?;
+    add_paths(rt, system, dir, Owner::Client(client), &mut paths)?;
     Ok(paths)
+}
+
+// Adds the files of this party.
+fn add_paths(
+    rt: &HostRuntime,
+    system: &System,
+    dir: &str,
+    owner: Owner,
+    paths: &mut Paths,
+) -> Result<(), Status> {
+    put(rt, &mut paths.stores, store_path(rt, dir, owner)?)?;
+    if system.has_journals() {
+        put(rt, &mut paths.journals, journal_path(rt, dir, owner)?)?;
+    }
+    Ok(())
+}
+
+// The journal in this file, if there is one.
+fn journal_in(path: Option<&String>) -> JournalChoice<'_> {
+    let path = match path {
+        Some(path) => Some(path.as_str()),
+        None => None,
+    };
+    JournalChoice { path, syncs: false }
 }
 
 // The stores in these files; new ones where there is no file.
@@ -202,18 +286,20 @@ fn names_of(rt: &HostRuntime, paths: &[String]) -> Result<Vec<StoreName>, Status
     Ok(names)
 }
 
-// The nodes of the system over these stores. Refuses a store of another owner.
+// The nodes of the system over these stores, with these journals. Refuses a store of another owner.
 fn nodes_of<'s, 'o>(
     rt: &HostRuntime,
     system: &'s System,
     serving: Serving,
     stores: &[StoreChoice<'o>],
+    journals: &'o [String],
 ) -> Result<Vec<NodeConfig<'s, 'o>>, Status> {
     let mut nodes = Vec::new(rt.alloc());
     for (at, place) in system.nodes().iter().enumerate() {
         let store = stores.get(at).copied().unwrap_or(StoreChoice::None);
         check_owner(rt, store, system, Owner::Node(place.number))?;
-        match NodeConfig::plain(rt, system, *place, serving, store) {
+        let journal = journal_in(journals.get(at));
+        match NodeConfig::plain(rt, system, *place, serving, store, journal) {
             Ok(config) => put(rt, &mut nodes, config)?,
             Err(status) => return Err(status),
         }
@@ -221,32 +307,51 @@ fn nodes_of<'s, 'o>(
     Ok(nodes)
 }
 
-// The client over the last of these stores.
+// The client of this plan over the last of these stores, with the last of these journals.
 fn client_of<'s, 'o>(
     rt: &HostRuntime,
-    system: &'s System,
-    place: &ClientPlace,
-    is_strict: bool,
+    plan: ClientPlan<'s>,
+    file: &'o str,
     stores: &[StoreChoice<'o>],
+    journals: &'o [String],
 ) -> Result<ClientConfig<'s, 'o>, Status> {
     let store = stores.last().copied().unwrap_or(StoreChoice::None);
-    check_owner(rt, store, system, Owner::Client(place.client))?;
-    match plan_of(rt, system, place, is_strict) {
-        Ok(plan) => Ok(ClientConfig {
-            plan,
-            store,
-            after: None,
-            journal: JournalChoice {
-                path: None,
-                syncs: false,
-            },
-            key: None,
-        }),
-        Err(range) => Err(report_range(rt, range)),
-    }
+    let owner = Owner::Client(plan.place().client);
+    check_owner(rt, store, plan.system(), owner)?;
+    Ok(ClientConfig {
+        plan,
+        store,
+        after: None,
+        journal: journal_in(journals.last()),
+        file,
+        key_file: None,
+        key: None,
+    })
 }
 
 // ---- opening
+
+// Opens the journals of the nodes, and then the client's.
+fn open_journals(
+    rt: &HostRuntime,
+    nodes: &[NodeConfig<'_, '_>],
+    client: &ClientConfig<'_, '_>,
+    journals: &mut Vec<JournalFile>,
+) -> Result<(), Status> {
+    for config in nodes {
+        match config.open_journal(rt) {
+            Ok(Some(journal)) => put(rt, journals, journal)?,
+            Ok(None) => {}
+            Err(end) => return Err(config.report(rt, end)),
+        }
+    }
+    let owner = Owner::Client(client.plan.place().client);
+    match open_journal(rt, client.journal, owner) {
+        Ok(Some(journal)) => put(rt, journals, journal),
+        Ok(None) => Ok(()),
+        Err(error) => Err(client.report(rt, End::from(error))),
+    }
+}
 
 // Opens the ports of the nodes.
 fn open_hosts<'p, 's, 'o, T: Net>(
@@ -258,7 +363,8 @@ fn open_hosts<'p, 's, 'o, T: Net>(
 ) -> Result<(), Status> {
     for (at, config) in parties.nodes.iter().enumerate() {
         let name = parties.node_names().get(at);
-        match Host::open(rt, net, config, Tables, None, name) {
+        let journal = parties.journals.get(at);
+        match Host::open(rt, net, config, Tables, journal, name) {
             Ok((host, link)) => {
                 put(rt, hosts, host)?;
                 put(rt, links, link)?;
@@ -328,6 +434,7 @@ fn run_parties<T: Threads + Wait + Clock + Net + Sync>(
         nodes: parties.nodes,
         client: parties.client,
         names: parties.names,
+        journals: parties.journals,
     };
     let left = run_over_all(rt, threads, &here, hosts.as_slice(), ports, stores);
     let Left { ran, ended, stores } = left;
@@ -431,14 +538,15 @@ impl<'a, 's, 'o, 'r, S: Alter + Drop, T: Net> Task<ClientEnd<S>> for Beside<'a, 
             link,
             store,
         } = self;
+        let journal = parties.client_journal();
         let papers = Papers {
             name: parties.client_name(),
-            journal: None,
+            journal,
         };
         let names = parties.node_names();
         let input = &mut Input { net, names };
         let (ran, store) = run_over(rt, parties.client, papers, link, store, input);
-        match ran {
+        match with_journal(journal, ran) {
             Ok(()) => (Ok(()), store),
             Err(end) => (Err(parties.client.report(rt, end)), store),
         }

@@ -15,6 +15,7 @@ use toml::Value;
 pub(super) enum Kind {
     File,
     System,
+    Store,
     Class,
     Operation,
     Node,
@@ -41,6 +42,7 @@ impl Kind {
     pub(super) fn key(self) -> Key {
         match self {
             Kind::File | Kind::System => Key::System,
+            Kind::Store => Key::Store,
             Kind::Class => Key::Class,
             Kind::Operation => Key::Operation,
             Kind::Node => Key::Node,
@@ -53,6 +55,7 @@ impl Kind {
     pub(super) fn header(self) -> &'static str {
         match self {
             Kind::File | Kind::System => "[system]",
+            Kind::Store => "[store]",
             Kind::Class => "[[class]]",
             Kind::Operation => "[[class.operation]]",
             Kind::Node => "[[node]]",
@@ -67,7 +70,7 @@ pub(super) fn place_of(value: &Value, kind: Kind, count: usize) -> Phrase {
     let key = Shown::Key(kind.key());
     let named = match kind {
         Kind::File => return Phrase::plain(Form::Whole),
-        Kind::System => return Phrase::one(Form::At, key),
+        Kind::System | Kind::Store => return Phrase::one(Form::At, key),
         Kind::Class => match text_name(value.get("name")) {
             Some(name) => return Phrase::one(Form::Class, Shown::Text(name)),
             None => None,
