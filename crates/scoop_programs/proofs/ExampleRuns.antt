@@ -9,6 +9,7 @@ use Rattle.scoop_handler.proofs.Once.{once_more}
 use Rattle.scoop_client.specs.Beginning.{greeting}
 use Rattle.scoop_keeper.specs.Keeper.{Missing, IsTheOne, Sets}
 use Rattle.scoop_keeper.specs.Memory.{Has, MemoryRecord, incarnation_at, memory_record}
+use Rattle.scoop_keeper.proofs.KeeperLemmas.{stays_same}
 use Rattle.scoop_book.specs.Reopening.{AllOpenAgain, OpensAgain}
 use Rattle.scoop_book.specs.Reopening as book
 use Rattle.scoop_book.specs.declared.event.Event.{Event}
@@ -35,8 +36,10 @@ use Rattle.scoop_runtime.specs.declared.plan.Member.{Member}
 use Rattle.scoop_texts.specs.declared.progress.ClientStop.{ClientStop}
 use Rattle.scoop_texts.specs.declared.progress.Unended.TheVariants.{Held}
 use Rattle.scoop_runtime.specs.NodeLives.{NodeRan}
-use Rattle.scoop_runtime.specs.ClientLives.{ClientRan, Lived}
-use Rattle.scoop_programs.specs.Programs.{ClientRun, ClientRuns, MayRun, NodeRuns}
+use Rattle.scoop_runtime.specs.ClientLives.{AreLives, ClientRan, Lived}
+use Rattle.scoop_runtime.specs.ClientLives.{ClientLife as Life}
+use Rattle.scoop_programs.specs.Programs.{MayRun}
+use Rattle.scoop_programs.specs.Runs.{ClientRun, ClientRuns, NodeReturned, NodeRuns, killed, returned, returns}
 use Rattle.scoop_programs.specs.Example.{ExampleRuns, always}
 use Rattle.scoop_programs.proofs.Standing.{IsFull}
 use Rattle.scoop_programs.proofs.Worlds.{are_a_world}
@@ -132,8 +135,11 @@ ran = record {
   kept = λ _. (record { has_stored = refl }, (record { has_stored = refl }, tt));
 }
 
-abbrev node_runs : NodeRuns Has always
-node_runs = record { number = 1; members = members; first = record { before = memory_record [] []; after = closing; ran = ran }; later = [] }
+ended : NodeReturned Has Has always members (memory_record [] [])
+ended = record { after = closing; ran = ran; outlasts = λ _. stays_same (Has closing) }
+
+abbrev node_runs : NodeRuns Has Has always
+node_runs = record { number = 1; members = members; first = record { before = memory_record [] []; ends = returned ended }; later = [] }
 
 -- ---- the client
 
@@ -166,16 +172,16 @@ next_can = runs.each_client.0.2.0
 abbrev Ran : MemoryRecord → MemoryRecord → ℕ → Type 0
 Ran old new inc = ClientRan (client 7) 1 known (incarnation_at old) (incarnation_at new) (always new) (Err (stop inc))
 
-ran_first : Ran (memory_record [] []) (at 1) 1
-ran_first = record {
-  lives = Lived (fresh 1) first_steps (incarnation_at (at 1)) ∷ [];
-  are = (
-    record { inc = 1; begins = refl; limit = omega arith; next = λ _. refl; stored = λ _. sets_first },
-    first_can,
-    λ _. record { each = λ c. refl },
-  );
-  by_end = record { later = []; first = record { fresh = fresh 1; steps = first_steps; stored = incarnation_at (at 1); are = refl }; few = omega arith };
-}
+-- the first life, until the client was killed
+abbrev lives_first : List Life
+lives_first = Lived (fresh 1) first_steps (incarnation_at (at 1)) ∷ []
+
+are_first : AreLives (client 7) 1 known (always (at 1)) (incarnation_at (memory_record [] [])) lives_first (incarnation_at (at 1))
+are_first = (
+  record { inc = 1; begins = refl; limit = omega arith; next = λ _. refl; stored = λ _. sets_first },
+  first_can,
+  λ _. record { each = λ c. refl },
+)
 
 ran_next : Ran (at 1) (at 2) 2
 ran_next = record {
@@ -192,10 +198,10 @@ abbrev Runs : Type 0
 Runs = ClientRun incarnation_at always (client 7) 1 known
 
 abbrev first_run : Runs
-first_run = record { before = memory_record [] []; after = at 1; result = Err (stop 1); ran = ran_first }
+first_run = record { before = memory_record [] []; after = at 1; ends = killed lives_first are_first }
 
 abbrev next_run : Runs
-next_run = record { before = at 1; after = at 2; result = Err (stop 2); ran = ran_next }
+next_run = record { before = at 1; after = at 2; ends = returns (Err (stop 2)) ran_next }
 
 abbrev client_runs : ClientRuns incarnation_at always
 client_runs = record { id = client 7; batch = 1; known = known; first = first_run; later = next_run ∷ [] }
@@ -204,14 +210,14 @@ client_runs = record { id = client 7; batch = 1; known = known; first = first_ru
 
 may : MayRun (node_runs ∷ []) (client_runs ∷ [])
 may = record {
-  apart = once_more (λ (n : NodeRuns Has always). n.number) [] node_runs none_twice tt;
+  apart = once_more (λ (n : NodeRuns Has Has always). n.number) [] node_runs none_twice tt;
   opens = two_cells_open;
-  each_node = (record { some = omega arith; missing = (missing 1, (missing 2, tt)); ready = tt; after = tt }, tt);
+  each_node = (record { some = omega arith; missing = (inl (missing 1), (inl (missing 2), tt)); ready = tt; after = tt }, tt);
   each_client = (record { honest = tt; after = (record { same = refl; honest = tt }, tt) }, tt);
 }
 
 pub example : ExampleRuns
-unfolding ran ran_first ran_next
+unfolding ran ended ran_next are_first
 example = record {
   nodes = node_runs ∷ [];
   clients = client_runs ∷ [];

@@ -4,16 +4,17 @@ use Rattle.scoop_keeper.specs.Memory.{Has, MemoryRecord, incarnation_at}
 use Rattle.scoop_weave.specs.Example.{node, order, party}
 use Rattle.scoop_weave.specs.Lives.{newcomers_of, placements_of, system_of}
 use Rattle.scoop_weave.specs.Weave.{IsWorld}
-use Rattle.scoop_programs.specs.Programs.{ClientRuns, MayRun, NodeRuns, lives_of_clients, lives_of_nodes}
+use Rattle.scoop_programs.specs.Programs.{MayRun, lives_of_clients, lives_of_nodes}
+use Rattle.scoop_programs.specs.Runs.{ClientRuns, NodeRuns}
 
 -- a keeper in memory is always honest
 abbrev pub always : MemoryRecord → Type 0
 always k = Unit {0}
 
--- A node that opens twice in one run, and a client that runs twice, are runs as they are supposed. They had the lives of the
+-- A node that opens twice in one run, and a client that is killed and runs again, are runs as they are supposed. They had the lives of the
 -- example, whose order is that of a world.
 pub record ExampleRuns : Type 0 where
-  pub nodes : List (NodeRuns Has always)
+  pub nodes : List (NodeRuns Has Has always)
   pub clients : List (ClientRuns incarnation_at always)
   pub may : MayRun nodes clients
   pub node_lives : lives_of_nodes nodes clients ≡ node ∷ []

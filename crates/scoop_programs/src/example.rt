@@ -2,7 +2,7 @@
 
 ghost use Rattle.scoop_programs.specs.Example.{ExampleRuns};
 
-/// A node whose book opens twice and a client that runs twice are such runs, and so a world: the premises of
+/// A node whose book opens twice and a client that is killed and runs again are such runs, and so a world: the premises of
 /// [`programs_are_a_world`](crate::programs_are_a_world) can be met. Their lives are those of `scoop_weave`'s example.
 pub fn example_may_run()
     ensures { ExampleRuns }
