@@ -46,13 +46,13 @@ use Rattle.scoop_programs.proofs.Worlds.{are_a_world}
 
 -- ---- the node
 
-abbrev member : ℕ → Member
+abbrev pub member : ℕ → Member
 member h = record { handler = handler h; class = cell; words = 0 ∷ [] }
 
-abbrev members : List Member
+abbrev pub members : List Member
 members = member 1 ∷ member 2 ∷ []
 
-abbrev words : HandlerId → List ℕ
+abbrev pub words : HandlerId → List ℕ
 words = words_in cells
 
 again : (s : LocalHandler) → IsFull s → OpensAgain s (reopened words s)
@@ -62,11 +62,11 @@ again s full = record {
   again = ap (λ o. local_handler (core_of s.core.class (opening_state (number_in s) (words (number_in s)) o) false) o) full;
 }
 
-all_again : (hs : List LocalHandler) → AllByRecursion IsFull hs → AllOpenAgain hs (map (reopened words) hs)
+pub all_again : (hs : List LocalHandler) → AllByRecursion IsFull hs → AllOpenAgain hs (map (reopened words) hs)
 all_again [] full = tt
 all_again (s ∷ hs) full = (again s full.0, all_again hs full.1)
 
-missing : (h : ℕ) → IsTheOne (Has (memory_record [] []) h) Missing
+pub missing : (h : ℕ) → IsTheOne (Has (memory_record [] []) h) Missing
 missing h = record { there = refl; only = λ v e. sym e }
 
 -- ---- events that can happen are a history that replays
@@ -90,7 +90,7 @@ moves e s can = record { tells = refl; after = refl }
 happens : (e : Event) (hs : List LocalHandler) → can_happen e hs ≡ true → Moves e (reply_to e hs) hs (after_event e hs)
 happens e hs can = grind (arith, option_map_or, gone_on, true≢false, moves)
 
-replays : (hs : List LocalHandler) (es : List Event) → all_happen hs es ≡ true → Replays hs (entries_by hs es) (handlers_by hs es)
+pub replays : (hs : List LocalHandler) (es : List Event) → all_happen hs es ≡ true → Replays hs (entries_by hs es) (handlers_by hs es)
 replays hs [] can = refl
 replays hs (e ∷ es) can =
     let both = and_parts (can_happen e hs) (all_happen (after_event e hs) es) can in
@@ -109,13 +109,13 @@ lives = record {
   );
 }
 
-none_twice : {A : Type 0} → NoRepeats {A = A} []
+pub none_twice : {A : Type 0} → NoRepeats {A = A} []
 none_twice i j x e f = absurd (cc)
 
-apart : handler 1 ≡ handler 2 → ⊥
+pub apart : handler 1 ≡ handler 2 → ⊥
 apart e = let n : 1 ≡ 2 = ap (λ (h : HandlerId). h.0) e in omega (arith, n)
 
-abbrev closing : MemoryRecord
+abbrev pub closing : MemoryRecord
 closing = memory_record (map (λ (s : LocalHandler). ((number_in s).0, s.core.state)) node.now) []
 
 ran : NodeRan Has always members (memory_record [] []) closing
@@ -203,7 +203,7 @@ first_run = record { before = memory_record [] []; after = at 1; ends = killed l
 abbrev next_run : Runs
 next_run = record { before = at 1; after = at 2; ends = returns (Err (stop 2)) ran_next }
 
-abbrev client_runs : ClientRuns incarnation_at always
+abbrev pub client_runs : ClientRuns incarnation_at always
 client_runs = record { id = client 7; batch = 1; known = known; first = first_run; later = next_run ∷ [] }
 
 -- ---- both

@@ -1,11 +1,12 @@
 -- Runs over keepers in memory, whose lives are those of the computed example of running parties.
-use Rattle.std.specs.Prelude.{◌≡◌, List, [], ◌∷◌, map}
+use Rattle.std.specs.Prelude.{◌≡◌, ◌≢◌, ◌≤◌, ℕ, List, [], ◌∷◌, length, map}
 use Rattle.scoop_keeper.specs.Memory.{Has, MemoryRecord, incarnation_at}
 use Rattle.scoop_weave.specs.Example.{node, order, party}
+use Rattle.scoop_weave.specs.Moves.{LocalMove}
 use Rattle.scoop_weave.specs.Lives.{newcomers_of, placements_of, system_of}
 use Rattle.scoop_weave.specs.Weave.{IsWorld}
 use Rattle.scoop_programs.specs.Programs.{MayRun, lives_of_clients, lives_of_nodes}
-use Rattle.scoop_programs.specs.Runs.{ClientRuns, NodeRuns}
+use Rattle.scoop_programs.specs.Runs.{ClientRuns, NodeRuns, NodeStopped, lasting_part, stopped}
 
 -- a keeper in memory is always honest
 abbrev pub always : MemoryRecord → Type 0
@@ -21,3 +22,17 @@ pub record ExampleRuns : Type 0 where
   pub client_lives : lives_of_clients nodes clients ≡ party ∷ []
   pub world : IsWorld (placements_of (lives_of_nodes nodes clients)) (newcomers_of (lives_of_clients nodes clients)) (map (λ x. x.1) order)
       (system_of (lives_of_nodes nodes clients) (lives_of_clients nodes clients))
+
+-- A node was killed with an event that nothing outlasts, and ran once more. A client was killed, and ran once more. They are runs
+-- as they are supposed. An order of what they did is that of a world.
+pub record KilledRuns : Type 0 where
+  pub node : NodeRuns Has Has always
+  pub client : ClientRuns incarnation_at always
+  pub stop : NodeStopped Has Has always node.members node.first.before
+  pub is_stopped : node.first.ends ≡ stopped stop
+  pub loses : (lasting_part Has Has always node.members node.first.before stop).lost ≢ []
+  pub goes_on : 1 ≤ length node.later
+  pub may : MayRun (node ∷ []) (client ∷ [])
+  pub order : List (ℕ × LocalMove)
+  pub world : IsWorld (placements_of (lives_of_nodes (node ∷ []) (client ∷ []))) (newcomers_of (lives_of_clients (node ∷ []) (client ∷ [])))
+      (map (λ x. x.1) order) (system_of (lives_of_nodes (node ∷ []) (client ∷ [])) (lives_of_clients (node ∷ []) (client ∷ [])))
