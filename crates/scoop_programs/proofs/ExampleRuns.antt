@@ -183,7 +183,7 @@ are_first = (
   λ _. record { each = λ c. refl },
 )
 
-ran_next : Ran (at 1) (at 2) 2
+pub ran_next : Ran (at 1) (at 2) 2
 ran_next = record {
   lives = Lived (fresh 2) next_steps (incarnation_at (at 2)) ∷ [];
   are = (

@@ -29,7 +29,7 @@ use Rattle.scoop_runtime.specs.NodeLives.{NodeRan, RanTo}
 use Rattle.scoop_programs.specs.Example.{KilledRuns, always}
 use Rattle.scoop_programs.specs.Programs.{MayRun, lives_of_clients, lives_of_nodes}
 use Rattle.scoop_programs.specs.Runs.{NodeReturned, NodeRun, NodeRuns, NodeStopped, in_later, returned, stopped}
-use Rattle.scoop_programs.proofs.ExampleRuns.{all_again, apart, client_runs, closing, members, missing, none_twice, replays, words}
+use Rattle.scoop_programs.proofs.ExampleRuns.{all_again, apart, client_runs, closing, members, missing, none_twice, ran_next, replays, words}
 use Rattle.scoop_programs.proofs.Worlds.{are_a_world}
 
 -- ---- the run that is killed
@@ -110,8 +110,8 @@ opened_next = map (reopened words) node.now
 abbrev stands_last : List LocalHandler
 stands_last = map (reopened words) opened_next
 
-ran_next : NodeRan Has always members closing closing
-ran_next = record {
+ran_again : NodeRan Has always members closing closing
+ran_again = record {
   ready = closing;
   stand = stands_last;
   ran = record {
@@ -131,7 +131,7 @@ ran_next = record {
 }
 
 abbrev next_run : NodeRun Has Has always members
-next_run = record { before = closing; ends = returned (record { after = closing; ran = ran_next; outlasts = λ _. stays_same (Has closing) }) }
+next_run = record { before = closing; ends = returned (record { after = closing; ran = ran_again; outlasts = λ _. stays_same (Has closing) }) }
 
 abbrev killed_node : NodeRuns Has Has always
 killed_node = record { number = 1; members = members; first = record { before = empty; ends = stopped stop }; later = next_run ∷ [] }
@@ -139,7 +139,7 @@ killed_node = record { number = 1; members = members; first = record { before = 
 -- ---- both parties
 
 may : MayRun (killed_node ∷ []) (client_runs ∷ [])
-unfolding sound ran_first ran_next
+unfolding sound ran_first ran_again ran_next
 may = record {
   apart = once_more (λ (n : NodeRuns Has Has always). n.number) [] killed_node none_twice tt;
   opens = two_cells_open;
@@ -183,7 +183,7 @@ sent_on past [] ns sent more = more past
 sent_on past (m ∷ ms) ns sent more = (sent.0, sent_on (past ++ m ∷ []) ms ns sent.1 more)
 
 is_order : IsOrder (parties_of (lives_of_nodes (killed_node ∷ []) (client_runs ∷ [])) (lives_of_clients (killed_node ∷ []) (client_runs ∷ []))) whole_order
-unfolding sound ran_first ran_next
+unfolding sound ran_first ran_again ran_next
 is_order = record { whole = whole }
   where
     whole : (i : ℕ) → own i whole_order
@@ -200,7 +200,7 @@ is_sent = subst (HeardAfterSent []) (sym (map-append (λ (x : ℕ × LocalMove).
     (sent_on [] (map (λ x. x.1) order) (map (λ x. x.1) last_moves) runs.sent (λ before. (tt, (tt, tt))))
 
 pub killed_runs : KilledRuns
-unfolding sound ran_first ran_next
+unfolding sound ran_first ran_again ran_next
 killed_runs = record {
   node = killed_node;
   client = client_runs;
