@@ -202,13 +202,13 @@ is_sent = subst (HeardAfterSent []) (sym (map-append (λ (x : ℕ × LocalMove).
 pub killed_runs : KilledRuns
 unfolding sound ran_first ran_again ran_next
 killed_runs = record {
-  node = killed_node;
-  client = client_runs;
+  killed_node = killed_node;
+  killed_client = client_runs;
   stop = stop;
   is_stopped = refl;
   loses = λ e. cc;
   goes_on = omega arith;
   may = may;
-  order = whole_order;
+  moves = whole_order;
   world = (are_a_world (killed_node ∷ []) (client_runs ∷ []) may).world whole_order is_order is_sent;
 }

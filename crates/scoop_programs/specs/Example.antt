@@ -26,13 +26,14 @@ pub record ExampleRuns : Type 0 where
 -- A node was killed with an event that nothing outlasts, and ran once more. A client was killed, and ran once more. They are runs
 -- as they are supposed. An order of what they did is that of a world.
 pub record KilledRuns : Type 0 where
-  pub node : NodeRuns Has Has always
-  pub client : ClientRuns incarnation_at always
-  pub stop : NodeStopped Has Has always node.members node.first.before
-  pub is_stopped : node.first.ends ≡ stopped stop
-  pub loses : (lasting_part Has Has always node.members node.first.before stop).lost ≢ []
-  pub goes_on : 1 ≤ length node.later
-  pub may : MayRun (node ∷ []) (client ∷ [])
-  pub order : List (ℕ × LocalMove)
-  pub world : IsWorld (placements_of (lives_of_nodes (node ∷ []) (client ∷ []))) (newcomers_of (lives_of_clients (node ∷ []) (client ∷ [])))
-      (map (λ x. x.1) order) (system_of (lives_of_nodes (node ∷ []) (client ∷ [])) (lives_of_clients (node ∷ []) (client ∷ [])))
+  pub killed_node : NodeRuns Has Has always
+  pub killed_client : ClientRuns incarnation_at always
+  pub stop : NodeStopped Has Has always killed_node.members killed_node.first.before
+  pub is_stopped : killed_node.first.ends ≡ stopped stop
+  pub loses : (lasting_part Has Has always killed_node.members killed_node.first.before stop).lost ≢ []
+  pub goes_on : 1 ≤ length killed_node.later
+  pub may : MayRun (killed_node ∷ []) (killed_client ∷ [])
+  pub moves : List (ℕ × LocalMove)
+  pub world : IsWorld (placements_of (lives_of_nodes (killed_node ∷ []) (killed_client ∷ [])))
+      (newcomers_of (lives_of_clients (killed_node ∷ []) (killed_client ∷ []))) (map (λ x. x.1) moves)
+      (system_of (lives_of_nodes (killed_node ∷ []) (killed_client ∷ [])) (lives_of_clients (killed_node ∷ []) (killed_client ∷ [])))
