@@ -1,14 +1,12 @@
 -- A node that is killed and goes on, and a client that is killed and goes on, are runs. They have the events of the example. The node
 -- is killed in its second book, whose last event is lost, and opens twice in a further run, in which nothing happens.
-use Rattle.std.proofs.Common.{◌≡◌, ◌≢◌, inl, inr, ℕ, zero, suc, ◌==◌, Bool, true, false, List, [], ◌∷◌, ◌++◌, map, length, refl, sym, ap, subst, ◌∙◌, arith, append-nil}
-use Rattle.std.specs.Prelude.{⊤, if◌then◌else◌}
-use Rattle.std.specs.List.{AllByRecursion}
+use Rattle.std.proofs.Common.{◌≡◌, inl, inr, ℕ, zero, suc, ◌==◌, Bool, true, false, List, [], ◌∷◌, ◌++◌, map, length, refl, sym, ap, subst, ◌∙◌, arith, append-nil}
+use Rattle.std.specs.Prelude.{if◌then◌else◌}
 use Rattle.std.proofs.lemmas.List.{map-append}
 use Rattle.scoop_message.specs.Lists.{NoRepeats}
 use Rattle.scoop_handler.specs.Local.{LocalHandler, number_in}
 use Rattle.scoop_handler.proofs.Once.{once_more}
-use Rattle.scoop_keeper.specs.Keeper.{Stored, IsTheOne, stored_of}
-use Rattle.scoop_keeper.specs.Memory.{Has, MemoryRecord, incarnation_at, memory_record, state_at}
+use Rattle.scoop_keeper.specs.Memory.{Has, MemoryRecord, memory_record}
 use Rattle.scoop_keeper.proofs.KeeperLemmas.{stays_same}
 use Rattle.scoop_book.specs.declared.event.Event.{Event}
 use Rattle.scoop_book.specs.declared.event.Event.TheVariants.{Begin}

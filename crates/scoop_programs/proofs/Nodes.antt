@@ -1,5 +1,5 @@
 -- The runs of a node are a life: its handlers opened for the first time, and again as they were stored.
-use Rattle.std.proofs.Common.{◌≡◌, ◌⊎◌, ⊎_elim, inl, inr, ℕ, ◌≤◌, suc, false, List, [], ◌∷◌, ◌++◌, flat_map, slice_get, append-nil, append_assoc}
+use Rattle.std.proofs.Common.{◌≡◌, ◌⊎◌, ⊎_elim, inl, inr, ℕ, ◌+◌, ◌≤◌, suc, false, List, [], ◌∷◌, ◌++◌, flat_map, slice_get, append-nil, append_assoc}
 use Rattle.std.proofs.Common.{map, length, length-append, Option, Some, None, refl, sym, ap, subst, ◌∙◌, arith}
 use Rattle.std.specs.List.{AllByRecursion, AllZip}
 use Rattle.scoop_message.specs.declared.name.HandlerId.{HandlerId}
@@ -285,6 +285,8 @@ module _ {K : Type 0} (has outlasting : K → ℕ → Stored → Type 0) (is_hon
       }
   of_came b sound honest (in_later l) =
       let part = sound.durable honest in
+      let more_by_one : length (l.ran.more ++ part.done ∷ []) ≡ length l.ran.more + 1 = length-append l.ran.more (part.done ∷ []) in
+      let long : 1 ≤ length (l.ran.more ++ part.done ∷ []) = omega (arith, more_by_one) in
       record {
         apart = l.ran.apart;
         opens = l.ran.opens;
@@ -295,7 +297,7 @@ module _ {K : Type 0} (has outlasting : K → ℕ → Stored → Type 0) (is_hon
               (b.opening, part.handlers, l.again, part.replays, refl);
         };
         kept = λ h. part.stored;
-        some = inl (omega (arith, length-append l.ran.more (part.done ∷ [])));
+        some = inl long;
       }
 
   of_end : (e : NodeEnd has outlasting is_honest members keeper)
