@@ -71,15 +71,15 @@ missing h = record { there = refl; only = λ v e. sym e }
 
 -- ---- events that can happen are a history that replays
 
-abbrev can_at : Event → LocalHandler → Bool
+abbrev pub can_at : Event → LocalHandler → Bool
 can_at (Hear m) s = true
 can_at (Begin h) s = true
 can_at (Finish h) s = is_some (job_out s.core)
 
-abbrev can_happen : Event → List LocalHandler → Bool
+abbrev pub can_happen : Event → List LocalHandler → Bool
 can_happen e hs = option_map_or (can_at e) (handler_in (handler_at e) hs) false
 
-abbrev all_happen : List LocalHandler → List Event → Bool
+abbrev pub all_happen : List LocalHandler → List Event → Bool
 all_happen hs [] = true
 all_happen hs (e ∷ es) = can_happen e hs && all_happen (after_event e hs) es
 
@@ -144,7 +144,7 @@ node_runs = record { number = 1; members = members; first = record { before = me
 -- ---- the client
 
 -- a keeper that has this incarnation of the client
-abbrev at : ℕ → MemoryRecord
+abbrev pub at : ℕ → MemoryRecord
 at inc = memory_record [] ((7, inc) ∷ [])
 
 sets_first : Sets (incarnation_at (memory_record [] [])) (incarnation_at (at 1)) 7 1
@@ -157,10 +157,10 @@ abbrev known : List HandlerId
 known = handler 1 ∷ handler 2 ∷ []
 
 -- it stopped inside a block, which isn't cut
-abbrev stop : ℕ → ClientStop
+abbrev pub stop : ℕ → ClientStop
 stop inc = record { error = InsideBlock; progress = record { is_ready = true; answered = None; has_begun = true; unended = Held (block 7 inc 1) } }
 
-abbrev fresh : ℕ → ClientState
+abbrev pub fresh : ℕ → ClientState
 fresh inc = greeting (client 7) inc known 0 1
 
 first_can : AllCan (fresh 1) first_steps
@@ -169,7 +169,7 @@ first_can = runs.each_client.0.0
 next_can : AllCan (fresh 2) next_steps
 next_can = runs.each_client.0.2.0
 
-abbrev Ran : MemoryRecord → MemoryRecord → ℕ → Type 0
+abbrev pub Ran : MemoryRecord → MemoryRecord → ℕ → Type 0
 Ran old new inc = ClientRan (client 7) 1 known (incarnation_at old) (incarnation_at new) (always new) (Err (stop inc))
 
 -- the first life, until the client was killed
