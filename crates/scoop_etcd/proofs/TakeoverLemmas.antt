@@ -54,8 +54,8 @@ module _ (name : Bytes) (owner : Owner) (token : Bytes) where
 
   pub shut : (a c : Contents) → GoesOn name owner token a c → (Owns a (keys_with name owner token) → ⊥) → IsShut (keys_with name owner token) c
   shut a c goes taken = record {
-    states = λ alone old new revisions states commits is.
+    states = λ old new revisions states commits is.
         taken (stood_first a c goes (subst (λ met. Owns met (keys_with name owner token)) is commits.owns));
-    incarnations = λ alone old new client inc advances is.
+    incarnations = λ old new client inc advances is.
         taken (stood_first a c goes (subst (λ met. Owns met (keys_with name owner token)) is advances.owns));
   }

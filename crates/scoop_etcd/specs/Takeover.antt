@@ -25,8 +25,9 @@ pub data GoesOn (name : Bytes) (owner : Owner) (token : Bytes) : Contents → Co
   goes_on : (a b c : Contents) (other : Bytes) → other ≢ token → GoesOn name owner token a b → PutsBy (keys_with name owner other) b c
       → GoesOn name owner token a c
 
--- no transaction by which a store with these keys puts states or an incarnation meets the contents
+-- No transaction by which a store with these keys puts states or an incarnation meets the contents, whoever writes beside it: the
+-- store needn't be alone.
 pub record IsShut (keys : StoreKeys) (c : Contents) : Type 0 where
-  pub states : (IsAlone : Type 0) (old new : Contents) (revisions : List (ℕ × ℕ)) (states : List HandlerState)
-      → (commits : Commits IsAlone old new keys revisions states) → commits.met ≡ c → ⊥
-  pub incarnations : (IsAlone : Type 0) (old new : Contents) (client inc : ℕ) → (advances : Advances IsAlone old new keys client inc) → advances.met ≡ c → ⊥
+  pub states : (old new : Contents) (revisions : List (ℕ × ℕ)) (states : List HandlerState)
+      → (commits : Commits ⊥ old new keys revisions states) → commits.met ≡ c → ⊥
+  pub incarnations : (old new : Contents) (client inc : ℕ) → (advances : Advances ⊥ old new keys client inc) → advances.met ≡ c → ⊥

@@ -147,13 +147,13 @@ node_runs = record { number = 1; members = members; first = record { before = me
 abbrev pub at : ℕ → MemoryRecord
 at inc = memory_record [] ((7, inc) ∷ [])
 
-sets_first : Sets (incarnation_at (memory_record [] [])) (incarnation_at (at 1)) 7 1
+pub sets_first : Sets (incarnation_at (memory_record [] [])) (incarnation_at (at 1)) 7 1
 sets_first = record { there = refl; others = λ other apart. grind (arith, common_steps, apart) }
 
-sets_next : Sets (incarnation_at (at 1)) (incarnation_at (at 2)) 7 2
+pub sets_next : Sets (incarnation_at (at 1)) (incarnation_at (at 2)) 7 2
 sets_next = record { there = refl; others = λ other apart. grind (arith, common_steps, apart) }
 
-abbrev known : List HandlerId
+abbrev pub known : List HandlerId
 known = handler 1 ∷ handler 2 ∷ []
 
 -- it stopped inside a block, which isn't cut
@@ -163,10 +163,10 @@ stop inc = record { error = InsideBlock; progress = record { is_ready = true; an
 abbrev pub fresh : ℕ → ClientState
 fresh inc = greeting (client 7) inc known 0 1
 
-first_can : AllCan (fresh 1) first_steps
+pub first_can : AllCan (fresh 1) first_steps
 first_can = runs.each_client.0.0
 
-next_can : AllCan (fresh 2) next_steps
+pub next_can : AllCan (fresh 2) next_steps
 next_can = runs.each_client.0.2.0
 
 abbrev pub Ran : MemoryRecord → MemoryRecord → ℕ → Type 0
@@ -176,14 +176,14 @@ Ran old new inc = ClientRan (client 7) 1 known (incarnation_at old) (incarnation
 abbrev lives_first : List Life
 lives_first = Lived (fresh 1) first_steps (incarnation_at (at 1)) ∷ []
 
-are_first : AreLives (client 7) 1 known (always (at 1)) (incarnation_at (memory_record [] [])) lives_first (incarnation_at (at 1))
+pub are_first : AreLives (client 7) 1 known (always (at 1)) (incarnation_at (memory_record [] [])) lives_first (incarnation_at (at 1))
 are_first = (
   record { inc = 1; begins = refl; limit = omega arith; next = λ _. refl; stored = λ _. sets_first },
   first_can,
   λ _. record { each = λ c. refl },
 )
 
-pub ran_next : Ran (at 1) (at 2) 2
+unfoldable pub ran_next : Ran (at 1) (at 2) 2
 ran_next = record {
   lives = Lived (fresh 2) next_steps (incarnation_at (at 2)) ∷ [];
   are = (
