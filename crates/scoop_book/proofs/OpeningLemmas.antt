@@ -3,7 +3,7 @@
 -- first one. That carries the loop's invariant on: the handlers so far are open as the first keeper has them (`Opened`). At the
 -- end they have the caller's numbers, the keeper has each one's stored state, and the book is sound (`opened_book`).
 use Rattle.std.proofs.Common.{◌≡◌, ◌⊎◌, ⊎_elim, inl, inr, ℕ, Bool, zero, suc, List, [], ◌∷◌, ◌++◌, map, Option, Some, None, refl, sym, ap, ◌∙◌, subst, arith}
-use Rattle.std.specs.Prelude.{IfSome}
+use Rattle.std.specs.Prelude.{◌≢◌, IfSome}
 use Rattle.std.specs.List.{AllByRecursion, Any}
 use Rattle.std.proofs.lemmas.Slice.Zip.{all_zipped_more}
 use Rattle.scoop_message.specs.declared.name.HandlerId.{HandlerId}
@@ -99,6 +99,12 @@ module _ {B : Type 0} (words : B → List ℕ) (has now : ℕ → Stored → Typ
             stays h,
       )
 
+  -- of no handlers there is nothing to store
+  are_settled : (ps : List (Handed B)) (hs : List LocalHandler) → AllOpen words has honest ps hs → (hs ≢ [] → Stays has now) → honest
+      → AllByRecursion (HasStored now) hs
+  are_settled ps [] all stays h = tt
+  are_settled ps (k ∷ ks) all stays h = are_stored ps (k ∷ ks) all (stays (λ e. cc)) h
+
   all_had : (ps : List (Handed B)) (hs : List LocalHandler) → AllOpen words has honest ps hs → honest → AllByRecursion (IsAllStored has) hs
   all_had [] [] all h = tt
   all_had [] (k ∷ ks) all h = absurd all
@@ -110,7 +116,8 @@ module _ {B : Type 0} (words : B → List ℕ) (has now : ℕ → Stored → Typ
 opened_book : {B K : Type 0} (words : B → List ℕ) (has outlasting : K → ℕ → Stored → Type 0) (is_honest : K → Type 0) (k l : K) (ps : List (Handed B))
     (opening hs : List LocalHandler) (limit : ℕ) (failed : Bool)
     → AllOpen words (has k) (is_honest l) ps hs → opening ≡ hs → NoRepeats (numbers_of ps) → (is_honest l → Stays (has k) (has l))
-    → (is_honest l → Stays (has l) (outlasting l)) → (is_honest l → is_honest k) → IsBook has outlasting is_honest (book_kept opening hs [] limit failed l)
+    → (is_honest l → opening ≢ [] → Stays (has l) (outlasting l)) → (is_honest l → is_honest k)
+    → IsBook has outlasting is_honest (book_kept opening hs [] limit failed l)
 opened_book words has outlasting is_honest k l ps opening hs limit failed all same apart stays outlasts honest = record {
   replays = same;
   apart = subst NoRepeats (sym (numbers_are words (has k) (has l) (is_honest l) ps hs all)) apart;
@@ -122,7 +129,8 @@ opened_book words has outlasting is_honest k l ps opening hs limit failed all sa
     parts = refl;
     handlers = hs;
     replays = same;
-    stored = are_stored words (has k) (outlasting l) (is_honest l) ps hs all (stays_stays (has k) (has l) (outlasting l) (stays h) (outlasts h)) h;
+    stored = are_settled words (has k) (outlasting l) (is_honest l) ps hs all
+        (λ some. stays_stays (has k) (has l) (outlasting l) (stays h) (outlasts h (λ none. some (sym same ∙ none)))) h;
   };
   since = record {
     first = k;
@@ -142,8 +150,9 @@ module _ {K : Type 0} (has outlasting : K → ℕ → Stored → Type 0) (is_hon
 
   pub opened_book_of : {B : Type 0} (words : B → List ℕ) (ps : List (Handed B)) (opening hs : List LocalHandler) (limit : ℕ) (failed : Bool)
       (v : HandlersValue K) (es : List Entry) → v ≡ handlers_kept hs m → es ≡ [] → AllOpen words (has k) (is_honest l) ps hs → opening ≡ hs
-      → NoRepeats (numbers_of ps) → (is_honest l → Stays (has k) (has l)) → (is_honest m → Stays (has l) (has m)) → (is_honest m → Stays (has m) (outlasting m))
-      → (is_honest l → is_honest k) → IsBook has outlasting is_honest (book_kept opening v.handlers es limit failed v.keeper)
+      → NoRepeats (numbers_of ps) → (is_honest l → Stays (has k) (has l)) → (is_honest m → Stays (has l) (has m))
+      → (is_honest m → opening ≢ [] → Stays (has m) (outlasting m)) → (is_honest l → is_honest k)
+      → IsBook has outlasting is_honest (book_kept opening v.handlers es limit failed v.keeper)
   opened_book_of words ps opening hs limit failed v es is none all same apart before after outlasts honest =
       subst (λ (w : HandlersValue K). IsBook has outlasting is_honest (book_kept opening w.handlers es limit failed w.keeper)) (sym is)
       (subst (λ (xs : List Entry). IsBook has outlasting is_honest (book_kept opening hs xs limit failed m)) (sym none)
@@ -157,14 +166,22 @@ pub unloaded : {B : Type 0} (class : B → ClassTable) (has : ℕ → Stored →
 unloaded class has honest later back ps e may why =
     inr (record {
       may = may;
-      refused = ⊎_elim inl (λ (a : Any (λ p. IsLoadRefusal has honest p.0 p.1 e) ps). inr (inr
-          (a.0, a.1, a.2, a.3, refused_back has has honest later back (λ _. stays_same has) a.1.0 a.1.1 e a.4))) why;
+      refused = ⊎_elim inl (λ (a : Any (λ p. IsLoadRefusal has honest p.0 p.1 e) ps). inr
+          (a.0, a.1, a.2, a.3, refused_back has has honest later back (λ _. stays_same has) a.1.0 a.1.1 e a.4)) why;
     })
 
--- and why their states aren't committed
-pub unsettled : {B : Type 0} (class : B → ClassTable) (has : ℕ → Stored → Type 0) (honest : Type 0) (ps : List (Handed B)) (e : OpenError) → MayOpen class ps
-    → (e ≡ OutOfMemory) ⊎ (e ≡ Keeper keeper.Refused) → IsUnopened class has honest ps e
-unsettled class has honest ps e may why = inr (record { may = may; refused = ⊎_elim inl (λ (is : e ≡ Keeper keeper.Refused). inr (inl is)) why })
+-- and why their states aren't committed: some handler is there, and the medium of its state is why
+pub unsettled : {B : Type 0} (class : B → ClassTable) (words : B → List ℕ) (has : ℕ → Stored → Type 0) (before honest : Type 0) (ps : List (Handed B))
+    (hs os : List LocalHandler) (e : OpenError) → MayOpen class ps → AllOpen words has before ps hs → os ≡ hs
+    → (os ≢ []) × ((e ≡ OutOfMemory) ⊎ (e ≡ Keeper keeper.Refused)) → IsUnopened class has honest ps e
+unsettled class words has before honest [] [] os e may all same why = absurd (why.0 same)
+unsettled class words has before honest [] (h ∷ hs) os e may all same why = absurd all
+unsettled class words has before honest (p ∷ ps) hs os e may all same why =
+    inr (record {
+      may = may;
+      refused = ⊎_elim inl (λ (is : e ≡ Keeper keeper.Refused). inr (any_there (λ (q : Handed _). IsLoadRefusal has honest q.0 q.1 e) [] p ps
+          (subst (λ (x : OpenError). IsLoadRefusal has honest p.0 p.1 x) (sym is) tt))) why.1;
+    })
 
 -- ---- the loop over them
 

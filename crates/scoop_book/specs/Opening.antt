@@ -78,10 +78,10 @@ IsHandedWrongly class ps (Repeated h) = AllByRecursion (IsOfClass class) ps × I
 IsHandedWrongly class ps (Keeper e) = ⊥
 IsHandedWrongly class ps OutOfMemory = ⊥
 
--- why one of them doesn't open or its stored state isn't committed, if nothing else is wrong; out of memory is the last reason
+-- why one of them doesn't open, if nothing else is wrong; out of memory is the last reason
 pub record IsUnloaded {B : Type 0} (class : B → ClassTable) (has : ℕ → Stored → Type 0) (honest : Type 0) (ps : List (Handed B)) (e : OpenError) : Type 0 where
   pub may : MayOpen class ps
-  pub refused : (e ≡ OutOfMemory) ⊎ ((e ≡ Keeper keeper.Refused) ⊎ Any (λ p. IsLoadRefusal has honest p.0 p.1 e) ps)
+  pub refused : (e ≡ OutOfMemory) ⊎ Any (λ p. IsLoadRefusal has honest p.0 p.1 e) ps
 
 -- why no book opens
 abbrev pub IsUnopened : {B : Type 0} → (B → ClassTable) → (ℕ → Stored → Type 0) → Type 0 → List (Handed B) → OpenError → Type 0

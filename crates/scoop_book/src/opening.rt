@@ -1,6 +1,6 @@
 //! Handlers as they open with their stored states.
 
-ghost use Rattle.std.specs.Prelude.{◌≡◌, ◌≢◌, ◌⊎◌, ◌↔◌, IsTrue, false, None, Some, IfNone, IfSome, IfOk, IfErr, OnOk};
+ghost use Rattle.std.specs.Prelude.{◌≡◌, ◌≢◌, ◌⊎◌, ◌↔◌, IsTrue, false, [], None, Some, IfNone, IfSome, IfOk, IfErr, OnOk};
 ghost use Rattle.std.specs.List.{AllByRecursion, Any, list_any};
 ghost use Rattle.scoop_message.specs.Message.{same_handler};
 ghost use Rattle.scoop_object.specs.Class.{ClassTable};
@@ -290,14 +290,21 @@ pub(crate) fn open_all<B: Behaviour, A: Allocator + Copy, K: Keeper<A>>(
     Ok((locals, openings))
 }
 
-/// Makes what the keeper has of the handlers outlast this process, so that they open so again.
-pub(crate) fn settle<A: Allocator, K: Keeper<A>>(keeper: &mut K) -> Result<(), OpenError>
-    ensures outlasts { K.is_honest keeper.new → OnOk result (Stays (K.handlers keeper.new) (K.outlasting keeper.new)) }
-    ensures refused { IfErr result (λ e. (e ≡ OpenError.OutOfMemory) ⊎ (e ≡ OpenError.Keeper KeeperError.Refused)) }
+/// Makes what the keeper has of the handlers outlast this process, so that they open so again. Without a handler there
+/// is nothing to commit.
+pub(crate) fn settle<A: Allocator, K: Keeper<A>>(
+    keeper: &mut K,
+    openings: &[Opening<A>],
+) -> Result<(), OpenError>
+    ensures outlasts { K.is_honest keeper.new → OnOk result (openings.now ≢ [] → Stays (K.handlers keeper.new) (K.outlasting keeper.new)) }
+    ensures refused { IfErr result (λ e. (openings.now ≢ []) × ((e ≡ OpenError.OutOfMemory) ⊎ (e ≡ OpenError.Keeper KeeperError.Refused))) }
     ensures handlers { K.is_honest keeper.new → Stays (K.handlers keeper.old) (K.handlers keeper.new) }
     ensures incarnations { K.is_honest keeper.new → IsSame (K.incarnations keeper.old) (K.incarnations keeper.new) }
     ensures honest { K.is_honest keeper.new → K.is_honest keeper.old }
 {
+    if openings.is_empty() {
+        return Ok(());
+    }
     match keeper.commit() {
         Ok(()) => Ok(()),
         Err(KeeperError::OutOfMemory) => Err(OpenError::OutOfMemory),

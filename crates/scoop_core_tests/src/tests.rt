@@ -10,6 +10,7 @@ fn theorems_of_programs_are_called() {
     scoop_programs::systems_are_a_world::<MemoryKeeper, MemoryKeeper>();
     // and here are some that are computed
     scoop_programs::example_may_run();
+    scoop_programs::killed_may_run();
 }
 
 #[test]

@@ -39,13 +39,7 @@ module _ {B : Type 0} (class : B → ClassTable) (has : ℕ → Stored → Type 
   handed = (number, own, object) ∷ []
 
   loaded : (e : OpenError) → IsUnloaded class has honest handed e → (e ≡ OutOfMemory) ⊎ IsLoadRefusal has honest number own e
-  loaded e u = go u.refused
-    where
-      go : (e ≡ OutOfMemory) ⊎ ((e ≡ Keeper keeper.Refused) ⊎ Any (λ (p : Handed B). IsLoadRefusal has honest p.0 p.1 e) handed)
-          → (e ≡ OutOfMemory) ⊎ IsLoadRefusal has honest number own e
-      go (inl is) = inl is
-      go (inr (inl is)) = inr (subst (λ (x : OpenError). IsLoadRefusal has honest number own x) (sym is) tt)
-      go (inr (inr any)) = inr (any_one (λ (p : Handed B). IsLoadRefusal has honest p.0 p.1 e) (number, own, object) any)
+  loaded e u = elim u.refused [ inl is ↦ inl is | inr any ↦ inr (any_one (λ (p : Handed B). IsLoadRefusal has honest p.0 p.1 e) (number, own, object) any) ]
 
   same_class : (e : OpenError) → IsUnloaded class has honest handed e → class object ≡ own
   same_class e u = u.may.classes.0

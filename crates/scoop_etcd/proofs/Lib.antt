@@ -3,3 +3,4 @@ pub mod KeyLemmas
 pub mod IncarnationLemmas
 pub mod StateLemmas
 pub mod StoreLemmas
+mod TakeoverLemmas

@@ -5,3 +5,4 @@ pub mod Owning
 pub mod Incarnation
 pub mod States
 pub mod Store
+pub mod Takeover

@@ -35,6 +35,7 @@ mod opening;
 mod owning;
 mod packing;
 mod store;
+mod takeover;
 
 pub use etcd::{Etcd, EtcdError};
 pub use fault::StoreFault;
@@ -42,3 +43,4 @@ pub use keys::{Owner, client_key, handler_key, is_store_name, owner_key};
 pub use loading::state_of;
 pub use opening::OpenError;
 pub use store::{EtcdStore, MAX_WAITING};
+pub use takeover::takeover_stands;

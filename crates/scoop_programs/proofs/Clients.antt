@@ -20,8 +20,8 @@ use Rattle.scoop_weave.proofs.JoinedLives.{number_test}
 use Rattle.scoop_texts.specs.declared.progress.ClientStop.{ClientStop}
 use Rattle.scoop_runtime.specs.ClientLives.{AreLives, ClientRan, Lived, Unbegun}
 use Rattle.scoop_runtime.specs.ClientLives.{ClientLife as Life}
-use Rattle.scoop_programs.specs.Programs.{BeginAfter, ClientMayRun, ClientRun, ClientRuns, first_of, life_of_client}
-use Rattle.scoop_programs.specs.Programs.{lives_by, lives_in, more_of, now_after, steps_in}
+use Rattle.scoop_programs.specs.Programs.{BeginAfter, ClientMayRun, first_of, life_of_client, lives_in, more_of, now_after, steps_in}
+use Rattle.scoop_programs.specs.Runs.{ClientEnd, ClientRun, ClientRuns, cuts, killed, lives_by, lives_to, returns}
 use Rattle.scoop_programs.proofs.Keeping.{walk_same}
 
 -- ---- a client that has begun
@@ -108,17 +108,24 @@ ran_lives : (id : ClientId) (batch : ℕ) (known : List HandlerId) (old new : �
 ran_lives id batch known old new honest (Ok u) ran = ran.are
 ran_lives id batch known old new honest (Err stop) ran = ran.are
 
+module _ {K : Type 0} (incarnations : K → ℕ → Option ℕ) (is_honest : K → Type 0) (id : ClientId) (batch : ℕ) (known : List HandlerId) (before after : K) where
+  end_lives : (e : ClientEnd incarnations is_honest id batch known before after)
+      → AreLives id batch known (is_honest after) (incarnations before) (lives_to incarnations is_honest id batch known before after e) (incarnations after)
+  end_lives (returns result ran) = ran_lives id batch known (incarnations before) (incarnations after) (is_honest after) result ran
+  end_lives (cuts once) = once.are
+  end_lives (killed lives are) = are
+
 module _ {K : Type 0} {incarnations : K → ℕ → Option ℕ} {is_honest : K → Type 0} where
   runs_follow : (id : ClientId) (batch : ℕ) (known : List HandlerId) (r : ClientRun incarnations is_honest id batch known)
       (later : List (ClientRun incarnations is_honest id batch known)) → is_honest r.after → BeginAfter r later
       → Follow id batch known (stored_at id batch known (incarnations r.before)) (lives_in r ++ flat_map lives_in later)
   runs_follow id batch known r [] honest after =
       follow id batch known (is_honest r.after) honest (incarnations r.before) (incarnations r.after) (lives_in r) []
-      (ran_lives id batch known (incarnations r.before) (incarnations r.after) (is_honest r.after) r.result r.ran) tt
+      (end_lives incarnations is_honest id batch known r.before r.after r.ends) tt
   runs_follow id batch known r (s ∷ later) honest after =
       let rest : List Life = lives_in s ++ flat_map lives_in later in
       follow id batch known (is_honest r.after) honest (incarnations r.before) (incarnations r.after) (lives_in r) rest
-      (ran_lives id batch known (incarnations r.before) (incarnations r.after) (is_honest r.after) r.result r.ran)
+      (end_lives incarnations is_honest id batch known r.before r.after r.ends)
       (subst (λ (o : Option ℕ). Follow id batch known (unwrap_or o 0) rest) after.0.same (runs_follow id batch known s later after.0.honest after.1))
 
   pub is_client_life : (c : ClientRuns incarnations is_honest) → ClientMayRun c → IsClientLife (life_of_client c)

@@ -21,7 +21,8 @@ use Rattle.scoop_audit.specs.Parties.{MayRun as FileMayRun}
 use Rattle.scoop_audit.specs.Told.{placements_on}
 use Rattle.scoop_runtime.specs.declared.plan.Member.{Member}
 use Rattle.scoop_runtime.specs.Members.{IsMemberOf}
-use Rattle.scoop_programs.specs.Programs.{AreAWorld, ClientMayRun, ClientRuns, NodeMayRun, NodeRuns, newcomer_of, newcomers_in, placed_at, placements_in}
+use Rattle.scoop_programs.specs.Programs.{AreAWorld, ClientMayRun, NodeMayRun, newcomer_of, newcomers_in, placed_at, placements_in}
+use Rattle.scoop_programs.specs.Runs.{ClientRuns, NodeRuns}
 use Rattle.scoop_programs.specs.Files.{AreOf, IsClientOf, IsNodeOf}
 use Rattle.scoop_programs.proofs.Worlds.{are_a_world}
 
@@ -42,11 +43,11 @@ members_placed s n (h ∷ hs) [] all = absurd all
 
 -- ---- all nodes
 
-module _ {K : Type 0} {has : K → ℕ → Stored → Type 0} {is_honest : K → Type 0} where
-  abbrev placed : List (NodeRuns has is_honest) → List Placement
-  placed nodes = flat_map (λ (n : NodeRuns has is_honest). map (placed_at n.number) n.members) nodes
+module _ {K : Type 0} {has outlasting : K → ℕ → Stored → Type 0} {is_honest : K → Type 0} where
+  abbrev placed : List (NodeRuns has outlasting is_honest) → List Placement
+  placed nodes = flat_map (λ (n : NodeRuns has outlasting is_honest). map (placed_at n.number) n.members) nodes
 
-  nodes_placed : (s : Plan) (places : List NodePlace) (nodes : List (NodeRuns has is_honest)) → AllZip (IsNodeOf s) places nodes
+  nodes_placed : (s : Plan) (places : List NodePlace) (nodes : List (NodeRuns has outlasting is_honest)) → AllZip (IsNodeOf s) places nodes
       → flat_map (λ (n : NodePlace). placements_on n.number (placed_on s n.number)) places ≡ placed nodes
   nodes_placed s [] [] all = refl
   nodes_placed s (p ∷ places) (n ∷ nodes) all =
@@ -56,29 +57,29 @@ module _ {K : Type 0} {has : K → ℕ → Stored → Type 0} {is_honest : K →
   nodes_placed s [] (n ∷ nodes) all = absurd all
   nodes_placed s (p ∷ places) [] all = absurd all
 
-  nodes_numbered : (s : Plan) (places : List NodePlace) (nodes : List (NodeRuns has is_honest)) → AllZip (IsNodeOf s) places nodes
-      → map (λ (n : NodePlace). n.number) places ≡ map (λ (n : NodeRuns has is_honest). n.number) nodes
+  nodes_numbered : (s : Plan) (places : List NodePlace) (nodes : List (NodeRuns has outlasting is_honest)) → AllZip (IsNodeOf s) places nodes
+      → map (λ (n : NodePlace). n.number) places ≡ map (λ (n : NodeRuns has outlasting is_honest). n.number) nodes
   nodes_numbered s [] [] all = refl
   nodes_numbered s (p ∷ places) (n ∷ nodes) all =
       ap (λ x. x ∷ map (λ (n : NodePlace). n.number) places) (sym all.0.number) ∙ ap (λ xs. n.number ∷ xs) (nodes_numbered s places nodes all.1)
   nodes_numbered s [] (n ∷ nodes) all = absurd all
   nodes_numbered s (p ∷ places) [] all = absurd all
 
-  nodes_may : (s : Plan) (places : List NodePlace) (nodes : List (NodeRuns has is_honest)) → AllZip (IsNodeOf s) places nodes → AllByRecursion NodeMayRun nodes
+  nodes_may : (s : Plan) (places : List NodePlace) (nodes : List (NodeRuns has outlasting is_honest)) → AllZip (IsNodeOf s) places nodes → AllByRecursion NodeMayRun nodes
   nodes_may s [] [] all = tt
   nodes_may s (p ∷ places) (n ∷ nodes) all = (all.0.may, nodes_may s places nodes all.1)
   nodes_may s [] (n ∷ nodes) all = absurd all
   nodes_may s (p ∷ places) [] all = absurd all
 
-  lives_placed : {J : Type 0} {incarnations : J → ℕ → Option ℕ} {is_faithful : J → Type 0} (nodes : List (NodeRuns has is_honest))
+  lives_placed : {J : Type 0} {incarnations : J → ℕ → Option ℕ} {is_faithful : J → Type 0} (nodes : List (NodeRuns has outlasting is_honest))
       (clients : List (ClientRuns incarnations is_faithful)) → placed nodes ≡ placements_in nodes clients
   lives_placed [] clients = refl
   lives_placed (n ∷ nodes) clients = ap (λ ps. map (placed_at n.number) n.members ++ ps) (lives_placed nodes clients)
 
 -- ---- all clients
 
-module _ {K : Type 0} {has : K → ℕ → Stored → Type 0} {is_honest : K → Type 0} {J : Type 0} {incarnations : J → ℕ → Option ℕ} {is_faithful : J → Type 0}
-    (s : Plan) (nodes : List (NodeRuns has is_honest)) where
+module _ {K : Type 0} {has outlasting : K → ℕ → Stored → Type 0} {is_honest : K → Type 0} {J : Type 0} {incarnations : J → ℕ → Option ℕ} {is_faithful : J → Type 0}
+    (s : Plan) (nodes : List (NodeRuns has outlasting is_honest)) where
   clients_join : (places : List ClientPlace) (clients : List (ClientRuns incarnations is_faithful)) → AllZip (IsClientOf s) places clients
       → map (joins_in s) places ≡ newcomers_in nodes clients
   clients_join [] [] all = refl

@@ -5,3 +5,4 @@ mod Nodes
 mod Worlds
 mod Files
 mod ExampleRuns
+mod KilledRuns

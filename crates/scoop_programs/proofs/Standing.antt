@@ -146,3 +146,15 @@ module _ (Kind : HandlerId → ClassTable → Type 0) where
       (replayed IsKind moved_kind opening first last replays kinds) in
       let rest = often r.1 more now r.4 (record { numbers = refl; full = here.full; kinds = here.kinds }) in
       record { numbers = rest.numbers ∙ (here.numbers ∙ replayed_numbers opening first last replays); full = rest.full; kinds = rest.kinds }
+
+  -- handlers whose states were stored as they opened
+  pub stand_full : (opening : List LocalHandler) (first : List Entry) (more : List (List Entry)) (last now : List LocalHandler) → Replays opening first last
+      → Reopens last more now → AllByRecursion IsFull opening → AllByRecursion IsKind opening → Stands opening now
+  stand_full opening first more last now replays r full kinds =
+      let rest = often last more now r
+      (record {
+        numbers = refl;
+        full = replayed IsFull moved_full opening first last replays full;
+        kinds = replayed IsKind moved_kind opening first last replays kinds;
+      }) in
+      record { numbers = rest.numbers ∙ replayed_numbers opening first last replays; full = rest.full; kinds = rest.kinds }

@@ -7,8 +7,8 @@ use Rattle.scoop_keeper.specs.Keeper.{Stored}
 use Rattle.scoop_model.specs.Step.{Placement}
 use Rattle.scoop_weave.specs.Lives.{IsClientLife, IsNodeLife, NodeLife, words_in}
 use Rattle.scoop_weave.proofs.JoinedLives.{is_a_world}
-use Rattle.scoop_programs.specs.Programs.{AreAWorld, ClientMayRun, ClientRuns, MayRun, NodeMayRun, NodeRuns, life_of_client, life_of_node}
-use Rattle.scoop_programs.specs.Programs.{placements_in}
+use Rattle.scoop_programs.specs.Programs.{AreAWorld, ClientMayRun, MayRun, NodeMayRun, life_of_client, life_of_node, placements_in}
+use Rattle.scoop_programs.specs.Runs.{ClientRuns, NodeRuns}
 use Rattle.scoop_programs.proofs.Clients.{is_client_life}
 use Rattle.scoop_programs.proofs.Nodes.{is_node_life}
 
@@ -17,14 +17,14 @@ all_of : {A B : Type 0} (f : A → B) (P : A → Type 0) (Q : B → Type 0) → 
 all_of f P Q each [] all = tt
 all_of f P Q each (x ∷ xs) all = (each x all.0, all_of f P Q each xs all.1)
 
-module _ {K : Type 0} {has : K → ℕ → Stored → Type 0} {is_honest : K → Type 0} where
-  numbers : (nodes : List (NodeRuns has is_honest))
-      → map (λ (l : NodeLife). l.number) (map life_of_node nodes) ≡ map (λ (n : NodeRuns has is_honest). n.number) nodes
+module _ {K : Type 0} {has outlasting : K → ℕ → Stored → Type 0} {is_honest : K → Type 0} where
+  numbers : (nodes : List (NodeRuns has outlasting is_honest))
+      → map (λ (l : NodeLife). l.number) (map life_of_node nodes) ≡ map (λ (n : NodeRuns has outlasting is_honest). n.number) nodes
   numbers [] = refl
   numbers (n ∷ nodes) = ap (λ xs. n.number ∷ xs) (numbers nodes)
 
-module _ {K : Type 0} {has : K → ℕ → Stored → Type 0} {is_honest : K → Type 0} {J : Type 0} {incarnations : J → ℕ → Option ℕ} {is_faithful : J → Type 0} where
-  pub are_a_world : (nodes : List (NodeRuns has is_honest)) (clients : List (ClientRuns incarnations is_faithful))
+module _ {K : Type 0} {has outlasting : K → ℕ → Stored → Type 0} {is_honest : K → Type 0} {J : Type 0} {incarnations : J → ℕ → Option ℕ} {is_faithful : J → Type 0} where
+  pub are_a_world : (nodes : List (NodeRuns has outlasting is_honest)) (clients : List (ClientRuns incarnations is_faithful))
       → MayRun nodes clients → AreAWorld nodes clients
   are_a_world nodes clients runs =
       let ps : List Placement = placements_in nodes clients in

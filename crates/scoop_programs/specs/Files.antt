@@ -8,11 +8,12 @@ use Rattle.scoop_system.specs.Known.{known_to}
 use Rattle.scoop_system.specs.System.{Plan}
 use Rattle.scoop_audit.specs.Parties.{nodes_in}
 use Rattle.scoop_runtime.specs.Members.{AreMembersOf}
-use Rattle.scoop_programs.specs.Programs.{BeginAfter, ClientRuns, NodeMayRun, NodeRuns}
+use Rattle.scoop_programs.specs.Programs.{BeginAfter, NodeMayRun}
+use Rattle.scoop_programs.specs.Runs.{ClientRuns, NodeRuns}
 
 -- the node is this one of the file, and has the members of its plan: `NodePlan::of` ensures that they are these
-pub record IsNodeOf {K : Type 0} {has : K → ℕ → Stored → Type 0} {is_honest : K → Type 0} (s : Plan) (place : NodePlace)
-    (n : NodeRuns has is_honest) : Type 0 where
+pub record IsNodeOf {K : Type 0} {has outlasting : K → ℕ → Stored → Type 0} {is_honest : K → Type 0} (s : Plan) (place : NodePlace)
+    (n : NodeRuns has outlasting is_honest) : Type 0 where
   pub number : n.number ≡ place.number
   pub members : AreMembersOf s place.number n.members
   pub may : NodeMayRun n
@@ -29,7 +30,7 @@ pub record IsClientOf {K : Type 0} {incarnations : K → ℕ → Option ℕ} {is
   pub after : BeginAfter c.first c.later
 
 -- these are the file's nodes that have handlers, and its clients, each in order
-pub record AreOf {K : Type 0} {has : K → ℕ → Stored → Type 0} {is_honest : K → Type 0} {J : Type 0} {incarnations : J → ℕ → Option ℕ} {is_faithful : J → Type 0}
-    (s : Plan) (nodes : List (NodeRuns has is_honest)) (clients : List (ClientRuns incarnations is_faithful)) : Type 0 where
+pub record AreOf {K : Type 0} {has outlasting : K → ℕ → Stored → Type 0} {is_honest : K → Type 0} {J : Type 0} {incarnations : J → ℕ → Option ℕ} {is_faithful : J → Type 0}
+    (s : Plan) (nodes : List (NodeRuns has outlasting is_honest)) (clients : List (ClientRuns incarnations is_faithful)) : Type 0 where
   pub each_node : AllZip (IsNodeOf s) (nodes_in s) nodes
   pub each_client : AllZip (IsClientOf s) s.clients clients

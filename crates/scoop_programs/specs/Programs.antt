@@ -1,10 +1,11 @@
--- Runs of the programs `scoop node` and `scoop client`, the lives that they had, and the world that these lives are.
-use Rattle.std.specs.Prelude.{◌≡◌, ◌≤◌, ⊤, ℕ, List, [], ◌∷◌, ◌++◌, flat_map, length, map, unwrap_or, Option, Result, Ok, Err}
+-- The lives that runs of the programs had, what is supposed of them, and the world that these lives are.
+use Rattle.std.specs.Prelude.{◌≡◌, ◌⊎◌, ◌≤◌, ⊤, ℕ, List, [], ◌∷◌, ◌++◌, flat_map, length, map, unwrap_or, Option}
 use Rattle.std.specs.List.{AllByRecursion}
 use Rattle.scoop_message.specs.declared.name.ClientId.{ClientId}
 use Rattle.scoop_message.specs.declared.name.HandlerId.{HandlerId}
 use Rattle.scoop_message.specs.Lists.{NoRepeats}
-use Rattle.scoop_keeper.specs.Keeper.{Stored, Missing, IsTheOne, StaysAt}
+use Rattle.scoop_keeper.specs.Keeper.{Stored, Missing, Holds, IsTheOne, StaysAt}
+use Rattle.scoop_handler.specs.State.{new_state}
 use Rattle.scoop_handler.specs.Local.{LocalHandler}
 use Rattle.scoop_book.specs.Moves.{Entry}
 use Rattle.scoop_driver.specs.declared.step.Step.{Step}
@@ -18,75 +19,39 @@ use Rattle.scoop_weave.specs.Order.{IsOrder}
 use Rattle.scoop_weave.specs.Weave.{IsWorld}
 use Rattle.scoop_weave.specs.Lives.{NodeLife, ClientLife, IsNodeLife, IsClientLife, newcomers_of, parties_of, placements_of, system_of, words_in}
 use Rattle.scoop_runtime.specs.declared.plan.Member.{Member}
-use Rattle.scoop_texts.specs.declared.progress.ClientStop.{ClientStop}
-use Rattle.scoop_runtime.specs.NodeLives.{NodeRan}
-use Rattle.scoop_runtime.specs.ClientLives.{ClientRan, Lived, Unbegun}
+use Rattle.scoop_runtime.specs.ClientLives.{Lived, Unbegun}
 use Rattle.scoop_runtime.specs.ClientLives.{ClientLife as Life}
-
--- ---- runs
-
--- a run of a node with these members: its keeper before and after, and what it did, as `node_run` ensures it
-pub record NodeRun {K : Type 0} (has : K → ℕ → Stored → Type 0) (is_honest : K → Type 0) (members : List Member) : Type 0 where
-  pub before : K
-  pub after : K
-  pub ran : NodeRan has is_honest members before after
-
--- a node: its number, its members, and its runs, one after another
-pub record NodeRuns {K : Type 0} (has : K → ℕ → Stored → Type 0) (is_honest : K → Type 0) : Type 0 where
-  pub number : ℕ
-  pub members : List Member
-  pub first : NodeRun has is_honest members
-  pub later : List (NodeRun has is_honest members)
-
--- A run of a client with this name and batch, which knows these handlers. It has its keeper before and after, how it
--- ended, and what it did, as `client_run` ensures it.
-pub record ClientRun {K : Type 0} (incarnations : K → ℕ → Option ℕ) (is_honest : K → Type 0) (id : ClientId) (batch : ℕ) (known : List HandlerId) : Type 0 where
-  pub before : K
-  pub after : K
-  pub result : Result (Unit {0}) ClientStop
-  pub ran : ClientRan id batch known (incarnations before) (incarnations after) (is_honest after) result
-
--- a client: its name and batch, the handlers that it knows, and its runs, one after another
-pub record ClientRuns {K : Type 0} (incarnations : K → ℕ → Option ℕ) (is_honest : K → Type 0) : Type 0 where
-  pub id : ClientId
-  pub batch : ℕ
-  pub known : List HandlerId
-  pub first : ClientRun incarnations is_honest id batch known
-  pub later : List (ClientRun incarnations is_honest id batch known)
+use Rattle.scoop_programs.specs.Runs.{ClientRun, ClientRuns, EndsHonest, IsReady, NodeRun, NodeRuns, first_history, lasting, lives_to, more_histories, opening_of}
+use Rattle.scoop_programs.specs.Runs.{stand_of}
 
 -- ---- the life of a node
 
 abbrev pub placed_at : ℕ → Member → Placement
 placed_at n m = record { node = n; handler = m.handler; class = m.class; words = m.words }
 
-module _ {K : Type 0} {has : K → ℕ → Stored → Type 0} {is_honest : K → Type 0} where
-  abbrev pub histories_of : {members : List Member} → NodeRun has is_honest members → List (List Entry)
-  histories_of r = r.ran.ran.first ∷ r.ran.ran.more
+module _ {K : Type 0} {has outlasting : K → ℕ → Stored → Type 0} {is_honest : K → Type 0} where
+  abbrev pub histories_of : {members : List Member} → NodeRun has outlasting is_honest members → List (List Entry)
+  histories_of r = first_history r ∷ more_histories r
 
   -- the handlers as they stand at the end of the last run
-  abbrev pub stand_after : {members : List Member} → NodeRun has is_honest members → List (NodeRun has is_honest members) → List LocalHandler
-  stand_after r [] = r.ran.stand
+  abbrev pub stand_after : {members : List Member} → NodeRun has outlasting is_honest members → List (NodeRun has outlasting is_honest members)
+      → List LocalHandler
+  stand_after r [] = stand_of r
   stand_after r (s ∷ later) = stand_after s later
 
-  -- all histories of its runs, from the first opening
-  abbrev pub life_of_node : NodeRuns has is_honest → NodeLife
+  -- all histories of its runs, from the first opening; of one that was stopped, as far as it stays
+  abbrev pub life_of_node : NodeRuns has outlasting is_honest → NodeLife
   life_of_node n =
       record {
         number = n.number;
         placed = map (placed_at n.number) n.members;
-        opening = n.first.ran.ran.opening;
-        first = n.first.ran.ran.first;
-        more = n.first.ran.ran.more ++ flat_map histories_of n.later;
+        opening = opening_of n.first;
+        first = first_history n.first;
+        more = more_histories n.first ++ flat_map histories_of n.later;
         now = stand_after n.first n.later;
       }
 
 -- ---- the life of a client
-
--- the lives of a run
-abbrev pub lives_by : (id : ClientId) (batch : ℕ) (known : List HandlerId) (old new : ℕ → Option ℕ) (is_honest : Type 0) (result : Result (Unit {0}) ClientStop)
-    → ClientRan id batch known old new is_honest result → List Life
-lives_by id batch known old new is_honest (Ok u) ran = ran.lives
-lives_by id batch known old new is_honest (Err stop) ran = ran.lives
 
 -- where no client began, no step was made
 abbrev pub steps_in : Life → List Step
@@ -113,7 +78,7 @@ life_from n drivers =
 module _ {K : Type 0} {incarnations : K → ℕ → Option ℕ} {is_honest : K → Type 0} where
   abbrev pub lives_in : {id : ClientId} {batch : ℕ} {known : List HandlerId} → ClientRun incarnations is_honest id batch known → List Life
   lives_in {id = id} {batch = batch} {known = known} r =
-      lives_by id batch known (incarnations r.before) (incarnations r.after) (is_honest r.after) r.result r.ran
+      lives_to incarnations is_honest id batch known r.before r.after r.ends
 
   -- the client as it joins: the incarnation that its keeper had of it before, 0 where it had none, and the handlers that it knows
   abbrev pub newcomer_of : ClientRuns incarnations is_honest → Newcomer
@@ -125,31 +90,31 @@ module _ {K : Type 0} {incarnations : K → ℕ → Option ℕ} {is_honest : K �
 
 -- ---- what is supposed of a node
 
--- the keeper has nothing of the member's handler
-abbrev pub HasNothingOf : (ℕ → Stored → Type 0) → Member → Type 0
-HasNothingOf has m = IsTheOne (has m.handler.0) Missing
+-- the keeper has nothing of the member's handler, or the state of a new one: a node that was killed before it was ready leaves that
+abbrev pub HasNoOther : (ℕ → Stored → Type 0) → Member → Type 0
+HasNoOther has m = IsTheOne (has m.handler.0) Missing ⊎ IsTheOne (has m.handler.0) (Holds (new_state m.handler m.words))
 
--- the keeper has of the member's handler what it had
+-- the keeper has of the member's handler what outlasted
 abbrev pub HasSameOf : (old new : ℕ → Stored → Type 0) → Member → Type 0
 HasSameOf old new m = StaysAt old new m.handler.0
 
-module _ {K : Type 0} {has : K → ℕ → Stored → Type 0} {is_honest : K → Type 0} where
-  -- a run opens with what the last one left, whose keeper was honest at its end; this one's was when the node was ready
-  pub record OpensAfter {members : List Member} (last next : NodeRun has is_honest members) : Type 0 where
-    pub left : is_honest last.after
-    pub same : AllByRecursion (HasSameOf (has last.after) (has next.before)) members
-    pub ready : is_honest next.ran.ready
+module _ {K : Type 0} {has outlasting : K → ℕ → Stored → Type 0} {is_honest : K → Type 0} where
+  -- a run opens with what outlasted the last one, whose keeper was honest at its end; this one's was when the node was ready
+  pub record OpensAfter {members : List Member} (last next : NodeRun has outlasting is_honest members) : Type 0 where
+    pub left : EndsHonest last
+    pub same : AllByRecursion (HasSameOf (lasting last) (has next.before)) members
+    pub ready : IsReady next
 
-  abbrev pub OpenAfter : {members : List Member} → NodeRun has is_honest members → List (NodeRun has is_honest members) → Type 0
+  abbrev pub OpenAfter : {members : List Member} → NodeRun has outlasting is_honest members → List (NodeRun has outlasting is_honest members) → Type 0
   OpenAfter r [] = ⊤
   OpenAfter r (s ∷ later) = OpensAfter r s × OpenAfter s later
 
-  -- The node has a handler. Its keeper had nothing of its handlers before the first run, and was honest. Each further run
-  -- opens with what the last one left.
-  pub record NodeMayRun (n : NodeRuns has is_honest) : Type 0 where
+  -- The node has a handler. Its keeper had nothing of its handlers before the first run, or states of new ones, and was honest.
+  -- Each further run opens with what outlasted the last one.
+  pub record NodeMayRun (n : NodeRuns has outlasting is_honest) : Type 0 where
     pub some : 1 ≤ length n.members
-    pub missing : AllByRecursion (HasNothingOf (has n.first.before)) n.members
-    pub ready : is_honest n.first.ran.ready
+    pub missing : AllByRecursion (HasNoOther (has n.first.before)) n.members
+    pub ready : IsReady n.first
     pub after : OpenAfter n.first n.later
 
 -- ---- what is supposed of a client
@@ -172,8 +137,8 @@ module _ {K : Type 0} {incarnations : K → ℕ → Option ℕ} {is_honest : K �
 
 -- ---- all together
 
-module _ {K : Type 0} {has : K → ℕ → Stored → Type 0} {is_honest : K → Type 0} {J : Type 0} {incarnations : J → ℕ → Option ℕ} {is_faithful : J → Type 0}
-    (nodes : List (NodeRuns has is_honest)) (clients : List (ClientRuns incarnations is_faithful)) where
+module _ {K : Type 0} {has outlasting : K → ℕ → Stored → Type 0} {is_honest : K → Type 0} {J : Type 0} {incarnations : J → ℕ → Option ℕ}
+    {is_faithful : J → Type 0} (nodes : List (NodeRuns has outlasting is_honest)) (clients : List (ClientRuns incarnations is_faithful)) where
   abbrev pub lives_of_nodes : List NodeLife
   lives_of_nodes = map life_of_node nodes
 
@@ -188,7 +153,7 @@ module _ {K : Type 0} {has : K → ℕ → Stored → Type 0} {is_honest : K →
 
   -- no node comes twice, and a world may open with these handlers and clients
   pub record MayRun : Type 0 where
-    pub apart : NoRepeats (map (λ (n : NodeRuns has is_honest). n.number) nodes)
+    pub apart : NoRepeats (map (λ (n : NodeRuns has outlasting is_honest). n.number) nodes)
     pub opens : MayOpen placements_in newcomers_in
     pub each_node : AllByRecursion NodeMayRun nodes
     pub each_client : AllByRecursion ClientMayRun clients

@@ -4,28 +4,34 @@ ghost use Rattle.std.specs.Prelude.{◌≤◌, List, length};
 ghost use Rattle.scoop_system.specs.System.{Plan};
 ghost use Rattle.scoop_system.specs.WellFormed.{IsWellFormed};
 ghost use Rattle.scoop_programs.specs.Files.{AreOf};
-ghost use Rattle.scoop_programs.specs.Programs.{AreAWorld, ClientRuns, MayRun, NodeRuns};
+ghost use Rattle.scoop_programs.specs.Programs.{AreAWorld, MayRun};
+ghost use Rattle.scoop_programs.specs.Runs.{ClientRuns, NodeRuns};
 
 use scoop_audit::systems_may_run;
 use scoop_keeper::Keeper;
 use std::alloc::Global;
 
-/// The theorem that runs of the programs of nodes and clients are a world. It supposes what `node_run` and `client_run`
-/// ensure of each run, over any keeper. It also supposes:
-/// - each node has a number of its own and a handler, and its keeper had nothing of its handlers before the first run;
-/// - each further run of a node begins with what the last run's keeper had of its handlers at its end;
+/// The theorem that runs of the programs of nodes and clients are a world. It supposes what `node_run`, `client_run` and
+/// `client_cut` ensure of each run, over any keeper. A run may also have been stopped from outside, at any instant: a node was
+/// killed, it failed, or another program took over its record; a client was killed. Then a node's open book was sound, as a
+/// book is whenever its lock is free, and its keeper honest until then. It also supposes:
+/// - each node has a number of its own and a handler, and its keeper had nothing of its handlers before the first run, or
+///   states of new ones;
+/// - each further run of a node begins with what outlasted the last one;
 /// - each further run of a client begins with the incarnation that the last run left;
 /// - each node's keeper was honest when the node was ready, and at the end of each run that another one follows;
 /// - each client's keeper was honest at the end of each run;
 /// - a world may open with these handlers and clients. Each client knows at least one handler, each once and each of a
 ///   node; another client may know others.
 ///
-/// Then the histories and steps of the runs are lives of nodes and clients. Each order of all their moves is that of a
-/// world, if each message that is heard in it was sent before. The theorem asks nothing else of the network.
+/// Then the histories and steps of the runs are lives of nodes and clients. Of a book that was open when its node was stopped,
+/// the part of the history counts whose states outlast. Each order of all their moves is that of a world, if each message that
+/// is heard in it was sent before. The theorem asks nothing else of the network. So if a reply had left before the state that
+/// it tells of outlasted, and that state was lost, no such order would have both.
 ///
-/// A run of a node that returned an error isn't among these runs. A run of a client may have ended in any way.
+/// A run of a client may have ended in any way.
 pub fn programs_are_a_world<K: Keeper<Global>, J: Keeper<Global>>()
-    ensures { (nodes : List (NodeRuns K.handlers K.is_honest)) (clients : List (ClientRuns J.incarnations J.is_honest)) → MayRun nodes clients
+    ensures { (nodes : List (NodeRuns K.handlers K.outlasting K.is_honest)) (clients : List (ClientRuns J.incarnations J.is_honest)) → MayRun nodes clients
         → AreAWorld nodes clients }
 {}
 
@@ -34,7 +40,7 @@ pub fn programs_are_a_world<K: Keeper<Global>, J: Keeper<Global>>()
 /// places on it, each with its class. A client knows the handlers that it uses, by its own contract. A client's keeper had no
 /// incarnation of it before its first run. A node without handlers is left out.
 pub fn systems_are_a_world<K: Keeper<Global>, J: Keeper<Global>>()
-    ensures { (s : Plan) (nodes : List (NodeRuns K.handlers K.is_honest)) (clients : List (ClientRuns J.incarnations J.is_honest))
+    ensures { (s : Plan) (nodes : List (NodeRuns K.handlers K.outlasting K.is_honest)) (clients : List (ClientRuns J.incarnations J.is_honest))
         → IsWellFormed s → 1 ≤ length s.handlers → AreOf s nodes clients → AreAWorld nodes clients }
 {
     systems_may_run();

@@ -3,7 +3,7 @@
 //! Look first at [`programs_are_a_world`]. A run of a node is what `node_run` of `scoop_runtime` ensures, and a run of a client
 //! what `client_run` ensures. `specs/Programs.antt` says which life a party had in its runs, and what is supposed of them:
 //! `MayRun`. [`systems_are_a_world`] says the same of the programs of one system, whose parties `specs/Files.antt` tells.
-//! [`example_may_run`] has runs that are supposed so.
+//! [`example_may_run`] has runs that are supposed so, and [`killed_may_run`] those of a node and a client that are killed.
 //!
 //! The crate has nothing to run: its functions are theorems, which a proof has once it calls them.
 //!
@@ -14,11 +14,12 @@
 //! scoop_programs::systems_are_a_world::<MemoryKeeper, MemoryKeeper>();
 //! // and here are some that are computed
 //! scoop_programs::example_may_run();
+//! scoop_programs::killed_may_run();
 //! ```
 #![tactic(auto)]
 
 mod example;
 mod law;
 
-pub use example::example_may_run;
+pub use example::{example_may_run, killed_may_run};
 pub use law::{programs_are_a_world, systems_are_a_world};

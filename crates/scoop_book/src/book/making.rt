@@ -21,8 +21,8 @@ use std::alloc::Allocator;
 impl<B: Behaviour, K: Keeper<A>, A: Allocator + Copy> Book<B, K, A> {
     /// A book of these handlers. Each is given as its number, the class of its object, and the object. A handler
     /// opens with its stored state and no job out. If the keeper has none, it opens with no holder, no marks, no
-    /// private queues, and the words of its object. Nothing is stored yet, but what the keeper has is committed. The
-    /// history is empty, and may have 1,000,000 entries.
+    /// private queues, and the words of its object. Nothing is stored yet, but what the keeper has of the handlers is
+    /// committed. The history is empty, and may have 1,000,000 entries.
     ///
     /// A refusal drops handlers and keeper. In this order:
     /// - `WrongClass` if an object hasn't its class;
@@ -73,7 +73,7 @@ impl<B: Behaviour, K: Keeper<A>, A: Allocator + Copy> Book<B, K, A> {
             Ok(opened) => opened,
             Err(error) => return Err(error),
         };
-        if let Err(error) = settle(&mut keeper) {
+        if let Err(error) = settle(&mut keeper, &opening) {
             return Err(error);
         }
         Ok(Book {

@@ -20,7 +20,7 @@ invariant_of-result g c =
     g.B.Behaviour.words c.args.handlers.items c.in-Ok.opened.1.items c.in-Ok.opened.0.items c.args.limit false c.new.result c.new-2.result.entries
     c.new.ensures c.new-2.ensures c.in-Ok.ensures.opens c.in-Ok.ensures.kept
     (subst (MayOpen g.B.Behaviour.class) c.deref.ensures.value c.in_default.ensures.none).apart c.open_all.ensures.handlers c.settle.ensures.handlers
-    c.in_default-settle.ensures.outlasts c.open_all.ensures.honest
+    (rw c.deref-2.ensures.value at c.in_default-settle.ensures.outlasts) c.open_all.ensures.honest
 
 pub returns-clause-sound : goal.returns-clause-sound
 returns-clause-sound g c =
@@ -28,12 +28,14 @@ returns-clause-sound g c =
     g.B.Behaviour.words c.args.handlers.items c.in-Ok.opened.1.items c.in-Ok.opened.0.items c.args.limit false c.new.result c.new-2.result.entries
     c.new.ensures c.new-2.ensures c.in-Ok.ensures.opens c.in-Ok.ensures.kept
     (subst (MayOpen g.B.Behaviour.class) c.deref.ensures.value c.in_default.ensures.none).apart c.open_all.ensures.handlers c.settle.ensures.handlers
-    c.in_default-settle.ensures.outlasts c.open_all.ensures.honest
+    (rw c.deref-2.ensures.value at c.in_default-settle.ensures.outlasts) c.open_all.ensures.honest
 
 pub returns-in-Err-settle-clause-refused : goal.returns-in-Err-settle-clause-refused
 returns-in-Err-settle-clause-refused g c =
-    unsettled g.B.Behaviour.class (g.K.Keeper.handlers c.args.keeper) ((k : g.row.K.Denot) → g.K.Keeper.is_honest k) c.args.handlers.items c.in-Err-settle.error
-    (subst (MayOpen g.B.Behaviour.class) c.deref.ensures.value c.in_default.ensures.none) c.in-Err-settle.ensures.refused
+    unsettled g.B.Behaviour.class g.B.Behaviour.words (g.K.Keeper.handlers c.args.keeper) (g.K.Keeper.is_honest c.open_all.new.keeper)
+    ((k : g.row.K.Denot) → g.K.Keeper.is_honest k) c.args.handlers.items c.in-Ok.opened.0.items c.in-Ok.opened.1.items c.in-Err-settle.error
+    (subst (MayOpen g.B.Behaviour.class) c.deref.ensures.value c.in_default.ensures.none) c.in-Ok.ensures.opens c.in-Ok.ensures.kept
+    (rw c.deref-2.ensures.value at c.in-Err-settle.ensures.refused)
 
 pub returns-clause-opens : goal.returns-clause-opens
 returns-clause-opens g c =
