@@ -76,6 +76,13 @@ impl<L: Link, D: Diary<A>, A: Allocator> Driver<L, D, A> {
         }
     }
 
+    /// Its client.
+    pub fn client(&self) -> &Client<A>
+        ensures { result.now ≡ self.now.seen.client }
+    {
+        &self.client
+    }
+
     /// The phase of its client.
     pub fn phase(&self) -> Phase
         ensures { result ≡ phase_of self.now.seen.client }

@@ -107,5 +107,6 @@ pub trait LineSource: Drop {
         &mut self,
         line: &mut LineBytes,
         output: &mut W,
-    ) -> Result<Option<u32>, LinesError>;
+    ) -> Result<Option<u32>, LinesError>
+        ensures { Keeps (W.contents output.old) (W.contents output.new) };
 }

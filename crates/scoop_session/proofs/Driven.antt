@@ -10,8 +10,8 @@ use Rattle.scoop_client.specs.declared.phase.Phase.TheVariants.{Idle}
 use Rattle.scoop_client.specs.State.{phase_of}
 use Rattle.scoop_driver.specs.declared.error.DriverError.{DriverError}
 use Rattle.scoop_driver.specs.declared.error.DriverError.TheVariants.{Client, TurnsOver, LinkFault, ConditionFailed, Interrupted}
-use Rattle.scoop_driver.specs.State.{Seen}
-use Rattle.scoop_driver.specs.Calls.{Called, Queried}
+use Rattle.scoop_driver.specs.State.{Seen, Goes}
+use Rattle.scoop_driver.specs.Calls.{Called}
 use Rattle.scoop_driver.specs.Waiting.{WaitsUpTo}
 use Rattle.scoop_driver.specs.Wishes.{Wish as Waited}
 use Rattle.scoop_driver.proofs.StepLists.{goes_nothing, goes_on}
@@ -20,10 +20,13 @@ use Rattle.scoop_system.specs.declared.line.ClientLine.TheVariants as line
 use Rattle.scoop_texts.specs.declared.reply.Reply.{Reply}
 use Rattle.scoop_texts.specs.declared.reply.Reply.TheVariants.{Reserved, Logged, Answered, Ended, Noted, EndedAt, GivenUp}
 use Rattle.scoop_session.specs.declared.wish.Wish.{Wish}
+use Rattle.scoop_session.specs.Noting.{tried_as}
 use Rattle.scoop_session.specs.Obeying.{BeganAndGaveUp, CallDoes, Does, DoesInside, DoesOutside, Drives, EndDoes, GaveUp, GiveUpDoes, GivesUp, Obeys, QueryDoes, ReserveDoes}
-use Rattle.scoop_session.specs.Obeying.{FailsTrying, RunsBlock, SaysNoTries, StopsTrying, TakesTurnsOnly, TriesOut, TryDoes, WhenDoes, tried_as}
+use Rattle.scoop_session.specs.Obeying.{FailsTrying, RunsBlock, SaysNoTries, StopsTrying, TakesTurnsOnly, TryDoes, WhenDoes}
 use Rattle.scoop_session.specs.Obeying.{tried, refused, left, kept}
 use Rattle.scoop_session.specs.Obeying.{between, locking}
+use Rattle.scoop_session.specs.Taking.{steps_asking, steps_begun, steps_calling, steps_done, steps_ending, steps_failed, steps_given_up, steps_giving_up}
+use Rattle.scoop_session.specs.Taking.{steps_inside, steps_obeyed, steps_of_block, steps_outside, steps_reserving, steps_stopped, steps_trying}
 
 pub drives_nothing : (s : Seen) → Drives s s
 drives_nothing s = ([], goes_nothing s)
@@ -52,15 +55,6 @@ drives_called x turns r s t (xs, does) = (xs, does.goes)
 pub drives_turning : {T : Type 0} (x : Command) (turns : ℕ) (r : Result T DriverError) (s t u : Seen) → Called x turns r s t → TakesTurnsOnly t u → Drives s u
 drives_turning x turns r s t u called turned = drives_both s t u (drives_called x turns r s t called) (drives_turned t u turned)
 
-drives_queried : (h : HandlerId) (r : Request) (turns : ℕ) (a : Result Answer DriverError) (s t : Seen) → Queried h r turns a s t → Drives s t
-drives_queried h r turns a s t (xs, does, answers) = (xs, does.goes)
-
-drives_block : (hs : List HandlerId) (turns : ℕ) (s t : Seen) → RunsBlock hs turns s t → Drives s t
-drives_block hs turns s t runs = drives_turning (DoReserve hs) turns (Ok (tt {0})) s runs.running t runs.reserves runs.turned
-
-drives_given : (s t : Seen) → GaveUp s t → Drives s t
-drives_given s t gave = drives_turning DoGiveUp 0 (Ok (tt {0})) s gave.given t gave.gives gave.turned
-
 -- a block is given up, and turns follow
 pub gives_up_then : (r : Result (Unit {0}) DriverError) (s t u : Seen) → Called {T = Unit {0}} DoGiveUp 0 (Ok (tt {0})) s t
     → OnOk r (phase_of u.client ≡ Idle) → IfErr r SaysNoTries → TakesTurnsOnly t u → GivesUp r s u
@@ -76,7 +70,7 @@ says_no_tries x turns (ConditionFailed k) s t (steps, does) = absurd does.comman
 says_no_tries x turns Interrupted s t called = tt
 
 pub drives_gave_up : (r : Result (Unit {0}) DriverError) (s t : Seen) → GivesUp r s t → Drives s t
-drives_gave_up (Ok done) s t gave = drives_given s t gave
+drives_gave_up (Ok done) s t gave = drives_turning DoGiveUp 0 (Ok (tt {0})) s gave.given t gave.gives gave.turned
 drives_gave_up (Err e) s t (tries, drives) = drives
 
 -- a wait for a condition, unless a handler of it is outside its block
@@ -86,6 +80,9 @@ drives_waited Stopped None w turns tries r answers s t stays waits = let waited 
 drives_waited Stopped (Some h) w turns tries r answers s t stays waits = drives_same s t (stays h refl)
 
 -- ---- outside a block that waits for its condition
+
+goes_given : (s t : Seen) (gave : GaveUp s t) → Goes (steps_given_up gave) s t
+goes_given s t gave = goes_on gave.gives.0 gave.turned.0 s gave.given t gave.gives.1.goes gave.turned.1.0
 
 -- a block whose wait was ended, and that is then given up
 pub begun_then : (hs : List HandlerId) (turns : ℕ) (b : Bool) (o : Result Reply DriverError) (s t u : Seen) → b ≡ false
@@ -99,93 +96,105 @@ begun_then hs turns b (Err e) s t u is begins (tries, drives) =
     drives_both s t u (drives_called {T = Bool} (DoReserve hs) turns (Ok b) s t begins) drives
 begun_then hs turns b (Ok reply) s t u is begins gave = absurd gave
 
-drives_begun : (hs : List HandlerId) (turns : ℕ) (s t : Seen) → BeganAndGaveUp hs turns s t → Drives s t
-drives_begun hs turns s t did =
-    drives_both s did.begun t (drives_called {T = Bool} (DoReserve hs) turns (Ok false) s did.begun did.begins) (drives_given did.begun t did.gave_up)
+goes_begun : (hs : List HandlerId) (turns : ℕ) (s t : Seen) (did : BeganAndGaveUp hs turns s t) → Goes (steps_begun did) s t
+goes_begun hs turns s t did =
+    goes_on did.begins.0 (steps_given_up did.gave_up) s did.begun t did.begins.1.goes (goes_given did.begun t did.gave_up)
 
-drives_reserve : (hs : List HandlerId) (turns : ℕ) (o : Result Reply DriverError) (s t : Seen) → ReserveDoes hs turns o s t → Drives s t
-drives_reserve hs turns (Ok (Reserved block)) s t does = drives_block hs turns s t does
-drives_reserve hs turns (Ok GivenUp) s t does = drives_begun hs turns s t does
-drives_reserve hs turns (Err e) s t does = does
-drives_reserve hs turns (Ok reply) s t does = absurd does
+goes_block : (hs : List HandlerId) (turns : ℕ) (s t : Seen) (runs : RunsBlock hs turns s t) → Goes (steps_of_block runs) s t
+goes_block hs turns s t runs = goes_on runs.reserves.0 runs.turned.0 s runs.running t runs.reserves.1.goes runs.turned.1.0
 
-drives_call : (h : HandlerId) (r : Request) (turns : ℕ) (o : Result Reply DriverError) (s t : Seen) → CallDoes h r turns o s t → Drives s t
-drives_call h r turns (Ok (Logged at number)) s t does = drives_called {T = Unit {0}} (DoCall h r) turns (Ok (tt {0})) s t does.1
-drives_call h r turns (Err e) s t does = drives_called {T = Unit {0}} (DoCall h r) turns (Err e) s t does
-drives_call h r turns (Ok reply) s t does = absurd does
+goes_same : (s t : Seen) → t ≡ s → Goes [] s t
+goes_same s t is = subst (λ u. Goes [] s u) (sym is) (goes_nothing s)
 
-drives_query : (h : HandlerId) (r : Request) (turns : ℕ) (o : Result Reply DriverError) (s t : Seen) → QueryDoes h r turns o s t → Drives s t
-drives_query h r turns (Ok (Answered a)) s t does = drives_queried h r turns (Ok a) s t does
-drives_query h r turns (Err e) s t does = drives_queried h r turns (Err e) s t does
-drives_query h r turns (Ok reply) s t does = absurd does
+goes_reserving : (hs : List HandlerId) (turns : ℕ) (o : Result Reply DriverError) (s t : Seen) (does : ReserveDoes hs turns o s t)
+    → Goes (steps_reserving hs turns o s t does) s t
+goes_reserving hs turns (Ok (Reserved block)) s t does = goes_block hs turns s t does.1
+goes_reserving hs turns (Ok GivenUp) s t does = goes_begun hs turns s t does
+goes_reserving hs turns (Err e) s t does = does.1
+goes_reserving hs turns (Ok reply) s t does = absurd does
 
-drives_end : (turns : ℕ) (o : Result Reply DriverError) (s t : Seen) → EndDoes turns o s t → Drives s t
-drives_end turns (Ok Ended) s t does = drives_called {T = Unit {0}} DoEnd turns (Ok (tt {0})) s t does.0
-drives_end turns (Err e) s t does = drives_called {T = Unit {0}} DoEnd turns (Err e) s t does
-drives_end turns (Ok reply) s t does = absurd does
+goes_calling : (h : HandlerId) (r : Request) (turns : ℕ) (o : Result Reply DriverError) (s t : Seen) (does : CallDoes h r turns o s t)
+    → Goes (steps_calling h r turns o s t does) s t
+goes_calling h r turns (Ok (Logged at number)) s t does = does.1.1.goes
+goes_calling h r turns (Err e) s t does = does.1.goes
+goes_calling h r turns (Ok reply) s t does = absurd does
 
-drives_give_up : (o : Result Reply DriverError) (s t : Seen) → GiveUpDoes o s t → Drives s t
-drives_give_up (Ok GivenUp) s t does = drives_given s t does
-drives_give_up (Err e) s t does = does.1
-drives_give_up (Ok reply) s t does = absurd does
+goes_asking : (h : HandlerId) (r : Request) (turns : ℕ) (o : Result Reply DriverError) (s t : Seen) (does : QueryDoes h r turns o s t)
+    → Goes (steps_asking h r turns o s t does) s t
+goes_asking h r turns (Ok (Answered a)) s t does = does.1.0.goes
+goes_asking h r turns (Err e) s t does = does.1.0.goes
+goes_asking h r turns (Ok reply) s t does = absurd does
 
-drives_when : (o : Result Reply DriverError) (s t : Seen) → WhenDoes o s t → Drives s t
-drives_when (Ok Noted) s t does = drives_same s t does
-drives_when (Err e) s t does = drives_same s t does
-drives_when (Ok reply) s t does = absurd does
+goes_ending : (turns : ℕ) (o : Result Reply DriverError) (s t : Seen) (does : EndDoes turns o s t) → Goes (steps_ending turns o s t does) s t
+goes_ending turns (Ok Ended) s t does = does.0.1.goes
+goes_ending turns (Err e) s t does = does.1.goes
+goes_ending turns (Ok reply) s t does = absurd does
 
-drives_outside : (l : ClientLine) (turns : ℕ) (o : Result Reply DriverError) (s t : Seen) → DoesOutside l turns o s t → Drives s t
-drives_outside line.Blank turns o s t does = drives_same s t does
-drives_outside line.Help turns o s t does = drives_same s t does
-drives_outside line.Quit turns o s t does = drives_same s t does
-drives_outside (line.Reserve hs) turns o s t does = drives_reserve hs turns o s t does
-drives_outside (line.Call h r) turns o s t does = drives_call h r turns o s t does
-drives_outside (line.Query h r) turns o s t does = drives_query h r turns o s t does
-drives_outside line.End turns o s t does = drives_end turns o s t does
-drives_outside line.GiveUp turns o s t does = drives_give_up o s t does
-drives_outside (line.ReserveWhen hs conditions tries) turns o s t does = drives_when o s t does
+goes_giving_up : (o : Result Reply DriverError) (s t : Seen) (does : GiveUpDoes o s t) → Goes (steps_giving_up o s t does) s t
+goes_giving_up (Ok GivenUp) s t does = goes_given s t does
+goes_giving_up (Err e) s t does = does.1.1
+goes_giving_up (Ok reply) s t does = absurd does
+
+goes_waiting : (o : Result Reply DriverError) (s t : Seen) → WhenDoes o s t → Goes [] s t
+goes_waiting (Ok Noted) s t does = goes_same s t does
+goes_waiting (Err e) s t does = goes_same s t does
+goes_waiting (Ok reply) s t does = absurd does
+
+goes_outside : (l : ClientLine) (turns : ℕ) (o : Result Reply DriverError) (s t : Seen) (does : DoesOutside l turns o s t)
+    → Goes (steps_outside l turns o s t does) s t
+goes_outside line.Blank turns o s t does = goes_same s t does
+goes_outside line.Help turns o s t does = goes_same s t does
+goes_outside line.Quit turns o s t does = goes_same s t does
+goes_outside (line.Reserve hs) turns o s t does = goes_reserving hs turns o s t does
+goes_outside (line.Call h r) turns o s t does = goes_calling h r turns o s t does
+goes_outside (line.Query h r) turns o s t does = goes_asking h r turns o s t does
+goes_outside line.End turns o s t does = goes_ending turns o s t does
+goes_outside line.GiveUp turns o s t does = goes_giving_up o s t does
+goes_outside (line.ReserveWhen hs conditions tries) turns o s t does = goes_waiting o s t does
 
 -- ---- inside such a block
 
-drives_out : (w : Waited) (tries : ℕ) (r : Result ℕ DriverError) (answers : List Answer) (s t : Seen) → TriesOut w tries r answers s t → Drives s t
-drives_out w tries r answers s t (xs, goes, gives) = (xs, goes)
+goes_stopped : (w : Waited) (tries : ℕ) (s t : Seen) (stops : StopsTrying w tries s t) → Goes (steps_stopped w tries s t stops) s t
+goes_stopped w tries s t (between {failed} below out) = out.1.0
+goes_stopped w tries s t (locking {begun} out gave) = goes_on out.0 (steps_given_up gave) s begun t out.1.0 (goes_given begun t gave)
 
-drives_stopped : (w : Waited) (tries : ℕ) (s t : Seen) → StopsTrying w tries s t → Drives s t
-drives_stopped w tries s t (between {failed} below out) = drives_out w failed (Err (ConditionFailed failed)) [] s t out
-drives_stopped w tries s t (locking {begun} out gave) =
-    drives_both s begun t (drives_out w tries (Err Interrupted) [] s begun out) (drives_given begun t gave)
+goes_failed : (w : Waited) (tries : ℕ) (e : DriverError) (answers : List Answer) (s t : Seen) (fails : FailsTrying w tries e answers s t)
+    → Goes (steps_failed w tries e answers s t fails) s t
+goes_failed w tries e answers s t (tried out) = out.1.0
+goes_failed w tries e answers s t (refused memory same) = goes_same s t same
+goes_failed w tries e answers s t (left is stops) = goes_stopped w tries s t stops
+goes_failed w tries e answers s t (kept {begun} says out drives) = goes_on out.0 drives.0 s begun t out.1.0 drives.1
 
-drives_failed : (w : Waited) (tries : ℕ) (e : DriverError) (answers : List Answer) (s t : Seen) → FailsTrying w tries e answers s t → Drives s t
-drives_failed w tries e answers s t (tried out) = drives_out w tries (Err e) answers s t out
-drives_failed w tries e answers s t (refused memory same) = drives_same s t same
-drives_failed w tries e answers s t (left is stops) = drives_stopped w tries s t stops
-drives_failed w tries e answers s t (kept {begun} says out drives) =
-    drives_both s begun t (drives_out w tries (Err Interrupted) [] s begun out) drives
+goes_trying : (w : Wish) (o : Result Reply DriverError) (answers : List Answer) (s t : Seen) (does : TryDoes w o answers s t)
+    → Goes (steps_trying w o answers s t does) s t
+goes_trying w (Ok (EndedAt k)) answers s t does = does.1.0
+goes_trying w (Ok GivenUp) answers s t does = goes_stopped (tried_as w) w.tries s t does.1
+goes_trying w (Err e) answers s t does = goes_failed (tried_as w) w.tries e answers s t does
+goes_trying w (Ok reply) answers s t does = absurd does
 
-drives_tries : (w : Wish) (o : Result Reply DriverError) (answers : List Answer) (s t : Seen) → TryDoes w o answers s t → Drives s t
-drives_tries w (Ok (EndedAt k)) answers s t (xs, goes, gives) = (xs, goes)
-drives_tries w (Ok GivenUp) answers s t (none, stops) = drives_stopped (tried_as w) w.tries s t stops
-drives_tries w (Err e) answers s t fails = drives_failed (tried_as w) w.tries e answers s t fails
-drives_tries w (Ok reply) answers s t does = absurd does
-
-drives_inside : (l : ClientLine) (w : Wish) (o : Result Reply DriverError) (answers : List Answer) (s t : Seen) → DoesInside l w o answers s t → Drives s t
-drives_inside line.Blank w o answers s t does = drives_same s t does.1
-drives_inside line.Help w o answers s t does = drives_same s t does.1
-drives_inside line.Quit w o answers s t does = drives_same s t does.1
-drives_inside line.GiveUp w o answers s t does = drives_same s t does.1
-drives_inside (line.Reserve hs) w o answers s t does = drives_same s t does.1
-drives_inside (line.Call h r) w o answers s t does = drives_same s t does
-drives_inside (line.Query h r) w o answers s t does = drives_same s t does
-drives_inside line.End w o answers s t does = drives_tries w o answers s t does
-drives_inside (line.ReserveWhen hs conditions tries) w o answers s t does = drives_same s t does.1
+goes_inside : (l : ClientLine) (w : Wish) (o : Result Reply DriverError) (answers : List Answer) (s t : Seen) (does : DoesInside l w o answers s t)
+    → Goes (steps_inside l w o answers s t does) s t
+goes_inside line.Blank w o answers s t does = goes_same s t does.1
+goes_inside line.Help w o answers s t does = goes_same s t does.1
+goes_inside line.Quit w o answers s t does = goes_same s t does.1
+goes_inside line.GiveUp w o answers s t does = goes_same s t does.1
+goes_inside (line.Reserve hs) w o answers s t does = goes_same s t does.1
+goes_inside (line.Call h r) w o answers s t does = goes_same s t does.1
+goes_inside (line.Query h r) w o answers s t does = goes_same s t does.1
+goes_inside line.End w o answers s t does = goes_trying w o answers s t does
+goes_inside (line.ReserveWhen hs conditions tries) w o answers s t does = goes_same s t does.1
 
 -- ---- a line
 
-drives_does : (l : ClientLine) (w : Option Wish) (turns : ℕ) (o : Result Reply DriverError) (answers : List Answer) (s t : Seen)
-    → Does l w turns o answers s t → Drives s t
-drives_does l None turns o answers s t does = drives_outside l turns o s t does
-drives_does l (Some w) turns o answers s t does = drives_inside l w o answers s t does
+goes_done : (l : ClientLine) (w : Option Wish) (turns : ℕ) (o : Result Reply DriverError) (answers : List Answer) (s t : Seen)
+    (does : Does l w turns o answers s t) → Goes (steps_done l w turns o answers s t does) s t
+goes_done l None turns o answers s t does = goes_outside l turns o s t does
+goes_done l (Some w) turns o answers s t does = goes_inside l w o answers s t does
 
-pub drives_obeyed : (l : ClientLine) (w : Option Wish) (turns : ℕ) (r : Result Reply DriverError) (answers : List Answer) (s t : Seen)
-    → Obeys l w turns r answers s t → Drives s t
-drives_obeyed l w turns r answers s t obeys = drives_does l w turns obeys.outcome answers s t obeys.does
+pub goes_obeyed : (l : ClientLine) (w v : Option Wish) (turns : ℕ) (r : Result Reply DriverError) (answers : List Answer) (s t : Seen)
+    (obeys : Obeys l w v turns r answers s t) → Goes (steps_obeyed l w v turns r answers s t obeys) s t
+goes_obeyed l w v turns r answers s t obeys = goes_done l w turns obeys.outcome answers s t obeys.does
+
+pub drives_obeyed : (l : ClientLine) (w v : Option Wish) (turns : ℕ) (r : Result Reply DriverError) (answers : List Answer) (s t : Seen)
+    → Obeys l w v turns r answers s t → Drives s t
+drives_obeyed l w v turns r answers s t obeys = (steps_obeyed l w v turns r answers s t obeys, goes_obeyed l w v turns r answers s t obeys)

@@ -1,5 +1,6 @@
 pub mod Driven
 mod Gathered
 mod Inside
+mod Noted
 mod Tried
 mod Turned

@@ -13,7 +13,8 @@ use Rattle.scoop_driver.proofs.StepLists.{goes_nothing}
 use Rattle.scoop_texts.specs.declared.reply.Reply.{Reply}
 use Rattle.scoop_texts.specs.declared.reply.Reply.TheVariants.{GivenUp}
 use Rattle.scoop_session.specs.declared.wish.Wish.{Wish}
-use Rattle.scoop_session.specs.Obeying.{Drives, FailsTrying, GaveUp, SaysNoTries, StopsTrying, TriesIn, TriesOut, TryDoes, tried_as}
+use Rattle.scoop_session.specs.Noting.{tried_as}
+use Rattle.scoop_session.specs.Obeying.{Drives, FailsTrying, GaveUp, SaysNoTries, StopsTrying, TriesIn, TriesOut, TryDoes}
 use Rattle.scoop_session.specs.Obeying.{tried, refused, left, kept}
 use Rattle.scoop_session.specs.Obeying.{between, locking}
 

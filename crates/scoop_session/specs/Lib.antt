@@ -2,8 +2,10 @@ pub mod Answering
 pub mod Conditions
 pub mod Diary
 pub mod Endings
+pub mod Noting
 pub mod Obeying
 pub mod Parting
 pub mod Saying
 pub mod Settling
+pub mod Taking
 pub mod Unlocking

@@ -1,5 +1,6 @@
 -- The commands and turns of a client for one line, by the reply to it.
 use Rattle.std.specs.Prelude.{◌≡◌, ℕ, ◌<◌, ◌≤◌, ◌⊎◌, Bool, true, false, List, [], ◌∷◌, ◌++◌, Option, Some, None, Result, Ok, Err, ⊤}
+use Rattle.scoop_message.specs.declared.name.Block.{Block}
 use Rattle.scoop_message.specs.declared.name.HandlerId.{HandlerId}
 use Rattle.scoop_message.specs.declared.request.Answer.{Answer}
 use Rattle.scoop_message.specs.declared.request.Request.{Request}
@@ -7,6 +8,7 @@ use Rattle.scoop_client.specs.declared.error.ClientError.TheVariants.{NotReserve
 use Rattle.scoop_client.specs.declared.command.Command.TheVariants.{Reserve as DoReserve, Call as DoCall, End as DoEnd, GiveUp as DoGiveUp}
 use Rattle.scoop_client.specs.declared.phase.Phase.TheVariants.{Idle}
 use Rattle.scoop_client.specs.State.{phase_of}
+use Rattle.scoop_client.specs.Commands.{next_block}
 use Rattle.scoop_driver.specs.declared.error.DriverError.{DriverError}
 use Rattle.scoop_driver.specs.declared.error.DriverError.TheVariants.{Client, TurnsOver, LinkFault, ConditionFailed, Interrupted}
 use Rattle.scoop_driver.specs.declared.step.Step.{Step}
@@ -14,6 +16,7 @@ use Rattle.scoop_driver.specs.Steps.{commands_by}
 use Rattle.scoop_driver.specs.State.{Seen, Goes}
 use Rattle.scoop_driver.specs.Calls.{Called, Queried, RunsNext}
 use Rattle.scoop_driver.specs.declared.condition.BodyEntry.{BodyEntry}
+use Rattle.scoop_driver.specs.declared.condition.BodyEntry.TheVariants.{Call, Query}
 use Rattle.scoop_driver.specs.Wishes.{Wish as Waited, handler_of, wish_for}
 use Rattle.scoop_driver.specs.Waiting.{WaitGives}
 use Rattle.scoop_system.specs.declared.line.ClientLine.{ClientLine}
@@ -22,6 +25,7 @@ use Rattle.scoop_texts.specs.declared.reply.Reply.{Reply}
 use Rattle.scoop_texts.specs.declared.reply.Reply.TheVariants.{Reserved, Logged, Answered, Ended, Noted, EndedAt, GivenUp, Refused, NotInWhen}
 use Rattle.scoop_session.specs.declared.wish.Wish.{Wish}
 use Rattle.scoop_session.specs.Answering.{answered}
+use Rattle.scoop_session.specs.Noting.{WaitsAfter, tried_as}
 
 -- ---- outside a block that waits for its condition
 
@@ -65,8 +69,12 @@ abbrev pub GivesUp : Result (Unit {0}) DriverError → Seen → Seen → Type 0
 GivesUp (Ok u) old new = GaveUp old new
 GivesUp (Err e) old new = SaysNoTries e × Drives old new
 
+-- the same, and it is the client's next block
+abbrev pub RunsAs : Block → List HandlerId → ℕ → Seen → Seen → Type 0
+RunsAs block hs turns old new = (block ≡ next_block old.client) × RunsBlock hs turns old new
+
 abbrev pub ReserveDoes : List HandlerId → ℕ → Result Reply DriverError → Seen → Seen → Type 0
-ReserveDoes hs turns (Ok (Reserved block)) old new = RunsBlock hs turns old new
+ReserveDoes hs turns (Ok (Reserved block)) old new = RunsAs block hs turns old new
 ReserveDoes hs turns (Ok GivenUp) old new = BeganAndGaveUp hs turns old new
 ReserveDoes hs turns (Ok reply) old new = ⊥
 ReserveDoes hs turns (Err e) old new = Drives old new
@@ -123,15 +131,11 @@ DoesOutside (line.ReserveWhen hs conditions tries) turns outcome old new = WhenD
 
 -- ---- inside such a block
 
--- the handlers, the condition and the body of a block, as a driver tries it
-abbrev pub tried_as : Wish → Waited
-tried_as w = wish_for w.handlers w.condition.items w.body.items
-
 -- an entry was noted, or its handler isn't the block's
-abbrev pub NoteDoes : Wish → Wish → BodyEntry → Result Reply DriverError → Type 0
-NoteDoes old new entry (Ok Noted) = tried_as new ≡ wish_for old.handlers old.condition.items (old.body.items ++ entry ∷ [])
-NoteDoes old new entry (Ok reply) = reply ≡ Refused (NotReserved (handler_of entry))
-NoteDoes old new entry (Err e) = e ≡ Client OutOfMemory
+abbrev pub NotesAs : BodyEntry → Result Reply DriverError → Type 0
+NotesAs entry (Ok Noted) = ⊤
+NotesAs entry (Ok reply) = reply ≡ Refused (NotReserved (handler_of entry))
+NotesAs entry (Err e) = e ≡ Client OutOfMemory
 
 -- the block was tried again and again, with this result; the queries of its body have these answers
 abbrev pub TriesOut : Waited → ℕ → Result ℕ DriverError → List Answer → Seen → Seen → Type 0
@@ -172,8 +176,8 @@ DoesInside line.Help w outcome answers old new = (outcome ≡ Ok NotInWhen) × (
 DoesInside line.Quit w outcome answers old new = (outcome ≡ Ok NotInWhen) × (new ≡ old)
 DoesInside line.GiveUp w outcome answers old new = (outcome ≡ Ok GivenUp) × (new ≡ old)
 DoesInside (line.Reserve hs) w outcome answers old new = (outcome ≡ Ok NotInWhen) × (new ≡ old)
-DoesInside (line.Call h r) w outcome answers old new = new ≡ old
-DoesInside (line.Query h r) w outcome answers old new = new ≡ old
+DoesInside (line.Call h r) w outcome answers old new = NotesAs (Call h r) outcome × (new ≡ old)
+DoesInside (line.Query h r) w outcome answers old new = NotesAs (Query h r) outcome × (new ≡ old)
 DoesInside line.End w outcome answers old new = TryDoes w outcome answers old new
 DoesInside (line.ReserveWhen hs conditions tries) w outcome answers old new = (outcome ≡ Ok NotInWhen) × (new ≡ old)
 
@@ -188,8 +192,11 @@ abbrev pub replied_with : Result Reply DriverError → Result Reply DriverError
 replied_with (Ok reply) = Ok reply
 replied_with (Err e) = answered e
 
--- the line was done, and this is the reply to its outcome, after these answers
-pub record Obeys (line : ClientLine) (w : Option Wish) (turns : ℕ) (result : Result Reply DriverError) (answers : List Answer) (old new : Seen) : Type 0 where
+-- The line was done, and this is the reply to its outcome, after these answers. One block waited for its condition before the
+-- line, if any, and one waits after it.
+pub record Obeys
+    (line : ClientLine) (w v : Option Wish) (turns : ℕ) (result : Result Reply DriverError) (answers : List Answer) (old new : Seen) : Type 0 where
   pub outcome : Result Reply DriverError
   pub does : Does line w turns outcome answers old new
+  pub waits : WaitsAfter line w outcome v
   pub replies : result ≡ replied_with outcome

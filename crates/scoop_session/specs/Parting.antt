@@ -1,7 +1,6 @@
 -- The block that a session leaves at its end.
-use Rattle.std.specs.Prelude.{◌≡◌, Bool, true, ⊤, List, is_some, Option, Some, None}
+use Rattle.std.specs.Prelude.{◌≡◌, Bool, true, ⊤, List, is_some}
 use Rattle.std.specs.List.{list_any}
-use Rattle.scoop_message.specs.declared.name.Block.{Block}
 use Rattle.scoop_message.specs.declared.name.HandlerId.{HandlerId}
 use Rattle.scoop_client.specs.declared.phase.Phase.{Phase}
 use Rattle.scoop_client.specs.declared.phase.Phase.TheVariants.{Greeting, Idle, Locking, Opening, Running, Ending, GivingUp}
@@ -18,12 +17,6 @@ is_awaited c h = is_some (due c h)
 -- a message is due to one of these handlers
 abbrev pub owes : ClientState → List HandlerId → Bool
 owes c handlers = list_any (is_awaited c) handlers
-
--- the last block and its handlers, if a client has had one
-abbrev pub last_of : Option Block → Option (List HandlerId) → Option (Block × List HandlerId)
-last_of None handlers = None
-last_of (Some block) None = None
-last_of (Some block) (Some handlers) = Some (block, handlers)
 
 -- a client in this phase has no block
 abbrev pub HasNoBlock : Phase → Type 0

@@ -9,7 +9,7 @@ ghost use Rattle.scoop_driver.specs.Calls.{Called, Queried};
 ghost use Rattle.scoop_driver.specs.Waiting.{WaitsWith};
 ghost use Rattle.scoop_driver.specs.Wishes.{queries, wish_for};
 ghost use Rattle.scoop_session.specs.Diary.{IsSettled};
-ghost use Rattle.scoop_session.specs.Obeying.{Drives, RunsBlock};
+ghost use Rattle.scoop_session.specs.Obeying.{Drives, RunsAs};
 
 use crate::session::Session;
 use scoop_driver::{BodyEntry, ConditionPart, DriverError, NoInterrupt, Pause, WaitingBlock};
@@ -23,7 +23,7 @@ impl<'j, L: Link, J: Write + Drop> Session<'j, L, J> {
     /// for them until this client's next call. If the turns don't suffice for that, later calls go on with it. Refused as
     /// [`scoop_driver::Driver::reserve`].
     pub fn reserve_block(&mut self, handlers: &[HandlerId]) -> Result<Block, DriverError>
-        ensures runs { IfOk result (λ _. RunsBlock handlers.now self.old.driver.turns self.old.driver.seen self.new.driver.seen) }
+        ensures runs { IfOk result (λ block. RunsAs block handlers.now self.old.driver.turns self.old.driver.seen self.new.driver.seen) }
         ensures drives { Drives self.old.driver.seen self.new.driver.seen }
         ensures turns { self.new.driver.turns ≡ self.old.driver.turns }
         ensures settled { OnErr result (IsSettled self.new.driver.diary.failure self.new.driver.diary.journal.now) }

@@ -1,7 +1,6 @@
-//! The diary of a client: its last block, and its journal if it writes one.
+//! The diary of a client: what it logged in its last block, and its journal if it writes one.
 
 ghost use Rattle.std.specs.Prelude.{◌≡◌, ⊤, None, IsTrue, OnErr, OnOk};
-ghost use Rattle.scoop_client.specs.State.{block_of};
 ghost use Rattle.scoop_journal.specs.declared.line.Line.TheVariants.{Broke as BrokeLine, Do as DoLine, Turn as TurnLine};
 ghost use Rattle.scoop_session.specs.Saying.{AreAmong, due_to};
 ghost use Rattle.scoop_session.specs.Diary.{Ends, Gathers, HasFailed, IsReady, IsSettled, TakesAll, arrival_of};
@@ -10,7 +9,7 @@ use crate::said::{are_among, find_due};
 use scoop_client::{Client, HandlerList, MAX_NAMED_HANDLERS};
 use scoop_driver::{Command, Diary, Received};
 use scoop_journal::{AppendError, Arrival, Journal, Line};
-use scoop_message::{Block, HandlerId, Message, OutOfMemory};
+use scoop_message::{HandlerId, Message, OutOfMemory};
 use std::alloc::{Allocator, Global};
 use std::io::Write;
 use std::mem;
@@ -18,12 +17,11 @@ use std::mem;
 // The most lines that wait to be written.
 const MAX_LINES: u32 = 64;
 
-/// A diary that keeps only the block that the client had after its last command. It has the block's handlers, and how
-/// many calls and queries the client has logged at each. If there is a journal, it gathers a line of each step there. The
+/// A diary that keeps the handlers of the client's last block, and how many calls and queries the client has logged at
+/// each. If there is a journal, it gathers a line of each step there. The
 /// lines are written before the client sends a message that it hasn't said, before an answer, when they are many, and when
 /// the diary is let go. After a line that isn't written it refuses every further step.
 pub(crate) struct LastBlock<'j, J: Write + Drop> {
-    block: Option<Block>,
     handlers: Option<HandlerList>,
     logged: [u32; MAX_NAMED_HANDLERS],
     said: Vec<Message>,
@@ -43,7 +41,6 @@ impl<'j, J: Write + Drop> LastBlock<'j, J> {
     /// The diary of a client that has taken no command.
     pub(crate) fn new(alloc: Global, journal: &'j mut Option<Journal<J>>) -> LastBlock<'j, J> {
         LastBlock {
-            block: None,
             handlers: None,
             logged: [0; MAX_NAMED_HANDLERS],
             said: Vec::new(alloc),
@@ -60,7 +57,6 @@ impl<'j, J: Write + Drop> LastBlock<'j, J> {
     {
         let _refused = self.write();
         let LastBlock {
-            block: _,
             handlers: _,
             logged: _,
             said: _,
@@ -70,13 +66,6 @@ impl<'j, J: Write + Drop> LastBlock<'j, J> {
             failure: _,
         } = self;
         journal
-    }
-
-    /// The block that the client had after its last command.
-    pub(crate) fn block(&self) -> Option<Block>
-        ensures { result ≡ self.now.block }
-    {
-        self.block
     }
 
     /// Why a line isn't written, if that happened.
@@ -90,7 +79,6 @@ impl<'j, J: Write + Drop> LastBlock<'j, J> {
     fn gather(&mut self, line: &Line<'_>)
         ensures gathered { self.new.failure ≡ None → Gathers self.old.journal.now self.new.journal.now line.now }
         ensures sticky { self.new.failure ≡ None → self.old.failure ≡ None }
-        ensures block { self.new.block ≡ self.old.block }
     {
         if self.failure.is_some() {
             return;
@@ -108,7 +96,6 @@ impl<'j, J: Write + Drop> LastBlock<'j, J> {
         ensures sticky { OnOk result (self.old.failure ≡ None) }
         ensures whole { OnOk result (self.new.failure ≡ None) }
         ensures settled { IsSettled self.new.failure self.new.journal.now }
-        ensures block { self.new.block ≡ self.old.block }
         ensures said { self.new.said ≡ self.old.said }
         ensures due { self.new.due ≡ self.old.due }
     {
@@ -130,7 +117,6 @@ impl<'j, J: Write + Drop> LastBlock<'j, J> {
         ensures found { OnOk result (self.new.due.items ≡ due_to client.now client.now.handlers) }
         ensures journal { self.new.journal ≡ self.old.journal }
         ensures failure { OnOk result (self.new.failure ≡ self.old.failure) }
-        ensures block { self.new.block ≡ self.old.block }
         ensures said { self.new.said ≡ self.old.said }
     {
         match find_due(&mut self.due, client) {
@@ -147,13 +133,6 @@ impl<'j, J: Write + Drop> LastBlock<'j, J> {
         ensures { IsTrue result → AreAmong self.now.said.items self.now.due.items }
     {
         self.lines < MAX_LINES && are_among(&self.said, &self.due)
-    }
-
-    /// The handlers of the last block.
-    pub(crate) fn handlers(&self) -> Option<HandlerList>
-        ensures { result ≡ self.now.handlers }
-    {
-        self.handlers
     }
 
     /// The number of the entry that the client has logged last at this handler. 0 if it has logged none there.
@@ -177,7 +156,6 @@ impl<'j, J: Write + Drop> LastBlock<'j, J> {
     fn count(&mut self, handler: HandlerId)
         ensures journal { self.new.journal ≡ self.old.journal }
         ensures failure { self.new.failure ≡ self.old.failure }
-        ensures block { self.new.block ≡ self.old.block }
     {
         if let Some(place) = self.place_of(handler) {
             if let Some(number) = self.logged.get_mut(place) {
@@ -190,7 +168,6 @@ impl<'j, J: Write + Drop> LastBlock<'j, J> {
     fn record(&mut self, command: &Command)
         ensures journal { self.new.journal ≡ self.old.journal }
         ensures failure { self.new.failure ≡ self.old.failure }
-        ensures block { self.new.block ≡ self.old.block }
     {
         match command {
             Command::Reserve(handlers) => {
@@ -251,7 +228,6 @@ impl<'j, A: Allocator, J: Write + Drop> Diary<A> for LastBlock<'j, J> {
     fn make_room(&mut self) -> Result<(), OutOfMemory>
         ensures room { OnOk result ⊤ }
         ensures whole { OnOk result (self.old.failure ≡ None) }
-        ensures block { self.new.block ≡ self.old.block }
         ensures failure { self.new.failure ≡ self.old.failure }
     {
         match self.failure {
@@ -264,7 +240,6 @@ impl<'j, A: Allocator, J: Write + Drop> Diary<A> for LastBlock<'j, J> {
         ensures ready { OnOk result (IsReady J.contents client.now self.old.said.items self.new.said.items self.old.journal.now self.new.journal.now) }
         ensures whole { OnOk result (self.new.failure ≡ None) }
         ensures sticky { OnOk result (self.old.failure ≡ None) }
-        ensures block { self.new.block ≡ self.old.block }
     {
         if self.failure.is_some() {
             return Err(OutOfMemory);
@@ -293,17 +268,14 @@ impl<'j, A: Allocator, J: Write + Drop> Diary<A> for LastBlock<'j, J> {
         ensures whole { OnOk result (self.new.failure ≡ None) }
         ensures sticky { OnOk result (self.old.failure ≡ None) }
         ensures settled { IsSettled self.new.failure self.new.journal.now }
-        ensures block { self.new.block ≡ self.old.block }
     {
         self.write()
     }
 
-    fn gave(&mut self, client: &Client<A>, command: Command)
+    fn gave(&mut self, _client: &Client<A>, command: Command)
         ensures gathered { self.new.failure ≡ None → Gathers self.old.journal.now self.new.journal.now (DoLine command) }
         ensures sticky { self.new.failure ≡ None → self.old.failure ≡ None }
-        ensures block { self.new.block ≡ block_of client.now.reservation }
     {
-        self.block = client.block();
         self.record(&command);
         self.gather(&Line::Do(command));
     }
@@ -311,7 +283,6 @@ impl<'j, A: Allocator, J: Write + Drop> Diary<A> for LastBlock<'j, J> {
     fn turned(&mut self, _client: &Client<A>, received: Received)
         ensures gathered { self.new.failure ≡ None → Gathers self.old.journal.now self.new.journal.now (TurnLine (arrival_of received)) }
         ensures sticky { self.new.failure ≡ None → self.old.failure ≡ None }
-        ensures block { self.new.block ≡ self.old.block }
     {
         self.gather(&Line::Turn(arrival_of(&received)));
     }
@@ -319,7 +290,6 @@ impl<'j, A: Allocator, J: Write + Drop> Diary<A> for LastBlock<'j, J> {
     fn broke(&mut self, _client: &Client<A>, place: usize)
         ensures gathered { self.new.failure ≡ None → Gathers self.old.journal.now self.new.journal.now (BrokeLine place) }
         ensures sticky { self.new.failure ≡ None → self.old.failure ≡ None }
-        ensures block { self.new.block ≡ self.old.block }
     {
         self.gather(&Line::Broke(place));
     }

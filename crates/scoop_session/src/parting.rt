@@ -5,14 +5,15 @@ ghost use Rattle.scoop_client.specs.State.{phase_of};
 ghost use Rattle.scoop_client.specs.declared.phase.Phase.TheVariants.{Idle};
 ghost use Rattle.scoop_session.specs.Diary.{IsSettled, IsWritten};
 ghost use Rattle.scoop_session.specs.Obeying.{Drives, GivesUp, SaysNoTries, TakesTurnsOnly};
-ghost use Rattle.scoop_session.specs.Parting.{Leaves, is_awaited, last_of, owes};
+ghost use Rattle.scoop_session.specs.Parting.{Leaves, is_awaited, owes};
 ghost use Rattle.scoop_session.specs.Endings.{input_ended};
 
 use crate::session::Session;
-use scoop_client::{HandlerList, Phase};
+use scoop_client::Phase;
 use scoop_driver::{DriverError, Interrupt, NoInterrupt};
 use scoop_link::Link;
-use scoop_message::{Block, HandlerId, OutOfMemory};
+use scoop_message::{HandlerId, OutOfMemory};
+use scoop_reserve::Reservation;
 use std::alloc::Global;
 use std::io::Write;
 
@@ -120,6 +121,7 @@ impl<'j, L: Link, J: Write + Drop> Session<'j, L, J> {
         ensures idle { OnOk result (phase_of self.new.driver.seen.client ≡ Idle) }
         ensures tries { IfErr result SaysNoTries }
         ensures turned { TakesTurnsOnly self.old.driver.seen self.new.driver.seen }
+        ensures wish { self.new.wish ≡ self.old.wish }
     {
         for taken in 0..turns {
             if self.driver.phase() == Phase::Idle {
@@ -143,7 +145,8 @@ impl<'j, L: Link, J: Write + Drop> Session<'j, L, J> {
         turns: u64,
         interrupt: &mut I,
     ) -> Result<(), DriverError>
-        ensures { GivesUp result self.old.driver.seen self.new.driver.seen }
+        ensures given { GivesUp result self.old.driver.seen self.new.driver.seen }
+        ensures wish { self.new.wish ≡ self.old.wish }
     {
         match self.driver.give_up() {
             Ok(()) => self.rest(turns, interrupt),
@@ -182,11 +185,10 @@ impl<'j, L: Link, J: Write + Drop> Session<'j, L, J> {
         self.driver.diary().failure().is_none()
     }
 
-    /// The last block of the client and its handlers. `None` if it has reserved none.
-    pub fn last_block(&self) -> Option<(Block, HandlerList)>
-        ensures { result ≡ last_of self.now.driver.diary.block self.now.driver.diary.handlers }
+    /// The reservation of the client's block. `None` if it has no block.
+    pub fn reservation(&self) -> Option<Reservation>
+        ensures { result ≡ self.now.driver.seen.client.reservation }
     {
-        let last = self.driver.diary();
-        Some((last.block()?, last.handlers()?))
+        self.driver.client().reservation()
     }
 }

@@ -1,12 +1,15 @@
 //! A client session driven by text lines.
 
-ghost use Rattle.std.specs.Prelude.{◌≡◌, ◌⊎◌, [], None, Ok, Err, OnOk, IsFalse, IsTrue, IfOk, IfErr, IfSome, ◌≤◌, false, is_some};
+ghost use Rattle.std.specs.Prelude.{◌≡◌, ◌⊎◌, ◌++◌, [], None, Some, Ok, Err, OnOk, IsFalse, IsTrue, IfOk, IfErr, IfSome, ◌≤◌, false, is_some, map};
 ghost use Rattle.scoop_client.specs.State.{phase_of};
 ghost use Rattle.scoop_client.specs.declared.command.Command.TheVariants.{Reserve as DoReserve};
 ghost use Rattle.scoop_driver.specs.Calls.{Called, Interrupted};
+ghost use Rattle.scoop_driver.specs.Wishes.{wish_for};
 ghost use Rattle.scoop_session.specs.Answering.{answered};
-ghost use Rattle.scoop_session.specs.Obeying.{CallDoes, DoesInside, DoesOutside, Drives, EndDoes, GiveUpDoes, NoteDoes, Obeys, QueryDoes, ReserveDoes, RunsBlock};
-ghost use Rattle.scoop_session.specs.Obeying.{TakesTurnsOnly, TriesIn, TryDoes, WhenDoes, is_quiet, tried_as};
+ghost use Rattle.scoop_session.specs.Conditions.{part_of};
+ghost use Rattle.scoop_session.specs.Noting.{BeginsToWait, NoteDoes, WaitsEnded, WaitsInside, WaitsNoted, WaitsOutside, tried_as};
+ghost use Rattle.scoop_session.specs.Obeying.{CallDoes, DoesInside, DoesOutside, Drives, EndDoes, GiveUpDoes, NotesAs, Obeys, QueryDoes, ReserveDoes, RunsAs};
+ghost use Rattle.scoop_session.specs.Obeying.{TakesTurnsOnly, TriesIn, TryDoes, WhenDoes, is_quiet};
 ghost use Rattle.scoop_session.specs.Endings.{ended_by, first_awaited, input_ended, over_at, unwritten};
 ghost use Rattle.scoop_session.specs.Diary.{Ends, IsSettled};
 ghost use Rattle.scoop_session.specs.Settling.{Settles, SettlesFor, may_wait};
@@ -79,15 +82,18 @@ fn noted(wish: &mut Wish, entry: &BodyEntry) -> Result<Reply, DriverError>
 }
 
 // Gives the block its condition. Refuses the first part whose handler the block lacks.
-fn ask_all(wish: &mut Wish, conditions: &[NamedCondition]) -> Result<(), DriverError> {
-    for condition in conditions {
-        match wish.ask(condition) {
-            Ok(true) => {}
-            Ok(false) => return Err(DriverError::Client(ClientError::NotReserved(condition.asked))),
-            Err(_) => return Err(DriverError::Client(ClientError::OutOfMemory)),
-        }
+fn ask_all(wish: &mut Wish, conditions: &[NamedCondition]) -> Result<(), DriverError>
+    ensures asked { OnOk result (wish.new.condition.items ≡ wish.old.condition.items ++ map part_of conditions.now) }
+    ensures kept { (wish.new.handlers ≡ wish.old.handlers) × (wish.new.body.items ≡ wish.old.body.items) × (wish.new.tries ≡ wish.old.tries) }
+{
+    let [first, rest @ ..] = conditions else {
+        return Ok(());
+    };
+    match wish.ask(first) {
+        Ok(true) => ask_all(wish, rest),
+        Ok(false) => Err(DriverError::Client(ClientError::NotReserved(first.asked))),
+        Err(_) => Err(DriverError::Client(ClientError::OutOfMemory)),
     }
-    Ok(())
 }
 
 // The error with which a session ends when its turns are over, by the client's phase and the handler that it waits for.
@@ -221,9 +227,9 @@ impl<'j, L: Link, J: Write + Drop> Session<'j, L, J> {
         pause: &mut P,
         interrupt: &mut I,
     ) -> Result<Option<Reply>, DriverError>
-        ensures replied { IfOk result (λ replied. IfSome replied (λ reply. Obeys line.now self.old.wish self.old.driver.turns (Ok reply) self.new.answers.items self.old.driver.seen self.new.driver.seen)) }
-        ensures ended { IfErr result (λ e. Obeys line.now self.old.wish self.old.driver.turns (Err e) self.new.answers.items self.old.driver.seen self.new.driver.seen) }
-        ensures quiet { result ≡ Ok None → IsTrue (is_quiet line.now) × (self.new.driver.seen ≡ self.old.driver.seen) }
+        ensures replied { IfOk result (λ replied. IfSome replied (λ reply. Obeys line.now self.old.wish self.new.wish self.old.driver.turns (Ok reply) self.new.answers.items self.old.driver.seen self.new.driver.seen)) }
+        ensures ended { IfErr result (λ e. Obeys line.now self.old.wish self.new.wish self.old.driver.turns (Err e) self.new.answers.items self.old.driver.seen self.new.driver.seen) }
+        ensures quiet { result ≡ Ok None → IsTrue (is_quiet line.now) × (self.new.driver.seen ≡ self.old.driver.seen) × (self.new.wish ≡ self.old.wish) }
         ensures drives { Drives self.old.driver.seen self.new.driver.seen }
         ensures settled { Settles result self.new.driver.diary.failure self.new.driver.diary.journal.now }
     {
@@ -244,6 +250,7 @@ impl<'j, L: Link, J: Write + Drop> Session<'j, L, J> {
         ensures settled { SettlesFor replied.now self.new.driver.diary.failure self.new.driver.diary.journal.now }
         ensures seen { self.new.driver.seen ≡ self.old.driver.seen }
         ensures answers { self.new.answers ≡ self.old.answers }
+        ensures wish { self.new.wish ≡ self.old.wish }
     {
         match replied {
             Ok(reply) if may_wait(reply) => {}
@@ -269,7 +276,7 @@ impl<'j, L: Link, J: Write + Drop> Session<'j, L, J> {
         pause: &mut P,
         interrupt: &mut I,
     ) -> Result<Reply, DriverError>
-        ensures { Obeys line.now self.old.wish self.old.driver.turns result self.new.answers.items self.old.driver.seen self.new.driver.seen }
+        ensures { Obeys line.now self.old.wish self.new.wish self.old.driver.turns result self.new.answers.items self.old.driver.seen self.new.driver.seen }
     {
         let outcome = match self.wish.take() {
             Some(wish) => self.obey_inside(wish, line, pause, interrupt),
@@ -284,28 +291,54 @@ impl<'j, L: Link, J: Write + Drop> Session<'j, L, J> {
     // Does what a line asks inside a block that waits for its condition.
     fn obey_inside<P: Pause, I: Interrupt>(
         &mut self,
-        mut wish: Wish,
+        wish: Wish,
         line: &ClientLine,
         pause: &mut P,
         interrupt: &mut I,
     ) -> Result<Reply, DriverError>
-        ensures { DoesInside line.now wish result self.new.answers.items self.old.driver.seen self.new.driver.seen }
+        requires { self.old.wish ≡ None }
+        ensures does { DoesInside line.now wish result self.new.answers.items self.old.driver.seen self.new.driver.seen }
+        ensures waits { WaitsInside line.now wish result self.new.wish }
     {
-        let reply = match line {
-            ClientLine::End => return self.end_wish(wish, pause, interrupt),
+        match line {
+            ClientLine::End => self.end_wish(wish, pause, interrupt),
             ClientLine::Call(handler, request) => {
-                noted(&mut wish, &BodyEntry::Call(*handler, *request))?
+                self.note_line(wish, &BodyEntry::Call(*handler, *request))
             }
             ClientLine::Query(handler, request) => {
-                noted(&mut wish, &BodyEntry::Query(*handler, *request))?
+                self.note_line(wish, &BodyEntry::Query(*handler, *request))
             }
-            ClientLine::GiveUp => return Ok(Reply::GivenUp),
-            ClientLine::Blank | ClientLine::Help | ClientLine::Quit => Reply::NotInWhen,
-            ClientLine::Reserve(_) => Reply::NotInWhen,
-            ClientLine::ReserveWhen { .. } => Reply::NotInWhen,
-        };
+            ClientLine::GiveUp => Ok(Reply::GivenUp),
+            ClientLine::Blank | ClientLine::Help | ClientLine::Quit => self.refuse_inside(wish),
+            ClientLine::Reserve(_) => self.refuse_inside(wish),
+            ClientLine::ReserveWhen { .. } => self.refuse_inside(wish),
+        }
+    }
+
+    // Notes a call or a query of a block that waits for its condition.
+    #[tactic(auto, using(crate::proofs::Noted::notes_as, crate::proofs::Noted::waits_noted))]
+    fn note_line(&mut self, mut wish: Wish, entry: &BodyEntry) -> Result<Reply, DriverError>
+        ensures notes { NotesAs entry.now result }
+        ensures waits { WaitsNoted wish entry.now result self.new.wish }
+        ensures driver { self.new.driver ≡ self.old.driver }
+    {
+        match noted(&mut wish, entry) {
+            Ok(reply) => {
+                self.wish = Some(wish);
+                Ok(reply)
+            }
+            Err(error) => Err(error),
+        }
+    }
+
+    // The reply to a line that has no place in a block that waits for its condition.
+    fn refuse_inside(&mut self, wish: Wish) -> Result<Reply, DriverError>
+        ensures refused { result ≡ Ok Reply.NotInWhen }
+        ensures waits { self.new.wish ≡ Some wish }
+        ensures driver { self.new.driver ≡ self.old.driver }
+    {
         self.wish = Some(wish);
-        Ok(reply)
+        Ok(Reply::NotInWhen)
     }
 
     // Does what a line asks outside of such a block.
@@ -314,7 +347,8 @@ impl<'j, L: Link, J: Write + Drop> Session<'j, L, J> {
         line: &ClientLine,
         interrupt: &mut I,
     ) -> Result<Reply, DriverError>
-        ensures { DoesOutside line.now self.old.driver.turns result self.old.driver.seen self.new.driver.seen }
+        ensures does { DoesOutside line.now self.old.driver.turns result self.old.driver.seen self.new.driver.seen }
+        ensures waits { WaitsOutside line.now result self.old.wish self.new.wish }
     {
         match line {
             ClientLine::Blank | ClientLine::Help | ClientLine::Quit => Ok(Reply::Noted),
@@ -338,7 +372,8 @@ impl<'j, L: Link, J: Write + Drop> Session<'j, L, J> {
         request: Request,
         interrupt: &mut I,
     ) -> Result<Reply, DriverError>
-        ensures { QueryDoes handler request self.old.driver.turns result self.old.driver.seen self.new.driver.seen }
+        ensures does { QueryDoes handler request self.old.driver.turns result self.old.driver.seen self.new.driver.seen }
+        ensures wish { self.new.wish ≡ self.old.wish }
     {
         match self.driver.query_unless(handler, request, interrupt) {
             Ok(answer) => Ok(Reply::Answered(answer)),
@@ -348,7 +383,8 @@ impl<'j, L: Link, J: Write + Drop> Session<'j, L, J> {
 
     // Ends the block.
     fn end<I: Interrupt>(&mut self, interrupt: &mut I) -> Result<Reply, DriverError>
-        ensures { EndDoes self.old.driver.turns result self.old.driver.seen self.new.driver.seen }
+        ensures does { EndDoes self.old.driver.turns result self.old.driver.seen self.new.driver.seen }
+        ensures wish { self.new.wish ≡ self.old.wish }
     {
         match self.driver.end_unless(&mut Patient::new(interrupt)) {
             Ok(()) => Ok(Reply::Ended),
@@ -358,7 +394,8 @@ impl<'j, L: Link, J: Write + Drop> Session<'j, L, J> {
 
     // Gives up the block, and takes turns until its locks are given back.
     fn give_back<I: Interrupt>(&mut self, interrupt: &mut I) -> Result<Reply, DriverError>
-        ensures { GiveUpDoes result self.old.driver.seen self.new.driver.seen }
+        ensures does { GiveUpDoes result self.old.driver.seen self.new.driver.seen }
+        ensures wish { self.new.wish ≡ self.old.wish }
     {
         match self.give_up(self.turns, &mut Patient::new(interrupt)) {
             Ok(()) => Ok(Reply::GivenUp),
@@ -374,18 +411,19 @@ impl<'j, L: Link, J: Write + Drop> Session<'j, L, J> {
         handlers: &[HandlerId],
         interrupt: &mut I,
     ) -> Result<Option<Block>, DriverError>
-        ensures runs { IfOk result (λ locked. IfSome locked (λ _. RunsBlock handlers.now self.old.driver.turns self.old.driver.seen self.new.driver.seen)) }
+        ensures runs { IfOk result (λ locked. IfSome locked (λ block. RunsAs block handlers.now self.old.driver.turns self.old.driver.seen self.new.driver.seen)) }
         ensures stopped { result ≡ Ok None → Interrupted I.stops interrupt.new }
         ensures begun { result ≡ Ok None → Called (DoReserve handlers.now) self.old.driver.turns (Ok false) self.old.driver.seen self.new.driver.seen }
         ensures drives { Drives self.old.driver.seen self.new.driver.seen }
         ensures turns { self.new.driver.turns ≡ self.old.driver.turns }
+        ensures wish { self.new.wish ≡ self.old.wish }
     {
         match self.driver.reserve_unless(handlers, interrupt) {
             Ok(true) => {}
             Ok(false) => return Ok(None),
             Err(error) => return Err(error),
         }
-        let Some(block) = self.driver.diary().block() else {
+        let Some(block) = self.driver.client().block() else {
             return Err(DriverError::Client(ClientError::NoBlock));
         };
         match self.unlock(handlers, interrupt) {
@@ -403,7 +441,8 @@ impl<'j, L: Link, J: Write + Drop> Session<'j, L, J> {
         handlers: &NamedHandlers,
         interrupt: &mut I,
     ) -> Result<Reply, DriverError>
-        ensures { ReserveDoes handlers.now self.old.driver.turns result self.old.driver.seen self.new.driver.seen }
+        ensures does { ReserveDoes handlers.now self.old.driver.turns result self.old.driver.seen self.new.driver.seen }
+        ensures wish { self.new.wish ≡ self.old.wish }
     {
         match self.lock(handlers.as_slice(), interrupt) {
             Ok(Some(block)) => Ok(Reply::Reserved(block)),
@@ -421,6 +460,7 @@ impl<'j, L: Link, J: Write + Drop> Session<'j, L, J> {
         ensures unlocked { OnOk result (IsFalse (owes_unlock self.new.driver.seen.client handlers.now)) }
         ensures turned { TakesTurnsOnly self.old.driver.seen self.new.driver.seen }
         ensures turns { self.new.driver.turns ≡ self.old.driver.turns }
+        ensures wish { self.new.wish ≡ self.old.wish }
     {
         for taken in 0..self.turns {
             if !self.owes_unlock(handlers) {
@@ -454,7 +494,8 @@ impl<'j, L: Link, J: Write + Drop> Session<'j, L, J> {
         request: Request,
         interrupt: &mut I,
     ) -> Result<Reply, DriverError>
-        ensures { CallDoes handler request self.old.driver.turns result self.old.driver.seen self.new.driver.seen }
+        ensures does { CallDoes handler request self.old.driver.turns result self.old.driver.seen self.new.driver.seen }
+        ensures wish { self.new.wish ≡ self.old.wish }
     {
         match self.driver.call_unless(handler, request, interrupt) {
             Ok(()) => {}
@@ -471,7 +512,8 @@ impl<'j, L: Link, J: Write + Drop> Session<'j, L, J> {
         conditions: &NamedConditions,
         tries: u32,
     ) -> Result<Reply, DriverError>
-        ensures { WhenDoes result self.old.driver.seen self.new.driver.seen }
+        ensures does { WhenDoes result self.old.driver.seen self.new.driver.seen }
+        ensures waits { BeginsToWait (wish_for handlers.now (map part_of conditions.now) []) tries result self.old.wish self.new.wish }
     {
         if self.driver.phase() != Phase::Idle {
             return Err(DriverError::Client(ClientError::NotIdle));
@@ -492,7 +534,9 @@ impl<'j, L: Link, J: Write + Drop> Session<'j, L, J> {
         pause: &mut P,
         interrupt: &mut I,
     ) -> Result<Reply, DriverError>
-        ensures { TryDoes wish result self.new.answers.items self.old.driver.seen self.new.driver.seen }
+        requires { self.old.wish ≡ None }
+        ensures does { TryDoes wish result self.new.answers.items self.old.driver.seen self.new.driver.seen }
+        ensures waits { WaitsEnded result self.new.wish }
     {
         let error = match self.try_wish(&wish, pause, interrupt) {
             Ok(tried) => return Ok(Reply::EndedAt(tried)),
@@ -528,7 +572,8 @@ impl<'j, L: Link, J: Write + Drop> Session<'j, L, J> {
         pause: &mut P,
         interrupt: &mut I,
     ) -> Result<u32, DriverError>
-        ensures { TriesIn (tried_as wish.now) wish.now.tries result self.new.answers.items self.old.driver.seen self.new.driver.seen }
+        ensures tries { TriesIn (tried_as wish.now) wish.now.tries result self.new.answers.items self.old.driver.seen self.new.driver.seen }
+        ensures wish { self.new.wish ≡ self.old.wish }
     {
         let tries = wish.tries();
         if tries == 0 {
@@ -557,6 +602,7 @@ impl<'j, L: Link, J: Write + Drop> Session<'j, L, J> {
         ensures stops { (result ≡ Ok Reply.GivenUp) ⊎ (result ≡ Err DriverError.Interrupted) }
         ensures answers { self.new.answers.items ≡ [] }
         ensures driver { self.new.driver ≡ self.old.driver }
+        ensures wish { result ≡ Ok Reply.GivenUp → self.new.wish ≡ self.old.wish }
     {
         self.answers.clear();
         if interrupt.leaves() {

@@ -1,6 +1,6 @@
 //! A block that waits for its condition.
 
-ghost use Rattle.std.specs.Prelude.{◌≡◌, ◌++◌, ◌∷◌, [], None, IfOk, IsTrue};
+ghost use Rattle.std.specs.Prelude.{◌≡◌, ◌++◌, ◌∷◌, [], None, IfOk, IsFalse, IsTrue};
 ghost use Rattle.std.specs.List.{count_by};
 ghost use Rattle.scoop_driver.specs.Wishes.{wish_for, first_outside, handler_of, queries};
 ghost use Rattle.scoop_session.specs.Conditions.{is_query, part_of, test_of};
@@ -87,6 +87,7 @@ impl Wish {
     /// Adds an entry to its body. Returns whether the block has the handler; without it nothing is added.
     pub(crate) fn note(&mut self, entry: &BodyEntry) -> Result<bool, OutOfMemory>
         ensures noted { IfOk result (λ is_noted. IsTrue is_noted → self.new.body.items ≡ self.old.body.items ++ entry.now ∷ []) }
+        ensures unnoted { IfOk result (λ is_noted. IsFalse is_noted → self.new.body.items ≡ self.old.body.items) }
         ensures listed { IfOk result (λ is_noted. is_noted ≡ has self.old.handlers (handler_of entry.now)) }
         ensures kept { (self.new.handlers ≡ self.old.handlers) × (self.new.condition.items ≡ self.old.condition.items) × (self.new.tries ≡ self.old.tries) }
     {

@@ -3,4 +3,6 @@ use Rattle.scoop_session.specs.Obeying.{TakesTurnsOnly}
 use Rattle.scoop_session.proofs.session.Session.unlock.Given as goal
 
 abbrev pub invariant-loop-taken : goal.invariant-loop-taken
-invariant-loop-taken g l = TakesTurnsOnly l.initial.self.driver.seen l.self.driver.seen × (l.self.driver.turns ≡ l.initial.self.driver.turns)
+invariant-loop-taken g l =
+    TakesTurnsOnly l.initial.self.driver.seen l.self.driver.seen × (l.self.driver.turns ≡ l.initial.self.driver.turns)
+    × (l.self.wish ≡ l.initial.self.wish)
