@@ -1,16 +1,19 @@
 -- A client's lives, one after another. The first is that of its session. A second one may cut the block that the session left.
-use Rattle.std.proofs.Common.{◌≡◌, ℕ, Bool, true, false, List, [], ◌∷◌, Option, Some, None, Result, Ok, Err, refl, sym, ap, subst, ◌∙◌, arith}
+use Rattle.std.proofs.Common.{◌≡◌, ℕ, Bool, true, false, List, [], ◌∷◌, ◌++◌, Option, Some, None, Result, Ok, Err, refl, sym, ap, subst, ◌∙◌, arith}
 use Rattle.std.specs.Prelude.{OnOk}
+use Rattle.std.specs.Io.KnownBytes.{Appends, Keeps}
 use Rattle.scoop_message.specs.declared.name.Block.{Block}
 use Rattle.scoop_message.specs.declared.name.ClientId.{ClientId}
 use Rattle.scoop_message.specs.declared.name.HandlerId.{HandlerId}
+use Rattle.scoop_reserve.specs.State.{ReservationState}
 use Rattle.scoop_client.specs.declared.phase.Phase.{Phase}
 use Rattle.scoop_client.specs.declared.phase.Phase.TheVariants.{Greeting, Idle, Locking, Opening, Running, Ending, GivingUp}
 use Rattle.scoop_client.specs.State.{ClientState, phase_of}
 use Rattle.scoop_keeper.specs.Keeper.{IsSame}
 use Rattle.scoop_driver.specs.declared.step.Step.{Step}
 use Rattle.scoop_driver.specs.Steps.{AllCan, walk}
-use Rattle.scoop_driver.specs.State.{Seen}
+use Rattle.scoop_driver.specs.State.{Goes, Seen}
+use Rattle.scoop_driver.proofs.StepLists.{goes_on}
 use Rattle.scoop_texts.specs.declared.error.RuntimeError.{RuntimeError}
 use Rattle.scoop_session.specs.declared.parting.Left.{Left}
 use Rattle.scoop_session.specs.declared.parting.Left.TheVariants as left
@@ -18,13 +21,15 @@ use Rattle.scoop_texts.specs.declared.progress.ClientStop.{ClientStop}
 use Rattle.scoop_texts.specs.declared.progress.Unended.{Unended}
 use Rattle.scoop_texts.specs.declared.progress.Unended.TheVariants.{Nothing, When, GivenUp, Cut, Held}
 use Rattle.scoop_runtime.specs.Beginnings.{BeginsNext}
-use Rattle.scoop_runtime.specs.ClientLives.{AreLives, BeginsNone, ClientLife, ClientRan, LivesAtMostOnce, LivesBy, LivesOf, LivesOn}
-use Rattle.scoop_runtime.specs.ClientLives.{LivesThen, RunsLives, Lived, Unbegun, it_stays, it_takes}
+use Rattle.scoop_runtime.specs.ClientLives.{AreLives, BeginsNone, ClientLife, ClientRan, HasBlock, LivesAtMostOnce, LivesBy, LivesOf, LivesOn, LivesWith}
+use Rattle.scoop_runtime.specs.ClientLives.{LivesThen, RunsLives, Lived, Unbegun, Writes, it_stays, it_takes}
 use Rattle.scoop_runtime.specs.Cutting.{BecomesOf, PartsFrom}
+use Rattle.scoop_runtime.specs.Printing.{Output, PrintsRun, SessionDone, SessionPrints, output_of, unended_line}
+use Rattle.scoop_session.specs.declared.wish.Wish.{Wish}
 use Rattle.scoop_session.specs.Obeying.{Drives}
 use Rattle.scoop_session.specs.Parting.{Leaves}
 use Rattle.scoop_session.specs.Endings.{input_ended}
-use Rattle.scoop_session.proofs.Driven.{drives_both}
+use Rattle.scoop_runtime.proofs.Printed.{keeps_same, session_goes}
 
 same_incarnations : (i : ℕ → Option ℕ) → IsSame i i
 same_incarnations i = record { each = λ c. refl }
@@ -62,19 +67,13 @@ module _ (id : ClientId) (batch : ℕ) (known : List HandlerId) where
     abbrev lives_first : (steps : List Step) (more : List ClientLife) → LivesThen (Lived c steps between ∷ more) more
     lives_first steps more = record { fresh = c; steps = steps; stored = between; are = refl }
 
-    -- it ended early
-    same_nothing : (last : Option (Block × List HandlerId)) → PartsFrom id batch known last Nothing between new later → later → IsSame between new
+    same_nothing : (last : Option ReservationState) → PartsFrom id batch known last Nothing between new later → later → IsSame between new
     same_nothing None parts = parts.1
-    same_nothing (Some x) parts = parts
+    same_nothing (Some r) parts = parts
 
-    same_when : (last : Option (Block × List HandlerId)) → PartsFrom id batch known last When between new later → later → IsSame between new
+    same_when : (last : Option ReservationState) → PartsFrom id batch known last When between new later → later → IsSame between new
     same_when None parts = parts.1
-    same_when (Some x) parts = parts
-
-    same_given_up : (b : Block) (last : Option (Block × List HandlerId)) → PartsFrom id batch known last (GivenUp b) between new later → later
-        → IsSame between new
-    same_given_up b None parts = parts.1
-    same_given_up b (Some x) parts = parts
+    same_when (Some r) parts = parts
 
     gave_up : (b : Block) (rest : Left) → BecomesOf rest (GivenUp b) → rest ≡ left.GivenUp
     gave_up b left.Nothing becomes = cc
@@ -82,96 +81,141 @@ module _ (id : ClientId) (batch : ℕ) (known : List HandlerId) where
     gave_up b left.GivenUp becomes = refl
     gave_up b left.Open becomes = absurd becomes
 
-    module _ (e : RuntimeError) (rest : Left) (on : LivesOn c (Err e) rest) where
-      abbrev early : Unended → Type 0
-      early u = RunsLives {E = RuntimeError} id batch known old new later (Err e) u
-
+    module _ (piped told : Bool) (o written p : Option (List ℕ)) (ended : Result (Unit {0}) RuntimeError) (rest : Left) (last : Option ReservationState)
+        (on : LivesOn piped id o written c ended rest last) where
       alone : (later → IsSame between new) → AreLives id batch known later old (Lived c on.steps between ∷ []) new
       alone same = first_then on.steps [] on.can same
 
-      ran_cut : (b : Block) (last : Option (Block × List HandlerId)) → PartsFrom id batch known last (Cut b) between new later → early (Cut b)
-      ran_cut b None parts = absurd parts.0
-      ran_cut b (Some x) parts = record {
-        lives = Lived c on.steps between ∷ Lived parts.fresh parts.steps new ∷ [];
-        are = first_then on.steps (Lived parts.fresh parts.steps new ∷ []) on.can (parts.begins, parts.can, λ _. same_incarnations new);
-        by_end = record {
-          later = Lived parts.fresh parts.steps new ∷ [];
-          first = lives_first on.steps (Lived parts.fresh parts.steps new ∷ []);
-          last = record { fresh = parts.fresh; steps = parts.steps; stored = new; are = refl };
-          silent = parts.silent;
-          handlers = x.1;
-          greeted = parts.greeted;
-        };
-      }
+      -- the block that the client had
+      with_block : (more : List ClientLife) (b : Block) (r : ReservationState) → last ≡ Some r → b ≡ r.block → LivesWith (Lived c on.steps between ∷ more) more b
+      with_block more b r is named =
+          record { first = lives_first on.steps more; handlers = r.handlers; block = subst (λ x. HasBlock c on.steps x r.handlers) (sym named) (on.block r is) }
 
-      ran_held : (b : Block) (last : Option (Block × List HandlerId)) → PartsFrom id batch known last (Held b) between new later → early (Held b)
-      ran_held b None parts = record {
-        lives = Lived c on.steps between ∷ [];
-        are = alone parts.1;
-        by_end = record { later = []; first = lives_first on.steps []; few = omega arith };
-      }
-      ran_held b (Some x) parts = record {
-        lives = Lived c on.steps between ∷ parts.lives;
-        are = first_then on.steps parts.lives on.can parts.are;
-        by_end = record { later = parts.lives; first = lives_first on.steps parts.lives; few = parts.few };
-      }
+      module _ (u : Unended) (text : told ≡ true → Appends written p (unended_line piped u)) where
+        abbrev out : Output
+        out = output_of piped o p told
 
-      ran_early : (last : Option (Block × List HandlerId)) (u : Unended) → PartsFrom id batch known last u between new later → BecomesOf rest u → early u
-      ran_early last Nothing parts becomes =
-          record { lives = Lived c on.steps between ∷ []; are = alone (same_nothing last parts); by_end = omega arith }
-      ran_early last When parts becomes =
-          record { lives = Lived c on.steps between ∷ []; are = alone (same_when last parts); by_end = lives_first on.steps [] }
-      ran_early last (GivenUp b) parts becomes = record {
-        lives = Lived c on.steps between ∷ [];
-        are = alone (same_given_up b last parts);
-        by_end = record { once = lives_first on.steps []; idle = on.given_up (gave_up b rest becomes) };
-      }
-      ran_early last (Cut b) parts becomes = ran_cut b last parts
-      ran_early last (Held b) parts becomes = ran_held b last parts
+        wrote : PrintsRun id ended u out c on.steps
+        wrote = record { written = written; life = on.prints; parting = text }
 
-    pub ran_lives : (ended : Result (Unit {0}) RuntimeError) (rest : Left) (last : Option (Block × List HandlerId)) (u : Unended)
-        → LivesOn c ended rest → PartsFrom id batch known last u between new later → BecomesOf rest u
-        → RunsLives {E = RuntimeError} id batch known old new later ended u
-    ran_lives (Ok done) rest last u on parts becomes =
+      module _ (e : RuntimeError) (is : ended ≡ Err e) where
+        abbrev Early : Unended → Type 0
+        Early u = RunsLives id batch known old new later ended u (output_of piped o p told)
+
+        early : (u : Unended) (more : List ClientLife) → (told ≡ true → Appends written p (unended_line piped u))
+            → AreLives id batch known later old (Lived c on.steps between ∷ more) new → LivesBy u (Lived c on.steps between ∷ more) → Early u
+        early u more text are by = record {
+          lives = Lived c on.steps between ∷ more;
+          are = are;
+          by_end = subst (λ r. LivesOf r u (Lived c on.steps between ∷ more)) (sym is) by;
+          whole = subst (λ r. OnOk r ((u ≡ Nothing) × (told ≡ true))) (sym is) tt;
+          writes = wrote u text;
+        }
+
+        ran_given_up : (b : Block) (l : Option ReservationState) → last ≡ l → (told ≡ true → Appends written p (unended_line piped (GivenUp b)))
+            → PartsFrom id batch known l (GivenUp b) between new later → BecomesOf rest (GivenUp b) → Early (GivenUp b)
+        ran_given_up b None same text parts becomes = absurd parts.0
+        ran_given_up b (Some r) same text parts becomes =
+            early (GivenUp b) [] text (alone parts.1) (record { had = with_block [] b r same parts.0; idle = on.given_up (gave_up b rest becomes) })
+
+        ran_cut : (b : Block) (l : Option ReservationState) → last ≡ l → (told ≡ true → Appends written p (unended_line piped (Cut b)))
+            → PartsFrom id batch known l (Cut b) between new later → Early (Cut b)
+        ran_cut b None same text parts = absurd parts.0
+        ran_cut b (Some r) same text parts =
+            let cut = parts.1 in
+            let more : List ClientLife = Lived cut.fresh cut.steps new ∷ [] in
+            early (Cut b) more text (first_then on.steps more on.can (cut.begins, cut.can, λ _. same_incarnations new)) (record {
+              later = more;
+              had = with_block more b r same parts.0;
+              last = record { fresh = cut.fresh; steps = cut.steps; stored = new; are = refl };
+              silent = cut.silent;
+              greeted = cut.greeted;
+            })
+
+        ran_held : (b : Block) (l : Option ReservationState) → last ≡ l → (told ≡ true → Appends written p (unended_line piped (Held b)))
+            → PartsFrom id batch known l (Held b) between new later → Early (Held b)
+        ran_held b None same text parts = absurd parts.0
+        ran_held b (Some r) same text parts =
+            let again = parts.1 in
+            early (Held b) again.lives text (first_then on.steps again.lives on.can again.are)
+            (record { later = again.lives; had = with_block again.lives b r same parts.0; few = again.few })
+
+        ran_early : (u : Unended) → (told ≡ true → Appends written p (unended_line piped u)) → PartsFrom id batch known last u between new later
+            → BecomesOf rest u → Early u
+        ran_early Nothing text parts becomes = early Nothing [] text (alone (same_nothing last parts)) (omega arith)
+        ran_early When text parts becomes = early When [] text (alone (same_when last parts)) (lives_first on.steps [])
+        ran_early (GivenUp b) text parts becomes = ran_given_up b last refl text parts becomes
+        ran_early (Cut b) text parts becomes = ran_cut b last refl text parts
+        ran_early (Held b) text parts becomes = ran_held b last refl text parts
+
+    ran_well : (piped told : Bool) (o written p : Option (List ℕ)) (rest : Left) (last : Option ReservationState) (u : Unended)
+        → LivesOn piped id o written c (Ok (tt {0})) rest last → (told ≡ true → Appends written p (unended_line piped u)) → (u ≡ Nothing → told ≡ true)
+        → PartsFrom id batch known last u between new later → BecomesOf rest u
+        → RunsLives id batch known old new later (Ok (tt {0})) u (output_of piped o p told)
+    ran_well piped told o written p rest last u on text all parts becomes =
         let none : u ≡ Nothing = subst (λ r. BecomesOf r u) on.nothing becomes in
         let same = same_nothing last (subst (λ v. PartsFrom id batch known last v between new later) none parts) in
         record {
           lives = Lived c on.steps between ∷ [];
           are = first_then on.steps [] on.can same;
           by_end = record { once = lives_first on.steps []; idle = on.idle };
+          whole = (none, all none);
+          writes = record { written = written; life = on.prints; parting = text };
         }
-    ran_lives (Err e) rest last u on parts becomes = ran_early e rest on last u parts becomes
+
+    pub ran_lives : (piped told : Bool) (o written p : Option (List ℕ)) (ended : Result (Unit {0}) RuntimeError) (rest : Left) (last : Option ReservationState)
+        (u : Unended) → LivesOn piped id o written c ended rest last → (told ≡ true → Appends written p (unended_line piped u)) → (u ≡ Nothing → told ≡ true)
+        → PartsFrom id batch known last u between new later → BecomesOf rest u → RunsLives id batch known old new later ended u (output_of piped o p told)
+    ran_lives piped told o written p (Ok done) rest last u on text all parts becomes = ran_well piped told o written p rest last u on text all parts becomes
+    ran_lives piped told o written p (Err e) rest last u on text all parts becomes =
+        ran_early piped told o written p (Err e) rest last on e refl u text parts becomes
 
   -- no client began
-  ran_early_none : (old new : ℕ → Option ℕ) (honest : Type 0) (e : RuntimeError) → BeginsNone id old new honest
-      → RunsLives {E = RuntimeError} id batch known old new honest (Err e) Nothing
-  ran_early_none old new honest e none =
+  writes_none : (e : RuntimeError) (out : Output) (old new : ℕ → Option ℕ) (honest : Type 0) (none : BeginsNone id old new honest) → Keeps out.before out.after
+      → Writes id (Err e) Nothing out (lives_none old new honest none).lives
+  writes_none e out old new honest (it_stays stays) keeps = keeps
+  writes_none e out old new honest (it_takes takes) keeps = keeps
+
+  ran_early_none : (old new : ℕ → Option ℕ) (honest : Type 0) (e : RuntimeError) (out : Output) → BeginsNone id old new honest → Keeps out.before out.after
+      → RunsLives id batch known old new honest (Err e) Nothing out
+  ran_early_none old new honest e out none keeps =
       let once = lives_none old new honest none in
-      record { lives = once.lives; are = once.are; by_end = once.few }
+      record { lives = once.lives; are = once.are; by_end = once.few; whole = tt; writes = writes_none e out old new honest none keeps }
 
-  pub ran_none : (old new : ℕ → Option ℕ) (honest : Type 0) (ended : Result (Unit {0}) RuntimeError) (u : Unended) (e : RuntimeError)
-      → BeginsNone id old new honest → ended ≡ Err e → u ≡ Nothing → RunsLives {E = RuntimeError} id batch known old new honest ended u
-  ran_none old new honest ended u e none is nothing =
-      subst (λ r. RunsLives {E = RuntimeError} id batch known old new honest r u) (sym is)
-      (subst (λ v. RunsLives {E = RuntimeError} id batch known old new honest (Err e) v) (sym nothing) (ran_early_none old new honest e none))
+  pub ran_none : (piped told : Bool) (o : Option (List ℕ)) (old new : ℕ → Option ℕ) (honest : Type 0) (ended : Result (Unit {0}) RuntimeError) (u : Unended)
+      (e : RuntimeError) → BeginsNone id old new honest → ended ≡ Err e → u ≡ Nothing
+      → RunsLives id batch known old new honest ended u (output_of piped o o told)
+  ran_none piped told o old new honest ended u e none is nothing =
+      let out : Output = output_of piped o o told in
+      subst (λ r. RunsLives id batch known old new honest r u out) (sym is)
+      (subst (λ v. RunsLives id batch known old new honest (Err e) v out) (sym nothing) (ran_early_none old new honest e out none (keeps_same o)))
 
-  pub ran_nowhere : (old : ℕ → Option ℕ) (honest : Type 0) (ended : Result (Unit {0}) RuntimeError) (u : Unended) (e : RuntimeError)
-      → ended ≡ Err e → u ≡ Nothing → RunsLives {E = RuntimeError} id batch known old old honest ended u
-  ran_nowhere old honest ended u e is nothing = ran_none old old honest ended u e (it_stays (λ _. same_incarnations old)) is nothing
+  pub ran_nowhere : (piped told : Bool) (o : Option (List ℕ)) (old : ℕ → Option ℕ) (honest : Type 0) (ended : Result (Unit {0}) RuntimeError) (u : Unended)
+      (e : RuntimeError) → ended ≡ Err e → u ≡ Nothing → RunsLives id batch known old old honest ended u (output_of piped o o told)
+  ran_nowhere piped told o old honest ended u e is nothing =
+      ran_none piped told o old old honest ended u e (it_stays (λ _. same_incarnations old)) is nothing
 
   -- ---- the whole run
 
-  pub client_ran_well : (old new : ℕ → Option ℕ) (honest : Type 0) (ended : Result (Unit {0}) RuntimeError) (u : Unended) → ended ≡ Ok (tt {0})
-      → RunsLives {E = RuntimeError} id batch known old new honest ended u → ClientRan id batch known old new honest (Ok (tt {0}))
-  client_ran_well old new honest ended u is runs =
-      record { lives = runs.lives; are = runs.are; by_end = subst (λ r. LivesOf {E = RuntimeError} r u runs.lives) is runs.by_end }
+  abbrev Ran : (old new : ℕ → Option ℕ) (honest : Type 0) (ended : Result (Unit {0}) RuntimeError) (u : Unended) (out : Output) → Type 0
+  Ran old new honest ended u out = RunsLives id batch known old new honest ended u out
 
-  pub client_ran_early : (old new : ℕ → Option ℕ) (honest : Type 0) (ended : Result (Unit {0}) RuntimeError) (u : Unended) (e : RuntimeError)
-      (stop : ClientStop) → ended ≡ Err e → stop.progress.unended ≡ u → RunsLives {E = RuntimeError} id batch known old new honest ended u
-      → ClientRan id batch known old new honest (Err stop)
-  client_ran_early old new honest ended u e stop is left_so runs =
-      let by : LivesBy u runs.lives = subst (λ r. LivesOf {E = RuntimeError} r u runs.lives) is runs.by_end in
-      record { lives = runs.lives; are = runs.are; by_end = subst (λ v. LivesBy v runs.lives) (sym left_so) by }
+  pub client_ran_well : (piped told : Bool) (o p : Option (List ℕ)) (old new : ℕ → Option ℕ) (honest : Type 0) (ended : Result (Unit {0}) RuntimeError)
+      (u : Unended) → ended ≡ Ok (tt {0}) → Ran old new honest ended u (output_of piped o p told)
+      → ClientRan id batch known old new honest piped o p (Ok (tt {0}))
+  client_ran_well piped told o p old new honest ended u is runs =
+      let well : Ran old new honest (Ok (tt {0})) u (output_of piped o p told) = subst (λ r. Ran old new honest r u (output_of piped o p told)) is runs in
+      subst (λ v. Ran old new honest (Ok (tt {0})) v (output_of piped o p true)) well.whole.0
+      (subst (λ b. Ran old new honest (Ok (tt {0})) u (output_of piped o p b)) well.whole.1 well)
+
+  pub client_ran_early : (piped told : Bool) (o p : Option (List ℕ)) (old new : ℕ → Option ℕ) (honest : Type 0) (ended : Result (Unit {0}) RuntimeError)
+      (u : Unended) (e : RuntimeError) (stop : ClientStop) → ended ≡ Err e → stop.error ≡ e → stop.progress.unended ≡ u → stop.progress.is_told ≡ told
+      → Ran old new honest ended u (output_of piped o p told) → ClientRan id batch known old new honest piped o p (Err stop)
+  client_ran_early piped told o p old new honest ended u e stop is error left_so told_so runs =
+      let by : Ran old new honest (Err e) u (output_of piped o p told) = subst (λ r. Ran old new honest r u (output_of piped o p told)) is runs in
+      subst (λ x. Ran old new honest (Err x) stop.progress.unended (output_of piped o p stop.progress.is_told)) (sym error)
+      (subst (λ v. Ran old new honest (Err e) v (output_of piped o p stop.progress.is_told)) (sym left_so)
+      (subst (λ b. Ran old new honest (Err e) u (output_of piped o p b)) (sym told_so) by))
 
 -- ---- a session
 
@@ -204,18 +248,42 @@ given_back left.GivenUp waits t u leaves is = leaves
 given_back left.Open waits t u leaves is = cc
 
 -- the steps of a session, and of what it did at its end
-pub lives_on : (c : ClientState) (waits : Bool) (ended : Result (Unit {0}) RuntimeError) (rest : Left) (s t u : Seen) → s.client ≡ c → Drives s t
-    → OnOk ended (input_ended waits (phase_of t.client) ≡ Ok (tt {0})) → Leaves rest waits t u → Drives t u
-    → (input_ended waits (phase_of t.client) ≡ Ok (tt {0}) → rest ≡ left.Nothing) → LivesOn c ended rest
-lives_on c waits ended rest s t u is first well leaves last nothing =
-    let both = drives_both s t u first last in
-    let goes = both.1 in
-    let now : phase_of u.client ≡ phase_of (walk c both.0) = ap phase_of goes.client ∙ ap (λ d. phase_of (walk d both.0)) is in
+pub lives_on : (is_piped : Bool) (id : ClientId) (inc : ℕ) (o p : Option (List ℕ)) (w : Option Wish) (c : ClientState) (waits : Bool)
+    (ended : Result (Unit {0}) RuntimeError) (rest : Left) (last : Option ReservationState) (s t u : Seen) → s.client ≡ c → w ≡ None → inc ≡ c.inc
+    → SessionPrints is_piped id inc ended o p w s t → OnOk ended (input_ended waits (phase_of t.client) ≡ Ok (tt {0})) → last ≡ t.client.reservation
+    → Leaves rest waits t u → Drives t u → (input_ended waits (phase_of t.client) ≡ Ok (tt {0}) → rest ≡ left.Nothing)
+    → LivesOn is_piped id o p c ended rest last
+lives_on is_piped id inc o p w c waits ended rest last s t u is fresh named prints well had leaves parts nothing =
+    let session : List Step = prints.0 in
+    let first : Goes session s t = session_goes is_piped id inc ended o p w session s t prints.1 in
+    let steps : List Step = session ++ parts.0 in
+    let goes : Goes steps s u = goes_on session parts.0 s t u first parts.1 in
+    let now : phase_of u.client ≡ phase_of (walk c steps) = ap phase_of goes.client ∙ ap (λ d. phase_of (walk d steps)) is in
+    let before : t.client ≡ walk c session = first.client ∙ ap (λ d. walk d session) is in
     record {
-      steps = both.0;
-      can = subst (λ d. AllCan d both.0) is goes.can;
+      steps = steps;
+      can = subst (λ d. AllCan d steps) is goes.can;
       idle = if_well _ _ ended
           (λ over. sym now ∙ idle_left rest waits t u leaves (nothing over) (ended_idle waits (phase_of t.client) over)) well;
       nothing = if_well _ _ ended nothing well;
       given_up = λ gave. sym now ∙ given_back rest waits t u leaves gave;
+      block = λ r there. record {
+        earlier = session;
+        later = parts.0;
+        are = refl;
+        reservation = r;
+        reserves = sym (ap (λ (d : ClientState). d.reservation) before) ∙ (sym had ∙ there);
+        block = refl;
+        over = refl;
+      };
+      prints = record {
+        opening = s;
+        closing = t;
+        fresh = is;
+        session = session;
+        parting = parts.0;
+        are = refl;
+        prints = subst (λ x. SessionDone is_piped id c.inc ended o p x session s t) fresh
+            (subst (λ n. SessionDone is_piped id n ended o p w session s t) named prints.1);
+      };
     }

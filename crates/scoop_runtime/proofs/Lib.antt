@@ -1,5 +1,7 @@
 mod ClientLives
 mod Cut
+mod Lines
 mod Members
 mod Names
 mod NodeLives
+mod Printed

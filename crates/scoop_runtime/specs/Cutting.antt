@@ -1,10 +1,9 @@
 -- Cuts of a client's blocks, and their texts.
-use Rattle.std.specs.Prelude.{◌≡◌, ℕ, ⊤, List, [], ◌∷◌, ◌++◌, codes, Bool, false, if◌then◌else◌, Option, Some, None}
+use Rattle.std.specs.Prelude.{◌≡◌, ℕ, ⊤, List, [], ◌∷◌, ◌++◌, codes, false, Option, Some, None}
 use Rattle.std.specs.Fmt.{decimal}
-use Rattle.scoop_message.specs.declared.name.Block.{Block}
 use Rattle.scoop_message.specs.declared.name.ClientId.{ClientId}
 use Rattle.scoop_message.specs.declared.name.HandlerId.{HandlerId}
-use Rattle.scoop_message.specs.Text.{block_text}
+use Rattle.scoop_reserve.specs.State.{ReservationState}
 use Rattle.scoop_client.specs.State.{ClientState}
 use Rattle.scoop_keeper.specs.Keeper.{IsSame}
 use Rattle.scoop_driver.specs.declared.step.Step.{Step}
@@ -28,21 +27,22 @@ pub record Cuts (id : ClientId) (batch : ℕ) (known handlers : List HandlerId) 
   pub silent : commands_by steps ≡ []
   pub greeted : owes (walk fresh steps) handlers ≡ false
 
--- A block that is reported as cut is cut. One that may be held still had at most one more life. Else no incarnation was taken.
-abbrev pub Parts : ClientId → ℕ → List HandlerId → List HandlerId → Unended → (ℕ → Option ℕ) → (ℕ → Option ℕ) → Type 0 → Type 0
-Parts id batch known handlers (unended.Cut b) old new is_honest = Cuts id batch known handlers old new is_honest
-Parts id batch known handlers (unended.Held b) old new is_honest = LivesAtMostOnce id batch known old new is_honest
-Parts id batch known handlers (unended.GivenUp b) old new is_honest = is_honest → IsSame old new
-Parts id batch known handlers unended.Nothing old new is_honest = is_honest → IsSame old new
-Parts id batch known handlers unended.When old new is_honest = is_honest → IsSame old new
+-- A block is reported by its own name. One that is reported as cut is cut. One that may be held still had at most one more life.
+-- Else no incarnation was taken.
+abbrev pub Parts : ClientId → ℕ → List HandlerId → ReservationState → Unended → (ℕ → Option ℕ) → (ℕ → Option ℕ) → Type 0 → Type 0
+Parts id batch known r (unended.Cut b) old new is_honest = (b ≡ r.block) × Cuts id batch known r.handlers old new is_honest
+Parts id batch known r (unended.Held b) old new is_honest = (b ≡ r.block) × LivesAtMostOnce id batch known old new is_honest
+Parts id batch known r (unended.GivenUp b) old new is_honest = (b ≡ r.block) × (is_honest → IsSame old new)
+Parts id batch known r unended.Nothing old new is_honest = is_honest → IsSame old new
+Parts id batch known r unended.When old new is_honest = is_honest → IsSame old new
 
--- no block is reported as cut
-abbrev pub IsUncut : Unended → Type 0
-IsUncut (unended.Cut b) = ⊥
-IsUncut (unended.Held b) = ⊤
-IsUncut (unended.GivenUp b) = ⊤
-IsUncut unended.Nothing = ⊤
-IsUncut unended.When = ⊤
+-- no block is reported
+abbrev pub IsNone : Unended → Type 0
+IsNone (unended.Cut b) = ⊥
+IsNone (unended.Held b) = ⊥
+IsNone (unended.GivenUp b) = ⊥
+IsNone unended.Nothing = ⊤
+IsNone unended.When = ⊤
 
 -- no block is reported as given up
 abbrev pub IsNotGivenUp : Unended → Type 0
@@ -59,10 +59,10 @@ BecomesOf left.When u = u ≡ unended.When
 BecomesOf left.GivenUp u = ⊤
 BecomesOf left.Open u = IsNotGivenUp u
 
--- the same of a client's last block and its handlers, if it had one
-abbrev pub PartsFrom : ClientId → ℕ → List HandlerId → Option (Block × List HandlerId) → Unended → (ℕ → Option ℕ) → (ℕ → Option ℕ) → Type 0 → Type 0
-PartsFrom id batch known None unended old new is_honest = IsUncut unended × (is_honest → IsSame old new)
-PartsFrom id batch known (Some last) unended old new is_honest = Parts id batch known last.1 unended old new is_honest
+-- the same of the block that a client had, if it had one
+abbrev pub PartsFrom : ClientId → ℕ → List HandlerId → Option ReservationState → Unended → (ℕ → Option ℕ) → (ℕ → Option ℕ) → Type 0 → Type 0
+PartsFrom id batch known None unended old new is_honest = IsNone unended × (is_honest → IsSame old new)
+PartsFrom id batch known (Some r) unended old new is_honest = Parts id batch known r unended old new is_honest
 
 -- the advice on how to free handlers that may hold a block of the client
 abbrev pub freeing_text : ClientId → List ℕ
@@ -72,14 +72,6 @@ freeing_text client =
 
 abbrev pub held_text : ClientId → List HandlerId → List ℕ
 held_text client hs = codes "scoop: handlers" ++ numbers_text hs ++ freeing_text client
-
--- the line of a block that a client left, if it is gone; over a pipe also of one that handlers may hold
-abbrev pub unended_line : Bool → Unended → List ℕ
-unended_line is_piped (unended.Cut b) = codes "cut " ++ block_text b ++ 10 ∷ []
-unended_line is_piped (unended.GivenUp b) = codes "given up " ++ block_text b ++ 10 ∷ []
-unended_line is_piped (unended.Held b) = if is_piped then codes "held " ++ block_text b ++ 10 ∷ [] else []
-unended_line is_piped unended.Nothing = []
-unended_line is_piped unended.When = []
 
 abbrev pub cut_text : ClientId → List HandlerId → List ℕ
 cut_text client hs = codes "cut client " ++ decimal client.0 ++ codes " at handlers" ++ numbers_text hs ++ 10 ∷ []

@@ -5,5 +5,7 @@ pub mod Members
 pub mod Modes
 pub mod ClientLives
 pub mod Cutting
+pub mod Nexts
 pub mod NodeLives
+pub mod Printing
 pub mod Records

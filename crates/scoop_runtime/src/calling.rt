@@ -9,7 +9,7 @@ ghost use Rattle.scoop_driver.specs.Calls.{Called, Queried};
 ghost use Rattle.scoop_driver.specs.Waiting.{WaitsWith};
 ghost use Rattle.scoop_driver.specs.Wishes.{queries, wish_for};
 ghost use Rattle.scoop_message.specs.declared.limits.TheConstants.{MAX_ARGS};
-ghost use Rattle.scoop_session.specs.Obeying.{Drives, RunsBlock};
+ghost use Rattle.scoop_session.specs.Obeying.{Drives, RunsAs};
 ghost use Rattle.scoop_runtime.specs.Calling.{asks_for};
 
 use crate::client::begin_client;
@@ -36,7 +36,7 @@ pub trait Calls {
 
     /// Reserves these handlers for a block, and returns the block once it runs.
     fn reserve(&mut self, handlers: &[HandlerId]) -> Result<Block, RuntimeError>
-        ensures runs { IfOk result (λ _. RunsBlock handlers.now (turns self.old) (seen self.old) (seen self.new)) }
+        ensures runs { IfOk result (λ block. RunsAs block handlers.now (turns self.old) (seen self.old) (seen self.new)) }
         ensures drives { Drives (seen self.old) (seen self.new) }
         ensures turns { turns self.new ≡ turns self.old };
 
@@ -173,8 +173,8 @@ where
             pause: _,
             mut notes,
         } = self;
+        let last = session.reservation();
         let left = session.leave();
-        let last = session.last_block();
         let (mut link, journal) = session.into_parts();
         let remains = Remains { left, last };
         let setting = Setting {
@@ -183,7 +183,7 @@ where
             known: &known,
         };
         let unended = cut_left(&setting, keeper, journal, &mut link, remains, &mut notes);
-        tell_unended(false, unended, &mut notes);
+        let _is_told = tell_unended(false, unended, &mut notes);
         unended
     }
 }

@@ -1,12 +1,19 @@
 //! A client whose commands are the lines of an input.
 
-ghost use Rattle.std.specs.Prelude.{◌≡◌, None, Ok, Err, IfOk, IsFalse, OnErr, OnOk, is_some};
+ghost use Rattle.std.specs.Prelude.{◌≡◌, ◌++◌, [], Bool, None, Ok, Err, IfErr, IfOk, IfSome, IsFalse, OnErr, OnOk, false, true, is_some};
+ghost use Rattle.std.specs.Io.KnownBytes.{Appends, Keeps};
 ghost use Rattle.scoop_client.specs.State.{phase_of};
 ghost use Rattle.scoop_keeper.specs.Keeper.{Stays};
 ghost use Rattle.scoop_system.specs.Known.{known_to};
 ghost use Rattle.scoop_runtime.specs.Beginnings.{BeginsNext};
 ghost use Rattle.scoop_runtime.specs.ClientLives.{BeginsNone, ClientRan, LivesOn, RunsLives};
-ghost use Rattle.scoop_session.specs.Obeying.{Drives, TakesTurnsOnly};
+ghost use Rattle.scoop_runtime.specs.Modes.{is_piped};
+ghost use Rattle.scoop_runtime.specs.Nexts.{LineDone, is_after_wait};
+ghost use Rattle.scoop_runtime.specs.Printing.{BreaksSo, LinesDone, Misread, Repeats, SessionPrints, deed_text, ends_wait, first_line, gives_up, is_given_up, is_unwritten};
+ghost use Rattle.scoop_runtime.specs.Printing.{output_of, standing};
+ghost use Rattle.scoop_texts.specs.Piping.{refused_text};
+ghost use Rattle.scoop_texts.specs.Texts.{replies_text};
+ghost use Rattle.scoop_session.specs.Obeying.{Drives, Obeys, TakesTurnsOnly};
 ghost use Rattle.scoop_session.specs.Parting.{owes};
 ghost use Rattle.scoop_session.specs.Endings.{input_ended};
 ghost use Rattle.scoop_session.specs.Settling.{HasFor};
@@ -121,8 +128,8 @@ impl Refusals {
 }
 
 // The next action after a line.
-#[derive(Clone, Copy, PartialEq, Eq)]
-enum Next {
+#[derive(Clone, Copy)]
+pub(crate) enum Next {
     // The next line.
     Line,
     // The next line, after one that was refused.
@@ -136,7 +143,6 @@ enum Next {
 }
 
 // Does what the line of this number asks, and writes the reply to it. `last` is what the line before led to.
-#[tactic(auto, using(crate::proofs::Names::drives_nothing))]
 fn read_and_obey<L, J, I, W, N, P>(
     plan: &ClientPlan<'_>,
     session: &mut Session<'_, L, J>,
@@ -152,18 +158,47 @@ where
     W: Write + Drop,
     N: Write + Drop,
     P: Pause + Drop,
-    ensures { Drives session.old.driver.seen session.new.driver.seen }
+    ensures { LineDone (is_piped plan.now.mode) result (W.contents console.old.output) (W.contents console.new.output)
+        (standing session.old.driver.seen session.old.wish (is_after_wait last)) session.new.driver.seen session.new.wish }
 {
-    let error = match asked_by(plan, line) {
-        Ok(ClientLine::GiveUp) if last == Next::LineAfterWait => {
+    let asked = match asked_by(plan, line) {
+        Ok(ClientLine::GiveUp) if is_after_wait(last) => {
             return give_up_again(plan, &mut console.output);
         }
-        Ok(asked) => match plan.place().unused(&asked) {
-            Some(handler) => RuntimeError::NotUsed(number, handler),
-            None => return obey_line(plan, session, &asked, console),
-        },
-        Err(fault) => RuntimeError::Line(number, fault),
+        Ok(asked) => asked,
+        Err(fault) => {
+            return misread(plan, session, RuntimeError::Line(number, fault), console);
+        }
     };
+    match plan.place().unused(&asked) {
+        Some(handler) => misread(
+            plan,
+            session,
+            RuntimeError::NotUsed(number, handler),
+            console,
+        ),
+        None => obey_line(plan, session, &asked, console),
+    }
+}
+
+// Refuses a line with this error, before the client has it.
+fn misread<L, J, I, W, N, P>(
+    plan: &ClientPlan<'_>,
+    session: &Session<'_, L, J>,
+    error: RuntimeError,
+    console: &mut Console<I, W, N, P>,
+) -> Result<Next, RuntimeError>
+where
+    L: Link,
+    J: Write + Drop,
+    I: LineSource + Interrupt,
+    W: Write + Drop,
+    N: Write + Drop,
+    P: Pause + Drop,
+    ensures next { IfOk result (λ next. is_after_wait next ≡ false) }
+    ensures text { OnOk result (Appends (W.contents console.old.output) (W.contents console.new.output) (deed_text (is_piped plan.now.mode) (Misread error))) }
+    ensures kept { IfErr result (λ e. is_unwritten e ≡ false → Keeps (W.contents console.old.output) (W.contents console.new.output)) }
+{
     let is_inside = session.input_ended().is_err();
     refuse_line(
         plan,
@@ -172,6 +207,13 @@ where
         &mut console.output,
         &mut console.notes,
     )
+}
+
+// Whether the wait of the last line was given up.
+fn is_after_wait(last: Next) -> bool
+    ensures { result ≡ is_after_wait last }
+{
+    matches!(last, Next::LineAfterWait)
 }
 
 // What a line asks. Over a pipe a remark, a line without words and `help` are unknown.
@@ -189,11 +231,18 @@ fn asked_by(plan: &ClientPlan<'_>, line: &[u8]) -> Result<ClientLine, LineFault>
 }
 
 // Writes the reply to a `giveup` that has ended a wait. Only over a pipe it is one of its own.
-fn give_up_again<W: Write>(plan: &ClientPlan<'_>, output: &mut W) -> Result<Next, RuntimeError> {
-    if plan.is_piped() {
-        print_reply_lines(plan, &[], &Reply::GivenUp, output)?;
+fn give_up_again<W: Write>(plan: &ClientPlan<'_>, output: &mut W) -> Result<Next, RuntimeError>
+    ensures next { IfOk result (λ next. is_after_wait next ≡ false) }
+    ensures text { OnOk result (Appends (W.contents output.old) (W.contents output.new) (deed_text (is_piped plan.now.mode) Repeats)) }
+    ensures unwritten { IfErr result (λ e. is_unwritten e ≡ true) }
+{
+    if !plan.is_piped() {
+        return Ok(Next::Line);
     }
-    Ok(Next::Line)
+    match print_reply_lines(plan, &[], &Reply::GivenUp, output) {
+        Ok(()) => Ok(Next::Line),
+        Err(error) => Err(error),
+    }
 }
 
 // Refuses a line with this error. That ends a script. A user reads about it, and over a pipe the program does.
@@ -203,26 +252,37 @@ fn refuse_line<W: Write, N: Write>(
     error: RuntimeError,
     output: &mut W,
     notes: &mut N,
-) -> Result<Next, RuntimeError> {
-    match (plan.mode(), error) {
-        (ClientMode::Script, error) => Err(error),
-        (ClientMode::Typed, RuntimeError::Line(number, fault)) => {
-            tell_misread(plan.system(), number, fault, notes);
+) -> Result<Next, RuntimeError>
+    ensures next { IfOk result (λ next. is_after_wait next ≡ false) }
+    ensures text { OnOk result (Appends (W.contents output.old) (W.contents output.new) (deed_text (is_piped plan.now.mode) (Misread error))) }
+    ensures kept { IfErr result (λ e. is_unwritten e ≡ false → Keeps (W.contents output.old) (W.contents output.new)) }
+{
+    match plan.mode() {
+        ClientMode::Script => Err(error),
+        ClientMode::Typed => {
+            tell_unread(plan, error, notes);
             Ok(Next::Line)
         }
-        (ClientMode::Typed, error) => {
-            tell_error(error, notes);
-            Ok(Next::Line)
-        }
-        (ClientMode::Piped, error) => {
-            tell_refused(error, output)?;
-            Ok(after_refused(is_inside))
-        }
+        ClientMode::Piped => match tell_refused(error, output) {
+            Ok(()) => Ok(after_refused(is_inside)),
+            Err(unwritten) => Err(unwritten),
+        },
+    }
+}
+
+// Writes to a user that a line can't be read, or names a handler that the client doesn't use.
+fn tell_unread<N: Write>(plan: &ClientPlan<'_>, error: RuntimeError, notes: &mut N) {
+    match error {
+        RuntimeError::Line(number, fault) => tell_misread(plan.system(), number, fault, notes),
+        error => tell_error(error, notes),
     }
 }
 
 // Writes the refusal of a line over a pipe.
-fn tell_refused<W: Write>(error: RuntimeError, output: &mut W) -> Result<(), RuntimeError> {
+fn tell_refused<W: Write>(error: RuntimeError, output: &mut W) -> Result<(), RuntimeError>
+    ensures text { OnOk result (Appends (W.contents output.old) (W.contents output.new) (refused_text error)) }
+    ensures unwritten { IfErr result (λ e. is_unwritten e ≡ true) }
+{
     match print_refused(&error, output) {
         Ok(()) => Ok(()),
         Err(_) => Err(RuntimeError::from(PartyError::Write)),
@@ -230,15 +290,40 @@ fn tell_refused<W: Write>(error: RuntimeError, output: &mut W) -> Result<(), Run
 }
 
 // The next action after a line over a pipe that was refused.
-fn after_refused(is_inside: bool) -> Next {
+fn after_refused(is_inside: bool) -> Next
+    ensures { is_after_wait result ≡ false }
+{
     if is_inside { Next::Refused } else { Next::Line }
 }
 
+fn gives_up(line: &ClientLine) -> bool
+    ensures { result ≡ gives_up line.now }
+{
+    matches!(line, ClientLine::GiveUp)
+}
+
+// Whether the reply says that the wait of another line than `giveup` was given up.
+fn ends_wait(line: &ClientLine, reply: &Reply) -> bool
+    ensures { result ≡ ends_wait line.now reply.now }
+{
+    is_given_up(reply) && !gives_up(line)
+}
+
+fn is_given_up(reply: &Reply) -> bool
+    ensures { result ≡ is_given_up reply.now }
+{
+    matches!(reply, Reply::GivenUp)
+}
+
 // The next action after this reply to a line. `is_inside` tells whether the client has a block then.
-fn next_after(plan: &ClientPlan<'_>, line: &ClientLine, reply: &Reply, is_inside: bool) -> Next {
-    let gives_up = matches!(line, ClientLine::GiveUp);
+fn next_after(plan: &ClientPlan<'_>, line: &ClientLine, reply: &Reply, is_inside: bool) -> Next
+    ensures { is_after_wait result ≡ ends_wait line.now reply.now }
+{
+    if ends_wait(line, reply) {
+        return Next::LineAfterWait;
+    }
+    let gives_up = gives_up(line);
     match reply {
-        Reply::GivenUp if !gives_up => Next::LineAfterWait,
         Reply::Refused(_) | Reply::NotInWhen if plan.is_piped() && !gives_up => {
             after_refused(is_inside)
         }
@@ -254,14 +339,18 @@ fn has_begun(error: RuntimeError) -> bool {
 }
 
 // The error of an input that has no next line. Over a pipe a line that the input doesn't give whole is refused.
-fn unread<W: Write>(plan: &ClientPlan<'_>, error: LinesError, output: &mut W) -> RuntimeError {
+fn unread<W: Write>(plan: &ClientPlan<'_>, error: LinesError, output: &mut W) -> RuntimeError
+    ensures { is_unwritten result ≡ false
+        → Appends (W.contents output.old) (W.contents output.new) (deed_text (is_piped plan.now.mode) (Misread result)) }
+{
     let error = RuntimeError::from(error);
-    if plan.is_piped() {
-        if let Err(unwritten) = tell_refused(error, output) {
-            return unwritten;
-        }
+    if !plan.is_piped() {
+        return error;
     }
-    error
+    match tell_refused(error, output) {
+        Ok(()) => error,
+        Err(unwritten) => unwritten,
+    }
 }
 
 // Does what each line of the input asks, writes one reply for each, and records the progress. Returns the lines that were
@@ -279,7 +368,8 @@ where
     W: Write + Drop,
     N: Write + Drop,
     P: Pause + Drop,
-    ensures { Drives session.old.driver.seen session.new.driver.seen }
+    ensures { LinesDone (is_piped plan.now.mode) result (W.contents console.old.output) (W.contents console.new.output) session.old.wish
+        session.old.driver.seen session.new.driver.seen }
 {
     let mut line = ArrayVec::new();
     let mut refusals = None;
@@ -326,7 +416,11 @@ where
     P: Pause + Drop,
     ensures written { OnOk result (session.new.driver.diary.failure ≡ None) }
     ensures lines { IfOk result (λ replied. HasFor replied session.new.driver.diary.journal.now) }
-    ensures drives { Drives session.old.driver.seen session.new.driver.seen }
+    ensures replied { IfOk result (λ replied. IfSome replied (λ reply. Obeys line.now session.old.wish session.new.wish session.old.driver.turns (Ok reply)
+        session.new.answers.items session.old.driver.seen session.new.driver.seen)) }
+    ensures quiet { result ≡ Ok None → (session.new.driver.seen ≡ session.old.driver.seen) × (session.new.wish ≡ session.old.wish) }
+    ensures breaks { OnErr result (BreaksSo session.old.wish session.old.driver.seen session.new.driver.seen) }
+    ensures output { console.new.output ≡ console.old.output }
 {
     let mut between = Between::new(&mut console.pause, &mut console.notes, plan.is_typed());
     let obeyed = session.obey(line, &mut between, &mut console.lines);
@@ -340,18 +434,28 @@ where
 }
 
 // Writes the reply to a line, and flushes. Over a pipe the output is flushed before the client waits for a line.
+#[tactic(auto, using(crate::proofs::Printed::appends_kept))]
 fn print_reply_lines<W: Write>(
     plan: &ClientPlan<'_>,
     answers: &[Answer],
     reply: &Reply,
     output: &mut W,
-) -> Result<(), RuntimeError> {
+) -> Result<(), RuntimeError>
+    ensures text { OnOk result (Appends (W.contents output.old) (W.contents output.new) (replies_text (is_piped plan.now.mode) answers.now reply.now)) }
+    ensures unwritten { IfErr result (λ e. is_unwritten e ≡ true) }
+{
     let is_piped = plan.is_piped();
-    let written = print_replies(is_piped, answers, reply, output);
-    if written.is_err() || !is_piped && output.flush().is_err() {
-        return Err(RuntimeError::from(PartyError::Write));
+    match print_replies(is_piped, answers, reply, output) {
+        Ok(()) => {}
+        Err(_) => return Err(RuntimeError::from(PartyError::Write)),
     }
-    Ok(())
+    if is_piped {
+        return Ok(());
+    }
+    match output.flush() {
+        Ok(()) => Ok(()),
+        Err(_) => Err(RuntimeError::from(PartyError::Write)),
+    }
 }
 
 // Does what a line asks and writes the reply.
@@ -368,7 +472,8 @@ where
     W: Write + Drop,
     N: Write + Drop,
     P: Pause + Drop,
-    ensures { Drives session.old.driver.seen session.new.driver.seen }
+    ensures { (gave_up : Bool) → LineDone (is_piped plan.now.mode) result (W.contents console.old.output) (W.contents console.new.output)
+        (standing session.old.driver.seen session.old.wish gave_up) session.new.driver.seen session.new.wish }
 {
     match line {
         ClientLine::Help => tell_help(&mut console.notes),
@@ -402,6 +507,7 @@ pub(crate) fn greet_all<L: Link, J: Write + Drop, I: Interrupt>(
     ensures greeted { OnOk result (IsFalse (owes session.new.driver.seen.client handlers.now)) }
     ensures turned { TakesTurnsOnly session.old.driver.seen session.new.driver.seen }
     ensures written { OnOk result (session.new.driver.diary.failure ≡ None) }
+    ensures wish { session.new.wish ≡ session.old.wish }
 {
     let greeted = session.greet(handlers, turns, interrupt);
     if let Some(unwritten) = session.unwritten() {
@@ -419,18 +525,23 @@ fn tell_begun<W: Write, N: Write>(
     inc: u32,
     output: &mut W,
     notes: &mut N,
-) -> Result<(), RuntimeError> {
+) -> Result<(), RuntimeError>
+    ensures text { OnOk result (Appends (W.contents output.old) (W.contents output.new) (first_line (is_piped plan.now.mode) plan.now.place.client inc)) }
+    ensures unwritten { IfErr result (λ e. is_unwritten e ≡ true) }
+{
     let client = plan.place().client;
-    if plan.is_piped() && print_first(client, inc, output).is_err() {
-        return Err(RuntimeError::from(PartyError::Write));
-    }
     tell_ready(client, plan.is_typed(), notes);
-    Ok(())
+    if !plan.is_piped() {
+        return Ok(());
+    }
+    match print_first(client, inc, output) {
+        Ok(()) => Ok(()),
+        Err(_) => Err(RuntimeError::from(PartyError::Write)),
+    }
 }
 
 // Greets, and does what the lines ask, as the client of this incarnation. Borrows the session, so that no early return has to
 // drop it.
-#[tactic(auto, using(crate::proofs::Names::drives_turned))]
 fn run_session<L, J, I, W, N, P>(
     setting: &Setting<'_, '_>,
     inc: u32,
@@ -445,7 +556,8 @@ where
     W: Write + Drop,
     N: Write + Drop,
     P: Pause + Drop,
-    ensures drives { Drives session.old.driver.seen session.new.driver.seen }
+    ensures prints { SessionPrints (is_piped setting.now.plan.now.mode) setting.now.plan.now.place.client inc result (W.contents console.old.output)
+        (W.contents console.new.output) session.old.wish session.old.driver.seen session.new.driver.seen }
     ensures ended { OnOk result (input_ended (is_some session.new.wish) (phase_of session.new.driver.seen.client) ≡ Ok (tt {0})) }
 {
     let plan = setting.plan;
@@ -489,23 +601,25 @@ where
     W: Write + Drop,
     N: Write + Drop,
     P: Pause + Drop,
-    ensures { LivesOn client result.0 result.1.left }
+    ensures { LivesOn (is_piped setting.now.plan.now.mode) setting.now.plan.now.place.client (W.contents console.old.output) (W.contents console.new.output)
+        client result.0 result.1.left result.1.last }
 {
     let link = LentLink::new(link);
     let turns = setting.plan.turns();
     let inc = client.inc();
     let mut session = Session::new(setting.alloc, client, link, turns, journal);
     let ended = run_session(setting, inc, &mut session, console, progress);
+    let last = session.reservation();
     let left = session.leave();
-    let last = session.last_block();
     (ended, Remains { left, last })
 }
 
-// How a client ended, and what became of the block that it left.
+// How a client ended, what became of the block that it left, and whether the output has the line of that.
 #[derive(Clone, Copy)]
 struct Ran {
     ended: Result<(), RuntimeError>,
     unended: Unended,
+    is_told: bool,
 }
 
 // A client that didn't begin.
@@ -515,6 +629,7 @@ fn unbegun_after(error: RuntimeError) -> Ran
     Ran {
         ended: Err(error),
         unended: Unended::Nothing,
+        is_told: true,
     }
 }
 
@@ -536,7 +651,8 @@ where
     N: Write + Drop,
     P: Pause + Drop,
     ensures lives { RunsLives setting.now.plan.now.place.client setting.now.plan.now.place.batch setting.now.known.now
-        (K.incarnations records.old.store) (K.incarnations records.new.store) (K.is_honest records.new.store) result.ended result.unended }
+        (K.incarnations records.old.store) (K.incarnations records.new.store) (K.is_honest records.new.store) result.ended result.unended
+        (output_of (is_piped setting.now.plan.now.mode) (W.contents console.old.output) (W.contents console.new.output) result.is_told) }
     ensures honest { K.is_honest records.new.store → K.is_honest records.old.store }
 {
     let client = match begin_client(setting, &mut records.store, &mut records.journal) {
@@ -559,8 +675,12 @@ where
         remains,
         &mut console.notes,
     );
-    tell_unended(setting.plan.is_piped(), unended, &mut console.output);
-    Ran { ended, unended }
+    let is_told = tell_unended(setting.plan.is_piped(), unended, &mut console.output);
+    Ran {
+        ended,
+        unended,
+        is_told,
+    }
 }
 
 // Begins the client with the handlers that it knows, runs it, and cuts the block that it left.
@@ -582,7 +702,8 @@ where
     N: Write + Drop,
     P: Pause + Drop,
     ensures lives { RunsLives plan.now.place.client plan.now.place.batch (known_to plan.now.system.now plan.now.place)
-        (K.incarnations records.old.store) (K.incarnations records.new.store) (K.is_honest records.new.store) result.ended result.unended }
+        (K.incarnations records.old.store) (K.incarnations records.new.store) (K.is_honest records.new.store) result.ended result.unended
+        (output_of (is_piped plan.now.mode) (W.contents console.old.output) (W.contents console.new.output) result.is_told) }
     ensures honest { K.is_honest records.new.store → K.is_honest records.old.store }
 {
     let known = match plan.system().known_to(alloc, &plan.place()) {
@@ -613,6 +734,10 @@ where
 /// `given up 7.1.1`. It cuts every other unended block by greeting the block's handlers with its next incarnation, and writes
 /// `cut 7.1.1`. Each takes at most 500 turns. The client writes to `notes` the handlers that don't answer, and how to
 /// free them. So a run takes at most two incarnations, and has a life with each.
+///
+/// If the output records what it holds, it gains exactly the texts of the replies to the lines that were obeyed, in order, and then
+/// the line of the unended block. Each reply means what the session's contract says of it, and together the lines took the steps of
+/// the first life (`PrintsRun`). After an error that the output can't be written nothing is said of it.
 ///
 /// `notes` is also for a user who types the lines. The client then writes there:
 /// - that every handler that it uses has welcomed it, and which lines there are;
@@ -646,12 +771,14 @@ where
     N: Write + Drop,
     P: Pause + Drop,
     ensures ran { ClientRan plan.now.place.client plan.now.place.batch (known_to plan.now.system.now plan.now.place)
-        (K.incarnations records.old.store) (K.incarnations records.new.store) (K.is_honest records.new.store) result }
+        (K.incarnations records.old.store) (K.incarnations records.new.store) (K.is_honest records.new.store) (is_piped plan.now.mode)
+        (W.contents console.old.output) (W.contents console.new.output) result }
     ensures honest { K.is_honest records.new.store → K.is_honest records.old.store }
 {
     let mut progress = Progress::new();
     let ran = run_begun(alloc, plan, records, link, console, &mut progress);
     progress.unended = ran.unended;
+    progress.is_told = ran.is_told;
     match ran.ended {
         Ok(()) => Ok(()),
         Err(error) => Err(ClientStop { error, progress }),

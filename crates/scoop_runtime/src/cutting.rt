@@ -1,34 +1,35 @@
 //! Cuts: a client's next incarnation greets its handlers.
 
-ghost use Rattle.std.specs.Prelude.{◌≡◌, OnOk};
+ghost use Rattle.std.specs.Prelude.{◌≡◌, IsOk, OnOk, true};
 ghost use Rattle.std.specs.Io.KnownBytes.{Appends};
 ghost use Rattle.scoop_keeper.specs.Keeper.{Stays};
 ghost use Rattle.scoop_system.specs.Known.{known_to};
 ghost use Rattle.scoop_runtime.specs.ClientLives.{LivesAtMostOnce};
-ghost use Rattle.scoop_runtime.specs.Cutting.{BecomesOf, Cuts, IsNotGivenUp, Parts, PartsFrom, cut_text, freeing_text, held_text, unended_line};
+ghost use Rattle.scoop_runtime.specs.Cutting.{BecomesOf, Cuts, IsNotGivenUp, Parts, PartsFrom, cut_text, freeing_text, held_text};
+ghost use Rattle.scoop_runtime.specs.Printing.{unended_line};
 
 use crate::client::{begin_client, greet_all};
 use crate::client_parts::{ClientRecord, Setting};
 use crate::plan::ClientPlan;
-use scoop_client::HandlerList;
 use scoop_driver::NoInterrupt;
 use scoop_errors::PartyError;
 use scoop_journal::Journal;
 use scoop_keeper::Keeper;
 use scoop_link::Link;
 use scoop_links::{LentLink, print_numbers};
-use scoop_message::{Block, ClientId, HandlerId};
+use scoop_message::{ClientId, HandlerId};
+use scoop_reserve::Reservation;
 use scoop_session::{Left, PARTING_TURNS, Session};
 use scoop_texts::{RuntimeError, Unended, send_out};
 use std::alloc::Global;
 use std::io;
 use std::io::Write;
 
-/// The remains of a session: what it left, and the client's last block with its handlers.
+/// The remains of a session: what it left, and the block that the client had.
 #[derive(Clone, Copy)]
 pub(crate) struct Remains {
     pub(crate) left: Left,
-    pub(crate) last: Option<(Block, HandlerList)>,
+    pub(crate) last: Option<Reservation>,
 }
 
 // The handlers that are greeted, and the most turns for it.
@@ -110,22 +111,21 @@ fn cut_block<K: Keeper<Global>, L: Link, J: Write + Drop, N: Write>(
     keeper: &mut K,
     journal: &mut Option<Journal<J>>,
     link: &mut L,
-    last: &(Block, HandlerList),
+    last: &Reservation,
     notes: &mut N,
 ) -> Unended
-    ensures parts { Parts setting.now.plan.now.place.client setting.now.plan.now.place.batch setting.now.known.now last.now.1 result
+    ensures parts { Parts setting.now.plan.now.place.client setting.now.plan.now.place.batch setting.now.known.now last.now result
         (K.incarnations keeper.old) (K.incarnations keeper.new) (K.is_honest keeper.new) }
     ensures given_up { IsNotGivenUp result }
     ensures honest { K.is_honest keeper.new → K.is_honest keeper.old }
 {
-    let (block, handlers) = last;
     let greeting = Greeting {
-        handlers: handlers.as_slice(),
+        handlers: last.handlers(),
         turns: PARTING_TURNS,
     };
     match greet_anew(setting, keeper, journal, link, &greeting, notes) {
-        Ok(()) => Unended::Cut(*block),
-        Err(_) => Unended::Held(*block),
+        Ok(()) => Unended::Cut(last.block()),
+        Err(_) => Unended::Held(last.block()),
     }
 }
 
@@ -146,14 +146,15 @@ pub(crate) fn cut_left<K: Keeper<Global>, L: Link, J: Write + Drop, N: Write>(
     match (remains.left, remains.last) {
         (Left::When, _) => Unended::When,
         (Left::Nothing, _) | (_, None) => Unended::Nothing,
-        (Left::GivenUp, Some((block, _))) => Unended::GivenUp(block),
+        (Left::GivenUp, Some(last)) => Unended::GivenUp(last.block()),
         (Left::Open, Some(last)) => cut_block(setting, keeper, journal, link, &last, notes),
     }
 }
 
 // Writes that a block is cut, or given up, and over a pipe that its handlers may hold it. Nothing is written of other blocks.
 fn print_unended<W: Write>(is_piped: bool, unended: Unended, writer: &mut W) -> io::Result<()>
-    ensures { OnOk result (Appends (W.contents writer.old) (W.contents writer.new) (unended_line is_piped unended)) }
+    ensures text { OnOk result (Appends (W.contents writer.old) (W.contents writer.new) (unended_line is_piped unended)) }
+    ensures nothing { unended ≡ Unended.Nothing → IsOk result }
 {
     match unended {
         Unended::Cut(block) => writeln!(writer, "cut {block}"),
@@ -163,10 +164,20 @@ fn print_unended<W: Write>(is_piped: bool, unended: Unended, writer: &mut W) -> 
     }
 }
 
-/// Writes the same, and flushes. The client has another error by then, so a line that can't be written is lost.
-pub(crate) fn tell_unended<W: Write>(is_piped: bool, unended: Unended, writer: &mut W) {
-    let written = print_unended(is_piped, unended, writer);
-    send_out(written, writer);
+/// Writes the same, and flushes. The client has another error by then, so a line that can't be written is lost. Returns whether
+/// it was written.
+#[tactic(auto, using(crate::proofs::Printed::appends_kept))]
+pub(crate) fn tell_unended<W: Write>(is_piped: bool, unended: Unended, writer: &mut W) -> bool
+    ensures told { result ≡ true → Appends (W.contents writer.old) (W.contents writer.new) (unended_line is_piped unended) }
+    ensures nothing { unended ≡ Unended.Nothing → result ≡ true }
+{
+    match print_unended(is_piped, unended, writer) {
+        Ok(()) => {
+            let _flushed = writer.flush();
+            true
+        }
+        Err(_) => false,
+    }
 }
 
 // Writes that the client's blocks are cut at these handlers.

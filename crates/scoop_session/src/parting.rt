@@ -54,6 +54,7 @@ impl<'j, L: Link, J: Write + Drop> Session<'j, L, J> {
     ) -> Result<(), DriverError>
         ensures greeted { OnOk result (IsFalse (owes self.new.driver.seen.client handlers.now)) }
         ensures turned { TakesTurnsOnly self.old.driver.seen self.new.driver.seen }
+        ensures wish { self.new.wish ≡ self.old.wish }
         ensures settled { IsSettled self.new.driver.diary.failure self.new.driver.diary.journal.now }
     {
         let greeted = self.turn_until_welcomed(handlers, turns, interrupt);
@@ -70,6 +71,7 @@ impl<'j, L: Link, J: Write + Drop> Session<'j, L, J> {
     ) -> Result<(), DriverError>
         ensures greeted { OnOk result (IsFalse (owes self.new.driver.seen.client handlers.now)) }
         ensures turned { TakesTurnsOnly self.old.driver.seen self.new.driver.seen }
+        ensures wish { self.new.wish ≡ self.old.wish }
     {
         for taken in 0..turns {
             if !self.owes(handlers) {

@@ -133,7 +133,8 @@ impl<'j, L: Link, J: Write + Drop> Session<'j, L, J> {
         turns: u64,
         journal: &'j mut Option<Journal<J>>,
     ) -> Session<'j, L, J>
-        ensures { result.driver.seen.client ≡ client }
+        ensures client { result.driver.seen.client ≡ client }
+        ensures wish { result.wish ≡ None }
     {
         Session {
             alloc,

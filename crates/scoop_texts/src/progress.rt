@@ -1,6 +1,6 @@
 //! The progress of a client through its lines.
 
-ghost use Rattle.std.specs.Prelude.{◌≡◌, false, None};
+ghost use Rattle.std.specs.Prelude.{◌≡◌, true, false, None};
 ghost use Rattle.scoop_texts.specs.Progress.{begun_text};
 
 use crate::error::RuntimeError;
@@ -33,6 +33,8 @@ pub struct Progress {
     pub has_begun: bool,
     /// The block that isn't ended, and what became of it.
     pub unended: Unended,
+    /// Whether the output has the line of this block, if it gets one.
+    pub is_told: bool,
 }
 
 /// The error that ended a client, and its progress.
@@ -48,13 +50,14 @@ impl Progress {
     /// The client isn't ready.
     pub fn new() -> Progress
         ensures read { (result.is_ready ≡ false) × (result.answered ≡ None) × (result.has_begun ≡ false) }
-        ensures block { result.unended ≡ Unended.Nothing }
+        ensures block { (result.unended ≡ Unended.Nothing) × (result.is_told ≡ true) }
     {
         Progress {
             is_ready: false,
             answered: None,
             has_begun: false,
             unended: Unended::Nothing,
+            is_told: true,
         }
     }
 }

@@ -1,7 +1,7 @@
 //! Notes for a user who types the lines of a client.
 
 ghost use Rattle.std.specs.Prelude.{◌≡◌, OnOk};
-ghost use Rattle.std.specs.Io.KnownBytes.{Appends};
+ghost use Rattle.std.specs.Io.KnownBytes.{Appends, Keeps};
 ghost use Rattle.scoop_texts.specs.Typing.{help_text, misread_text, note_text, ready_text, refusal_advice, reply_note, reserve_advice, told_text, typed_text};
 
 use crate::error::RuntimeError;
@@ -142,7 +142,9 @@ fn print_note<N: Write>(reply: &Reply, is_typed: bool, notes: &mut N) -> io::Res
 }
 
 /// Flushes a note. A note that can't be written is lost.
-pub fn send_out<N: Write>(written: io::Result<()>, notes: &mut N) {
+pub fn send_out<N: Write>(written: io::Result<()>, notes: &mut N)
+    ensures { Keeps (N.contents notes.old) (N.contents notes.new) }
+{
     if written.is_ok() {
         let _flushed = notes.flush();
     }

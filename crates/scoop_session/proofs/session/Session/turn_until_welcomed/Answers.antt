@@ -2,7 +2,7 @@ use Rattle.scoop_session.proofs.Turned.{turned_more}
 use Rattle.scoop_session.proofs.session.Session.turn_until_welcomed.Goals as goal
 
 pub returns-in-Err-clause-turned : goal.returns-in-Err-clause-turned
-returns-in-Err-clause-turned g c = turned_more _ _ _ _ c.loop-taken.invariant c.in-Err.ensures.does
+returns-in-Err-clause-turned g c = turned_more _ _ _ _ c.loop-taken.invariant.0 c.in-Err.ensures.does
 
 pub loop-taken-preserved : goal.loop-taken-preserved
-loop-taken-preserved g c = turned_more _ _ _ _ c.loop-taken.invariant c.in-Ok.ensures.does
+loop-taken-preserved g c = (turned_more _ _ _ _ c.loop-taken.invariant.0 c.in-Ok.ensures.does, c.loop-taken.invariant.1)

@@ -1,5 +1,6 @@
+use Rattle.std.specs.Prelude.{◌≡◌}
 use Rattle.scoop_session.specs.Obeying.{TakesTurnsOnly}
 use Rattle.scoop_session.proofs.session.Session.turn_until_welcomed.Given as goal
 
 abbrev pub invariant-loop-taken : goal.invariant-loop-taken
-invariant-loop-taken g l = TakesTurnsOnly l.initial.self.driver.seen l.self.driver.seen
+invariant-loop-taken g l = TakesTurnsOnly l.initial.self.driver.seen l.self.driver.seen × (l.self.wish ≡ l.initial.self.wish)
