@@ -8,6 +8,7 @@ use Rattle.scoop_message.specs.declared.name.HandlerId.{HandlerId}
 use Rattle.scoop_reserve.specs.State.{ReservationState}
 use Rattle.scoop_client.specs.declared.phase.Phase.{Phase}
 use Rattle.scoop_client.specs.declared.phase.Phase.TheVariants.{Greeting, Idle, Locking, Opening, Running, Ending, GivingUp}
+use Rattle.scoop_client.specs.declared.command.Command.TheVariants.{GiveUp as DoGiveUp}
 use Rattle.scoop_client.specs.State.{ClientState, phase_of}
 use Rattle.scoop_keeper.specs.Keeper.{IsSame}
 use Rattle.scoop_driver.specs.declared.step.Step.{Step}
@@ -26,7 +27,7 @@ use Rattle.scoop_runtime.specs.ClientLives.{LivesThen, RunsLives, Lived, Unbegun
 use Rattle.scoop_runtime.specs.Cutting.{BecomesOf, PartsFrom}
 use Rattle.scoop_runtime.specs.Printing.{Output, PrintsRun, SessionDone, SessionPrints, output_of, unended_line}
 use Rattle.scoop_session.specs.declared.wish.Wish.{Wish}
-use Rattle.scoop_session.specs.Obeying.{Drives}
+use Rattle.scoop_session.specs.Obeying.{Drives, GivesFirst}
 use Rattle.scoop_session.specs.Parting.{Leaves}
 use Rattle.scoop_session.specs.Endings.{input_ended}
 use Rattle.scoop_runtime.proofs.Printed.{keeps_same, session_goes}
@@ -251,13 +252,13 @@ given_back left.Open waits t u leaves is = cc
 pub lives_on : (is_piped : Bool) (id : ClientId) (inc : ℕ) (o p : Option (List ℕ)) (w : Option Wish) (c : ClientState) (waits : Bool)
     (ended : Result (Unit {0}) RuntimeError) (rest : Left) (last : Option ReservationState) (s t u : Seen) → s.client ≡ c → w ≡ None → inc ≡ c.inc
     → SessionPrints is_piped id inc ended o p w s t → OnOk ended (input_ended waits (phase_of t.client) ≡ Ok (tt {0})) → last ≡ t.client.reservation
-    → Leaves rest waits t u → Drives t u → (input_ended waits (phase_of t.client) ≡ Ok (tt {0}) → rest ≡ left.Nothing)
+    → Leaves rest waits t u → GivesFirst (DoGiveUp ∷ []) t u → (input_ended waits (phase_of t.client) ≡ Ok (tt {0}) → rest ≡ left.Nothing)
     → LivesOn is_piped id o p c ended rest last
 lives_on is_piped id inc o p w c waits ended rest last s t u is fresh named prints well had leaves parts nothing =
     let session : List Step = prints.0 in
     let first : Goes session s t = session_goes is_piped id inc ended o p w session s t prints.1 in
     let steps : List Step = session ++ parts.0 in
-    let goes : Goes steps s u = goes_on session parts.0 s t u first parts.1 in
+    let goes : Goes steps s u = goes_on session parts.0 s t u first parts.1.0 in
     let now : phase_of u.client ≡ phase_of (walk c steps) = ap phase_of goes.client ∙ ap (λ d. phase_of (walk d steps)) is in
     let before : t.client ≡ walk c session = first.client ∙ ap (λ d. walk d session) is in
     record {
@@ -283,6 +284,7 @@ lives_on is_piped id inc o p w c waits ended rest last s t u is fresh named prin
         session = session;
         parting = parts.0;
         are = refl;
+        parts = parts.1.1;
         prints = subst (λ x. SessionDone is_piped id c.inc ended o p x session s t) fresh
             (subst (λ n. SessionDone is_piped id n ended o p w session s t) named prints.1);
       };

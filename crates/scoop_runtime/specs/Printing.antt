@@ -5,6 +5,8 @@ use Rattle.scoop_message.specs.declared.name.ClientId.{ClientId}
 use Rattle.scoop_message.specs.declared.request.Answer.{Answer}
 use Rattle.scoop_message.specs.Text.{block_text}
 use Rattle.scoop_client.specs.State.{ClientState}
+use Rattle.scoop_client.specs.declared.command.Command.{Command}
+use Rattle.scoop_client.specs.declared.command.Command.TheVariants.{GiveUp as DoGiveUp}
 use Rattle.scoop_driver.specs.declared.error.DriverError.{DriverError}
 use Rattle.scoop_driver.specs.declared.step.Step.{Step}
 use Rattle.scoop_driver.specs.Steps.{commands_by}
@@ -181,7 +183,8 @@ SessionPrints is_piped id inc result before after w old new = (steps : List Step
 
 -- ---- a life
 
--- The steps of a client's life are those of its session and those of its parting, in which it left its block. It wrote so.
+-- The steps of a client's life are those of its session and those of its parting, in which it left its block: it gave it up, or did
+-- nothing. It wrote so.
 pub record PrintsLife (is_piped : Bool) (id : ClientId) (c : ClientState) (result : Result (Unit {0}) RuntimeError) (steps : List Step)
     (before after : Option (List ℕ)) : Type 0 where
   pub opening : Seen
@@ -190,6 +193,7 @@ pub record PrintsLife (is_piped : Bool) (id : ClientId) (c : ClientState) (resul
   pub session : List Step
   pub parting : List Step
   pub are : steps ≡ session ++ parting
+  pub parts : (left : List Command) × (DoGiveUp ∷ [] ≡ commands_by parting ++ left)
   pub prints : SessionDone is_piped id c.inc result before after None session opening closing
 
 -- the line of a block that a client left, if it is gone; over a pipe also of one that handlers may hold

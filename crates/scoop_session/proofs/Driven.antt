@@ -1,5 +1,5 @@
 -- Each line of a client takes steps of its driver, whatever its outcome.
-use Rattle.std.proofs.Common.{◌≡◌, ℕ, Bool, false, List, [], ◌++◌, Option, Some, None, Result, Ok, Err, refl, sym, subst}
+use Rattle.std.proofs.Common.{◌≡◌, ℕ, Bool, false, List, [], ◌∷◌, ◌++◌, Option, Some, None, Result, Ok, Err, refl, sym, ap, subst, ◌∙◌, append_assoc, append-nil}
 use Rattle.std.specs.Prelude.{IfErr, OnOk}
 use Rattle.scoop_message.specs.declared.name.HandlerId.{HandlerId}
 use Rattle.scoop_message.specs.declared.request.Answer.{Answer}
@@ -14,14 +14,15 @@ use Rattle.scoop_driver.specs.State.{Seen, Goes}
 use Rattle.scoop_driver.specs.Calls.{Called}
 use Rattle.scoop_driver.specs.Waiting.{WaitsUpTo}
 use Rattle.scoop_driver.specs.Wishes.{Wish as Waited}
-use Rattle.scoop_driver.proofs.StepLists.{goes_nothing, goes_on}
+use Rattle.scoop_driver.specs.Steps.{commands_by}
+use Rattle.scoop_driver.proofs.StepLists.{commands_by-append, goes_nothing, goes_on}
 use Rattle.scoop_system.specs.declared.line.ClientLine.{ClientLine}
 use Rattle.scoop_system.specs.declared.line.ClientLine.TheVariants as line
 use Rattle.scoop_texts.specs.declared.reply.Reply.{Reply}
 use Rattle.scoop_texts.specs.declared.reply.Reply.TheVariants.{Reserved, Logged, Answered, Ended, Noted, EndedAt, GivenUp}
 use Rattle.scoop_session.specs.declared.wish.Wish.{Wish}
 use Rattle.scoop_session.specs.Noting.{tried_as}
-use Rattle.scoop_session.specs.Obeying.{BeganAndGaveUp, CallDoes, Does, DoesInside, DoesOutside, Drives, EndDoes, GaveUp, GiveUpDoes, GivesUp, Obeys, QueryDoes, ReserveDoes}
+use Rattle.scoop_session.specs.Obeying.{BeganAndGaveUp, CallDoes, Does, DoesInside, DoesOutside, Drives, EndDoes, GaveUp, GiveUpDoes, GivesFirst, GivesUp, Obeys, QueryDoes, ReserveDoes}
 use Rattle.scoop_session.specs.Obeying.{FailsTrying, RunsBlock, SaysNoTries, StopsTrying, TakesTurnsOnly, TryDoes, WhenDoes}
 use Rattle.scoop_session.specs.Obeying.{tried, refused, left, kept}
 use Rattle.scoop_session.specs.Obeying.{between, locking}
@@ -55,11 +56,50 @@ drives_called x turns r s t (xs, does) = (xs, does.goes)
 pub drives_turning : {T : Type 0} (x : Command) (turns : ℕ) (r : Result T DriverError) (s t u : Seen) → Called x turns r s t → TakesTurnsOnly t u → Drives s u
 drives_turning x turns r s t u called turned = drives_both s t u (drives_called x turns r s t called) (drives_turned t u turned)
 
+-- ---- commands, or the first of them
+
+-- a command that was given, and turns after it
+pub first_turning : {T : Type 0} (x : Command) (turns : ℕ) (v : T) (s t u : Seen) → Called {T = T} x turns (Ok v) s t → TakesTurnsOnly t u
+    → GivesFirst (x ∷ []) s u
+first_turning x turns v s t u (xs, does) (ys, goes, silent) =
+    let all : commands_by (xs ++ ys) ≡ x ∷ [] =
+    commands_by-append xs ys ∙ (ap (λ zs. commands_by xs ++ zs) silent ∙ (append-nil (commands_by xs) ∙ does.commands)) in
+    (xs ++ ys, goes_on xs ys s t u does.goes goes, [], sym (append-nil (commands_by (xs ++ ys)) ∙ all))
+
+pub first_given : {T : Type 0} (x : Command) (turns : ℕ) (v : T) (s t : Seen) → Called {T = T} x turns (Ok v) s t → GivesFirst (x ∷ []) s t
+first_given x turns v s t called = first_turning x turns v s t t called ([], goes_nothing t, refl)
+
+-- one that wasn't
+pub first_failed : {T : Type 0} (x : Command) (turns : ℕ) (e : DriverError) (s t : Seen) → Called {T = T} x turns (Err e) s t → GivesFirst (x ∷ []) s t
+first_failed x turns e s t (xs, does) = (xs, does.goes, does.commands.0, does.commands.1.0)
+
+-- one more command may follow
+pub first_more : (x y : Command) (s t : Seen) → GivesFirst (x ∷ []) s t → GivesFirst (x ∷ y ∷ []) s t
+first_more x y s t (xs, goes, left, are) = (xs, goes, left ++ y ∷ [], ap (λ zs. zs ++ y ∷ []) are ∙ append_assoc (commands_by xs) left (y ∷ []))
+
+first_both : {T : Type 0} (x y : Command) (turns : ℕ) (v : T) (s t u : Seen) → Called {T = T} x turns (Ok v) s t → GivesFirst (y ∷ []) t u
+    → GivesFirst (x ∷ y ∷ []) s u
+first_both x y turns v s t u (xs, does) (ys, goes, left, are) =
+    let all : commands_by (xs ++ ys) ++ left ≡ x ∷ y ∷ [] =
+    ap (λ zs. zs ++ left) (commands_by-append xs ys)
+    ∙ (append_assoc (commands_by xs) (commands_by ys) left ∙ (ap (λ zs. commands_by xs ++ zs) (sym are) ∙ ap (λ zs. zs ++ y ∷ []) does.commands)) in
+    (xs ++ ys, goes_on xs ys s t u does.goes goes, left, sym all)
+
+-- none of them
+pub first_nothing : (xs : List Command) (s : Seen) → GivesFirst xs s s
+first_nothing xs s = ([], goes_nothing s, xs, refl)
+
+first_turned : (xs : List Command) (s t : Seen) → TakesTurnsOnly s t → GivesFirst xs s t
+first_turned xs s t (steps, goes, silent) = (steps, goes, xs, sym (ap (λ zs. zs ++ xs) silent))
+
+first_settled : (xs : List Command) (s t u : Seen) → u ≡ t → GivesFirst xs s t → GivesFirst xs s u
+first_settled xs s t u is gives = subst (λ x. GivesFirst xs s x) (sym is) gives
+
 -- a block is given up, and turns follow
 pub gives_up_then : (r : Result (Unit {0}) DriverError) (s t u : Seen) → Called {T = Unit {0}} DoGiveUp 0 (Ok (tt {0})) s t
     → OnOk r (phase_of u.client ≡ Idle) → IfErr r SaysNoTries → TakesTurnsOnly t u → GivesUp r s u
 gives_up_then (Ok done) s t u gives idle tries turned = record { given = t; gives = gives; turned = turned; idle = idle }
-gives_up_then (Err e) s t u gives idle tries turned = (tries, drives_turning DoGiveUp 0 (Ok (tt {0})) s t u gives turned)
+gives_up_then (Err e) s t u gives idle tries turned = (tries, first_turning DoGiveUp 0 (tt {0}) s t u gives turned)
 
 -- a command that isn't given
 pub says_no_tries : {T : Type 0} (x : Command) (turns : ℕ) (e : DriverError) (s t : Seen) → Called {T = T} x turns (Err e) s t → SaysNoTries e
@@ -69,9 +109,16 @@ says_no_tries x turns LinkFault s t called = tt
 says_no_tries x turns (ConditionFailed k) s t (steps, does) = absurd does.commands.2
 says_no_tries x turns Interrupted s t called = tt
 
-pub drives_gave_up : (r : Result (Unit {0}) DriverError) (s t : Seen) → GivesUp r s t → Drives s t
-drives_gave_up (Ok done) s t gave = drives_turning DoGiveUp 0 (Ok (tt {0})) s gave.given t gave.gives gave.turned
-drives_gave_up (Err e) s t (tries, drives) = drives
+first_gave_up : (r : Result (Unit {0}) DriverError) (s t : Seen) → GivesUp r s t → GivesFirst (DoGiveUp ∷ []) s t
+first_gave_up (Ok done) s t gave = first_turning DoGiveUp 0 (tt {0}) s gave.given t gave.gives gave.turned
+first_gave_up (Err e) s t (tries, gives) = gives
+
+-- a part that doesn't change the driver may follow
+pub parts_giving_up : (r : Result (Unit {0}) DriverError) (s t u : Seen) → u ≡ t → GivesUp r s t → GivesFirst (DoGiveUp ∷ []) s u
+parts_giving_up r s t u is gave = first_settled (DoGiveUp ∷ []) s t u is (first_gave_up r s t gave)
+
+pub parts_turning : (s t u : Seen) → u ≡ t → TakesTurnsOnly s t → GivesFirst (DoGiveUp ∷ []) s u
+parts_turning s t u is turned = first_settled (DoGiveUp ∷ []) s t u is (first_turned (DoGiveUp ∷ []) s t turned)
 
 -- a wait for a condition, unless a handler of it is outside its block
 pub drives_waited : (Stopped : Type 0) (outside : Option HandlerId) (w : Waited) (turns tries : ℕ) (r : Result ℕ DriverError) (answers : List Answer) (s t : Seen)
@@ -92,8 +139,7 @@ begun_then hs turns b (Ok GivenUp) s t u is begins gave = record {
   begins = subst (λ c. Called {T = Bool} (DoReserve hs) turns (Ok c) s t) is begins;
   gave_up = gave;
 }
-begun_then hs turns b (Err e) s t u is begins (tries, drives) =
-    drives_both s t u (drives_called {T = Bool} (DoReserve hs) turns (Ok b) s t begins) drives
+begun_then hs turns b (Err e) s t u is begins (tries, gives) = first_both (DoReserve hs) DoGiveUp turns b s t u begins gives
 begun_then hs turns b (Ok reply) s t u is begins gave = absurd gave
 
 goes_begun : (hs : List HandlerId) (turns : ℕ) (s t : Seen) (did : BeganAndGaveUp hs turns s t) → Goes (steps_begun did) s t
@@ -110,7 +156,7 @@ goes_reserving : (hs : List HandlerId) (turns : ℕ) (o : Result Reply DriverErr
     → Goes (steps_reserving hs turns o s t does) s t
 goes_reserving hs turns (Ok (Reserved block)) s t does = goes_block hs turns s t does.1
 goes_reserving hs turns (Ok GivenUp) s t does = goes_begun hs turns s t does
-goes_reserving hs turns (Err e) s t does = does.1
+goes_reserving hs turns (Err e) s t does = does.1.0
 goes_reserving hs turns (Ok reply) s t does = absurd does
 
 goes_calling : (h : HandlerId) (r : Request) (turns : ℕ) (o : Result Reply DriverError) (s t : Seen) (does : CallDoes h r turns o s t)
@@ -132,7 +178,7 @@ goes_ending turns (Ok reply) s t does = absurd does
 
 goes_giving_up : (o : Result Reply DriverError) (s t : Seen) (does : GiveUpDoes o s t) → Goes (steps_giving_up o s t does) s t
 goes_giving_up (Ok GivenUp) s t does = goes_given s t does
-goes_giving_up (Err e) s t does = does.1.1
+goes_giving_up (Err e) s t does = does.1.1.0
 goes_giving_up (Ok reply) s t does = absurd does
 
 goes_waiting : (o : Result Reply DriverError) (s t : Seen) → WhenDoes o s t → Goes [] s t
@@ -163,7 +209,7 @@ goes_failed : (w : Waited) (tries : ℕ) (e : DriverError) (answers : List Answe
 goes_failed w tries e answers s t (tried out) = out.1.0
 goes_failed w tries e answers s t (refused memory same) = goes_same s t same
 goes_failed w tries e answers s t (left is stops) = goes_stopped w tries s t stops
-goes_failed w tries e answers s t (kept {begun} says out drives) = goes_on out.0 drives.0 s begun t out.1.0 drives.1
+goes_failed w tries e answers s t (kept {begun} says out gives) = goes_on out.0 gives.0 s begun t out.1.0 gives.1.0
 
 goes_trying : (w : Wish) (o : Result Reply DriverError) (answers : List Answer) (s t : Seen) (does : TryDoes w o answers s t)
     → Goes (steps_trying w o answers s t does) s t

@@ -1,7 +1,8 @@
 -- The tries of a waiting block, whole or stopped.
-use Rattle.std.proofs.Common.{◌≡◌, ℕ, ◌<◌, ◌≤◌, ◌⊎◌, List, [], Result, Ok, Err, inl, inr, refl, sym, subst, arith}
+use Rattle.std.proofs.Common.{◌≡◌, ℕ, ◌<◌, ◌≤◌, ◌⊎◌, List, [], ◌∷◌, Result, Ok, Err, inl, inr, refl, sym, subst, arith}
 use Rattle.scoop_message.specs.declared.request.Answer.{Answer}
 use Rattle.scoop_client.specs.declared.error.ClientError.TheVariants.{OutOfMemory}
+use Rattle.scoop_client.specs.declared.command.Command.TheVariants.{GiveUp as DoGiveUp}
 use Rattle.scoop_client.specs.State.{ClientState}
 use Rattle.scoop_driver.specs.declared.error.DriverError.{DriverError}
 use Rattle.scoop_driver.specs.declared.error.DriverError.TheVariants.{Client, TurnsOver, LinkFault, ConditionFailed, Interrupted}
@@ -14,7 +15,7 @@ use Rattle.scoop_texts.specs.declared.reply.Reply.{Reply}
 use Rattle.scoop_texts.specs.declared.reply.Reply.TheVariants.{GivenUp}
 use Rattle.scoop_session.specs.declared.wish.Wish.{Wish}
 use Rattle.scoop_session.specs.Noting.{tried_as}
-use Rattle.scoop_session.specs.Obeying.{Drives, FailsTrying, GaveUp, SaysNoTries, StopsTrying, TriesIn, TriesOut, TryDoes}
+use Rattle.scoop_session.specs.Obeying.{FailsTrying, GaveUp, GivesFirst, SaysNoTries, StopsTrying, TriesIn, TriesOut, TryDoes}
 use Rattle.scoop_session.specs.Obeying.{tried, refused, left, kept}
 use Rattle.scoop_session.specs.Obeying.{between, locking}
 
@@ -99,8 +100,8 @@ pub stops_locking : (w : Waited) (tries : ℕ) (xs : List Answer) (s t u : Seen)
 stops_locking w tries xs s t u h gave = locking (interrupted_out w tries xs s t h) gave
 
 pub keeps_locking : (w : Waited) (tries : ℕ) (e : DriverError) (xs ys : List Answer) (s t u : Seen) → TriesIn w tries (Err Interrupted) xs s t
-    → SaysNoTries e × Drives t u → FailsTrying w tries e ys s u
-keeps_locking w tries e xs ys s t u h (says, drives) = kept says (interrupted_out w tries xs s t h) drives
+    → SaysNoTries e × GivesFirst (DoGiveUp ∷ []) t u → FailsTrying w tries e ys s u
+keeps_locking w tries e xs ys s t u h (says, gives) = kept says (interrupted_out w tries xs s t h) gives
 
 -- the reply to tries that were stopped, or the error if the input has ended
 pub stopped_so : (w : Wish) (r : Result Reply DriverError) (answers : List Answer) (s t u : Seen) → (r ≡ Ok GivenUp) ⊎ (r ≡ Err Interrupted) → answers ≡ []

@@ -5,6 +5,7 @@ use Rattle.scoop_message.specs.declared.name.HandlerId.{HandlerId}
 use Rattle.scoop_message.specs.declared.request.Answer.{Answer}
 use Rattle.scoop_message.specs.declared.request.Request.{Request}
 use Rattle.scoop_client.specs.declared.error.ClientError.TheVariants.{NotReserved, OutOfMemory}
+use Rattle.scoop_client.specs.declared.command.Command.{Command}
 use Rattle.scoop_client.specs.declared.command.Command.TheVariants.{Reserve as DoReserve, Call as DoCall, End as DoEnd, GiveUp as DoGiveUp}
 use Rattle.scoop_client.specs.declared.phase.Phase.TheVariants.{Idle}
 use Rattle.scoop_client.specs.State.{phase_of}
@@ -57,6 +58,10 @@ pub record BeganAndGaveUp (hs : List HandlerId) (turns : ℕ) (old new : Seen) :
   pub begins : Called {T = Bool} (DoReserve hs) turns (Ok false) old begun
   pub gave_up : GaveUp begun new
 
+-- these commands were given, or the first of them, and turns between them and after them
+abbrev pub GivesFirst : List Command → Seen → Seen → Type 0
+GivesFirst xs old new = (steps : List Step) × Goes steps old new × (left : List Command) × (xs ≡ commands_by steps ++ left)
+
 -- an error that says nothing of a condition
 abbrev pub SaysNoTries : DriverError → Type 0
 SaysNoTries (Client e) = ⊤
@@ -67,7 +72,7 @@ SaysNoTries Interrupted = ⊤
 
 abbrev pub GivesUp : Result (Unit {0}) DriverError → Seen → Seen → Type 0
 GivesUp (Ok u) old new = GaveUp old new
-GivesUp (Err e) old new = SaysNoTries e × Drives old new
+GivesUp (Err e) old new = SaysNoTries e × GivesFirst (DoGiveUp ∷ []) old new
 
 -- the same, and it is the client's next block
 abbrev pub RunsAs : Block → List HandlerId → ℕ → Seen → Seen → Type 0
@@ -77,7 +82,7 @@ abbrev pub ReserveDoes : List HandlerId → ℕ → Result Reply DriverError →
 ReserveDoes hs turns (Ok (Reserved block)) old new = RunsAs block hs turns old new
 ReserveDoes hs turns (Ok GivenUp) old new = BeganAndGaveUp hs turns old new
 ReserveDoes hs turns (Ok reply) old new = ⊥
-ReserveDoes hs turns (Err e) old new = Drives old new
+ReserveDoes hs turns (Err e) old new = GivesFirst (DoReserve hs ∷ DoGiveUp ∷ []) old new
 
 -- the call is in the client's log; its acknowledgement is part of the block's end
 abbrev pub CallDoes : HandlerId → Request → ℕ → Result Reply DriverError → Seen → Seen → Type 0
@@ -98,7 +103,7 @@ EndDoes turns (Err e) old new = Called {T = Unit {0}} DoEnd turns (Err e) old ne
 abbrev pub GiveUpDoes : Result Reply DriverError → Seen → Seen → Type 0
 GiveUpDoes (Ok GivenUp) old new = GaveUp old new
 GiveUpDoes (Ok reply) old new = ⊥
-GiveUpDoes (Err e) old new = SaysNoTries e × Drives old new
+GiveUpDoes (Err e) old new = SaysNoTries e × GivesFirst (DoGiveUp ∷ []) old new
 
 -- nothing is sent yet
 abbrev pub WhenDoes : Result Reply DriverError → Seen → Seen → Type 0
@@ -162,7 +167,8 @@ pub data FailsTrying (w : Waited) (tries : ℕ) (e : DriverError) (answers : Lis
   tried : TriesOut w tries (Err e) answers old new → FailsTrying w tries e answers old new
   refused : e ≡ Client OutOfMemory → new ≡ old → FailsTrying w tries e answers old new
   left : e ≡ Interrupted → StopsTrying w tries old new → FailsTrying w tries e answers old new
-  kept : {begun : Seen} → SaysNoTries e → TriesOut w tries (Err Interrupted) [] old begun → Drives begun new → FailsTrying w tries e answers old new
+  kept : {begun : Seen} → SaysNoTries e → TriesOut w tries (Err Interrupted) [] old begun → GivesFirst (DoGiveUp ∷ []) begun new
+      → FailsTrying w tries e answers old new
 
 abbrev pub TryDoes : Wish → Result Reply DriverError → List Answer → Seen → Seen → Type 0
 TryDoes w (Ok (EndedAt k)) answers old new = TriesOut (tried_as w) w.tries (Ok k) answers old new

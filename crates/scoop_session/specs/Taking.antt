@@ -76,7 +76,7 @@ abbrev pub steps_failed : (w : Waited) (tries : ℕ) (e : DriverError) (answers 
 steps_failed w tries e answers s t (tried out) = out.0
 steps_failed w tries e answers s t (refused memory same) = []
 steps_failed w tries e answers s t (left is stops) = steps_stopped w tries s t stops
-steps_failed w tries e answers s t (kept {begun} says out drives) = out.0 ++ drives.0
+steps_failed w tries e answers s t (kept {begun} says out gives) = out.0 ++ gives.0
 
 abbrev pub steps_trying : (w : Wish) (o : Result Reply DriverError) (answers : List Answer) (s t : Seen) → TryDoes w o answers s t → List Step
 steps_trying w (Ok (EndedAt k)) answers s t does = does.0

@@ -2,9 +2,10 @@
 
 ghost use Rattle.std.specs.Prelude.{◌≡◌, ◌++◌, ◌∷◌, [], None, Ok, OnOk, IfErr, IfOk, IsFalse, IsTrue, is_some, filter};
 ghost use Rattle.scoop_client.specs.State.{phase_of};
+ghost use Rattle.scoop_client.specs.declared.command.Command.TheVariants.{GiveUp as DoGiveUp};
 ghost use Rattle.scoop_client.specs.declared.phase.Phase.TheVariants.{Idle};
 ghost use Rattle.scoop_session.specs.Diary.{IsSettled, IsWritten};
-ghost use Rattle.scoop_session.specs.Obeying.{Drives, GivesUp, SaysNoTries, TakesTurnsOnly};
+ghost use Rattle.scoop_session.specs.Obeying.{GivesFirst, GivesUp, SaysNoTries, TakesTurnsOnly};
 ghost use Rattle.scoop_session.specs.Parting.{Leaves, is_awaited, owes};
 ghost use Rattle.scoop_session.specs.Endings.{input_ended};
 
@@ -158,10 +159,11 @@ impl<'j, L: Link, J: Write + Drop> Session<'j, L, J> {
 
     /// Leaves the block. If its handlers aren't all locked, the client gives the locks back. `GivenUp` needs the journal to have
     /// all lines so far.
+    #[tactic(auto, using(crate::proofs::Driven::first_nothing))]
     pub fn leave(&mut self) -> Left
         ensures settled { result ≡ Left.GivenUp → IsWritten self.new.driver.diary.journal.now }
         ensures leaves { Leaves result (is_some self.old.wish) self.old.driver.seen self.new.driver.seen }
-        ensures drives { Drives self.old.driver.seen self.new.driver.seen }
+        ensures gives { GivesFirst (DoGiveUp ∷ []) self.old.driver.seen self.new.driver.seen }
         ensures ended { input_ended (is_some self.old.wish) (phase_of self.old.driver.seen.client) ≡ Ok (tt {0}) → result ≡ Left.Nothing }
     {
         if self.wish.is_some() {

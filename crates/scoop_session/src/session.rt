@@ -1,6 +1,6 @@
 //! A client session driven by text lines.
 
-ghost use Rattle.std.specs.Prelude.{◌≡◌, ◌⊎◌, ◌++◌, [], None, Some, Ok, Err, OnOk, IsFalse, IsTrue, IfOk, IfErr, IfSome, ◌≤◌, false, is_some, map};
+ghost use Rattle.std.specs.Prelude.{◌≡◌, ◌⊎◌, ◌++◌, [], ◌∷◌, None, Some, Ok, Err, OnErr, OnOk, IsFalse, IsTrue, IfOk, IfErr, IfSome, ◌≤◌, false, is_some, map};
 ghost use Rattle.scoop_client.specs.State.{phase_of};
 ghost use Rattle.scoop_client.specs.declared.command.Command.TheVariants.{Reserve as DoReserve};
 ghost use Rattle.scoop_driver.specs.Calls.{Called, Interrupted};
@@ -8,7 +8,7 @@ ghost use Rattle.scoop_driver.specs.Wishes.{wish_for};
 ghost use Rattle.scoop_session.specs.Answering.{answered};
 ghost use Rattle.scoop_session.specs.Conditions.{part_of};
 ghost use Rattle.scoop_session.specs.Noting.{BeginsToWait, NoteDoes, WaitsEnded, WaitsInside, WaitsNoted, WaitsOutside, tried_as};
-ghost use Rattle.scoop_session.specs.Obeying.{CallDoes, DoesInside, DoesOutside, Drives, EndDoes, GiveUpDoes, NotesAs, Obeys, QueryDoes, ReserveDoes, RunsAs};
+ghost use Rattle.scoop_session.specs.Obeying.{CallDoes, DoesInside, DoesOutside, Drives, EndDoes, GiveUpDoes, GivesFirst, NotesAs, Obeys, QueryDoes, ReserveDoes, RunsAs};
 ghost use Rattle.scoop_session.specs.Obeying.{TakesTurnsOnly, TriesIn, TryDoes, WhenDoes, is_quiet};
 ghost use Rattle.scoop_session.specs.Endings.{ended_by, first_awaited, input_ended, over_at, unwritten};
 ghost use Rattle.scoop_session.specs.Diary.{Ends, IsSettled};
@@ -415,6 +415,7 @@ impl<'j, L: Link, J: Write + Drop> Session<'j, L, J> {
         ensures runs { IfOk result (λ locked. IfSome locked (λ block. RunsAs block handlers.now self.old.driver.turns self.old.driver.seen self.new.driver.seen)) }
         ensures stopped { result ≡ Ok None → Interrupted I.stops interrupt.new }
         ensures begun { result ≡ Ok None → Called (DoReserve handlers.now) self.old.driver.turns (Ok false) self.old.driver.seen self.new.driver.seen }
+        ensures gives { OnErr result (GivesFirst (DoReserve handlers.now ∷ []) self.old.driver.seen self.new.driver.seen) }
         ensures drives { Drives self.old.driver.seen self.new.driver.seen }
         ensures turns { self.new.driver.turns ≡ self.old.driver.turns }
         ensures wish { self.new.wish ≡ self.old.wish }

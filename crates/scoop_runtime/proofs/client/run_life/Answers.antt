@@ -5,4 +5,5 @@ pub returns : goal.returns
 returns g c =
     let ran = c.run_session-ended.ensures in
     let left = c.leave-left.ensures in
-    lives_on _ _ _ _ _ _ _ c.new-session.ensures ran.drives ran.ended left.leaves left.drives left.ended
+    lives_on _ _ _ _ _ _ _ _ _ _ _ _ _ _ c.new-session.ensures.client c.new-session.ensures.wish c.inc-inc.ensures ran.prints ran.ended
+    c.reservation-last.ensures left.leaves left.gives left.ended
