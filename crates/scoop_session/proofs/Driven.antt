@@ -188,9 +188,9 @@ goes_waiting (Ok reply) s t does = absurd does
 
 goes_outside : (l : ClientLine) (turns : ℕ) (o : Result Reply DriverError) (s t : Seen) (does : DoesOutside l turns o s t)
     → Goes (steps_outside l turns o s t does) s t
-goes_outside line.Blank turns o s t does = goes_same s t does
-goes_outside line.Help turns o s t does = goes_same s t does
-goes_outside line.Quit turns o s t does = goes_same s t does
+goes_outside line.Blank turns o s t does = goes_same s t does.1
+goes_outside line.Help turns o s t does = goes_same s t does.1
+goes_outside line.Quit turns o s t does = goes_same s t does.1
 goes_outside (line.Reserve hs) turns o s t does = goes_reserving hs turns o s t does
 goes_outside (line.Call h r) turns o s t does = goes_calling h r turns o s t does
 goes_outside (line.Query h r) turns o s t does = goes_asking h r turns o s t does

@@ -124,9 +124,9 @@ is_quiet line.GiveUp = false
 is_quiet (line.ReserveWhen hs conditions tries) = false
 
 abbrev pub DoesOutside : ClientLine → ℕ → Result Reply DriverError → Seen → Seen → Type 0
-DoesOutside line.Blank turns outcome old new = new ≡ old
-DoesOutside line.Help turns outcome old new = new ≡ old
-DoesOutside line.Quit turns outcome old new = new ≡ old
+DoesOutside line.Blank turns outcome old new = (outcome ≡ Ok Noted) × (new ≡ old)
+DoesOutside line.Help turns outcome old new = (outcome ≡ Ok Noted) × (new ≡ old)
+DoesOutside line.Quit turns outcome old new = (outcome ≡ Ok Noted) × (new ≡ old)
 DoesOutside (line.Reserve hs) turns outcome old new = ReserveDoes hs turns outcome old new
 DoesOutside (line.Call h r) turns outcome old new = CallDoes h r turns outcome old new
 DoesOutside (line.Query h r) turns outcome old new = QueryDoes h r turns outcome old new
@@ -198,6 +198,12 @@ abbrev pub replied_with : Result Reply DriverError → Result Reply DriverError
 replied_with (Ok reply) = Ok reply
 replied_with (Err e) = answered e
 
+-- only the end of a waiting block that held has answers before its reply
+abbrev pub OnlyHeld : Result Reply DriverError → List Answer → Type 0
+OnlyHeld (Ok (EndedAt k)) answers = ⊤
+OnlyHeld (Ok reply) answers = answers ≡ []
+OnlyHeld (Err e) answers = answers ≡ []
+
 -- The line was done, and this is the reply to its outcome, after these answers. One block waited for its condition before the
 -- line, if any, and one waits after it.
 pub record Obeys
@@ -206,3 +212,4 @@ pub record Obeys
   pub does : Does line w turns outcome answers old new
   pub waits : WaitsAfter line w outcome v
   pub replies : result ≡ replied_with outcome
+  pub told : OnlyHeld result answers

@@ -124,7 +124,7 @@ impl<'j, L: Link, J: Write + Drop> Session<'j, L, J> {
         ensures idle { OnOk result (phase_of self.new.driver.seen.client ≡ Idle) }
         ensures tries { IfErr result SaysNoTries }
         ensures turned { TakesTurnsOnly self.old.driver.seen self.new.driver.seen }
-        ensures wish { self.new.wish ≡ self.old.wish }
+        ensures kept { (self.new.wish ≡ self.old.wish) × (self.new.answers ≡ self.old.answers) }
     {
         for taken in 0..turns {
             if self.driver.phase() == Phase::Idle {
@@ -149,7 +149,7 @@ impl<'j, L: Link, J: Write + Drop> Session<'j, L, J> {
         interrupt: &mut I,
     ) -> Result<(), DriverError>
         ensures given { GivesUp result self.old.driver.seen self.new.driver.seen }
-        ensures wish { self.new.wish ≡ self.old.wish }
+        ensures kept { (self.new.wish ≡ self.old.wish) × (self.new.answers ≡ self.old.answers) }
     {
         match self.driver.give_up() {
             Ok(()) => self.rest(turns, interrupt),

@@ -9,7 +9,7 @@ ghost use Rattle.scoop_session.specs.Answering.{answered};
 ghost use Rattle.scoop_session.specs.Conditions.{part_of};
 ghost use Rattle.scoop_session.specs.Noting.{BeginsToWait, NoteDoes, WaitsEnded, WaitsInside, WaitsNoted, WaitsOutside, tried_as};
 ghost use Rattle.scoop_session.specs.Obeying.{CallDoes, DoesInside, DoesOutside, Drives, EndDoes, GiveUpDoes, GivesFirst, NotesAs, Obeys, QueryDoes, ReserveDoes, RunsAs};
-ghost use Rattle.scoop_session.specs.Obeying.{TakesTurnsOnly, TriesIn, TryDoes, WhenDoes, is_quiet};
+ghost use Rattle.scoop_session.specs.Obeying.{OnlyHeld, TakesTurnsOnly, TriesIn, TryDoes, WhenDoes, is_quiet, replied_with};
 ghost use Rattle.scoop_session.specs.Endings.{ended_by, first_awaited, input_ended, over_at, unwritten};
 ghost use Rattle.scoop_session.specs.Diary.{Ends, IsSettled};
 ghost use Rattle.scoop_session.specs.Settling.{Settles, SettlesFor, may_wait};
@@ -67,6 +67,16 @@ fn answered(error: DriverError) -> Result<Reply, DriverError>
         DriverError::Client(error) => Ok(Reply::Refused(error)),
         DriverError::ConditionFailed(tries) => Ok(Reply::ConditionFailed(tries)),
         DriverError::TurnsOver | DriverError::LinkFault | DriverError::Interrupted => Err(error),
+    }
+}
+
+// The reply to an outcome. An error refuses the line, or ends the session.
+fn replied(outcome: Result<Reply, DriverError>) -> Result<Reply, DriverError>
+    ensures { result ≡ replied_with outcome }
+{
+    match outcome {
+        Ok(reply) => Ok(reply),
+        Err(error) => answered(error),
     }
 }
 
@@ -271,25 +281,24 @@ impl<'j, L: Link, J: Write + Drop> Session<'j, L, J> {
     }
 
     // Does what a line asks, and returns the reply to what came of it.
+    #[tactic(auto, using(crate::proofs::Noted::obeys_inside, crate::proofs::Noted::obeys_outside))]
     fn reply_to<P: Pause, I: Interrupt>(
         &mut self,
         line: &ClientLine,
         pause: &mut P,
         interrupt: &mut I,
     ) -> Result<Reply, DriverError>
+        requires { self.old.answers.items ≡ [] }
         ensures { Obeys line.now self.old.wish self.new.wish self.old.driver.turns result self.new.answers.items self.old.driver.seen self.new.driver.seen }
     {
-        let outcome = match self.wish.take() {
-            Some(wish) => self.obey_inside(wish, line, pause, interrupt),
-            None => self.obey_outside(line, interrupt),
-        };
-        match outcome {
-            Ok(reply) => Ok(reply),
-            Err(error) => answered(error),
+        match self.wish.take() {
+            Some(wish) => replied(self.obey_inside(wish, line, pause, interrupt)),
+            None => replied(self.obey_outside(line, interrupt)),
         }
     }
 
     // Does what a line asks inside a block that waits for its condition.
+    #[tactic(auto, using(crate::proofs::Noted::only_none))]
     fn obey_inside<P: Pause, I: Interrupt>(
         &mut self,
         wish: Wish,
@@ -297,9 +306,11 @@ impl<'j, L: Link, J: Write + Drop> Session<'j, L, J> {
         pause: &mut P,
         interrupt: &mut I,
     ) -> Result<Reply, DriverError>
-        requires { self.old.wish ≡ None }
+        requires wish { self.old.wish ≡ None }
+        requires answers { self.old.answers.items ≡ [] }
         ensures does { DoesInside line.now wish result self.new.answers.items self.old.driver.seen self.new.driver.seen }
         ensures waits { WaitsInside line.now wish result self.new.wish }
+        ensures told { OnlyHeld result self.new.answers.items }
     {
         match line {
             ClientLine::End => self.end_wish(wish, pause, interrupt),
@@ -321,7 +332,7 @@ impl<'j, L: Link, J: Write + Drop> Session<'j, L, J> {
     fn note_line(&mut self, mut wish: Wish, entry: &BodyEntry) -> Result<Reply, DriverError>
         ensures notes { NotesAs entry.now result }
         ensures waits { WaitsNoted wish entry.now result self.new.wish }
-        ensures driver { self.new.driver ≡ self.old.driver }
+        ensures kept { (self.new.driver ≡ self.old.driver) × (self.new.answers ≡ self.old.answers) }
     {
         match noted(&mut wish, entry) {
             Ok(reply) => {
@@ -336,7 +347,7 @@ impl<'j, L: Link, J: Write + Drop> Session<'j, L, J> {
     fn refuse_inside(&mut self, wish: Wish) -> Result<Reply, DriverError>
         ensures refused { result ≡ Ok Reply.NotInWhen }
         ensures waits { self.new.wish ≡ Some wish }
-        ensures driver { self.new.driver ≡ self.old.driver }
+        ensures kept { (self.new.driver ≡ self.old.driver) × (self.new.answers ≡ self.old.answers) }
     {
         self.wish = Some(wish);
         Ok(Reply::NotInWhen)
@@ -350,6 +361,7 @@ impl<'j, L: Link, J: Write + Drop> Session<'j, L, J> {
     ) -> Result<Reply, DriverError>
         ensures does { DoesOutside line.now self.old.driver.turns result self.old.driver.seen self.new.driver.seen }
         ensures waits { WaitsOutside line.now result self.old.wish self.new.wish }
+        ensures answers { self.new.answers ≡ self.old.answers }
     {
         match line {
             ClientLine::Blank | ClientLine::Help | ClientLine::Quit => Ok(Reply::Noted),
@@ -374,7 +386,7 @@ impl<'j, L: Link, J: Write + Drop> Session<'j, L, J> {
         interrupt: &mut I,
     ) -> Result<Reply, DriverError>
         ensures does { QueryDoes handler request self.old.driver.turns result self.old.driver.seen self.new.driver.seen }
-        ensures wish { self.new.wish ≡ self.old.wish }
+        ensures kept { (self.new.wish ≡ self.old.wish) × (self.new.answers ≡ self.old.answers) }
     {
         match self.driver.query_unless(handler, request, interrupt) {
             Ok(answer) => Ok(Reply::Answered(answer)),
@@ -385,7 +397,7 @@ impl<'j, L: Link, J: Write + Drop> Session<'j, L, J> {
     // Ends the block.
     fn end<I: Interrupt>(&mut self, interrupt: &mut I) -> Result<Reply, DriverError>
         ensures does { EndDoes self.old.driver.turns result self.old.driver.seen self.new.driver.seen }
-        ensures wish { self.new.wish ≡ self.old.wish }
+        ensures kept { (self.new.wish ≡ self.old.wish) × (self.new.answers ≡ self.old.answers) }
     {
         match self.driver.end_unless(&mut Patient::new(interrupt)) {
             Ok(()) => Ok(Reply::Ended),
@@ -396,7 +408,7 @@ impl<'j, L: Link, J: Write + Drop> Session<'j, L, J> {
     // Gives up the block, and takes turns until its locks are given back.
     fn give_back<I: Interrupt>(&mut self, interrupt: &mut I) -> Result<Reply, DriverError>
         ensures does { GiveUpDoes result self.old.driver.seen self.new.driver.seen }
-        ensures wish { self.new.wish ≡ self.old.wish }
+        ensures kept { (self.new.wish ≡ self.old.wish) × (self.new.answers ≡ self.old.answers) }
     {
         match self.give_up(self.turns, &mut Patient::new(interrupt)) {
             Ok(()) => Ok(Reply::GivenUp),
@@ -418,7 +430,7 @@ impl<'j, L: Link, J: Write + Drop> Session<'j, L, J> {
         ensures gives { OnErr result (GivesFirst (DoReserve handlers.now ∷ []) self.old.driver.seen self.new.driver.seen) }
         ensures drives { Drives self.old.driver.seen self.new.driver.seen }
         ensures turns { self.new.driver.turns ≡ self.old.driver.turns }
-        ensures wish { self.new.wish ≡ self.old.wish }
+        ensures kept { (self.new.wish ≡ self.old.wish) × (self.new.answers ≡ self.old.answers) }
     {
         match self.driver.reserve_unless(handlers, interrupt) {
             Ok(true) => {}
@@ -444,7 +456,7 @@ impl<'j, L: Link, J: Write + Drop> Session<'j, L, J> {
         interrupt: &mut I,
     ) -> Result<Reply, DriverError>
         ensures does { ReserveDoes handlers.now self.old.driver.turns result self.old.driver.seen self.new.driver.seen }
-        ensures wish { self.new.wish ≡ self.old.wish }
+        ensures kept { (self.new.wish ≡ self.old.wish) × (self.new.answers ≡ self.old.answers) }
     {
         match self.lock(handlers.as_slice(), interrupt) {
             Ok(Some(block)) => Ok(Reply::Reserved(block)),
@@ -462,7 +474,7 @@ impl<'j, L: Link, J: Write + Drop> Session<'j, L, J> {
         ensures unlocked { OnOk result (IsFalse (owes_unlock self.new.driver.seen.client handlers.now)) }
         ensures turned { TakesTurnsOnly self.old.driver.seen self.new.driver.seen }
         ensures turns { self.new.driver.turns ≡ self.old.driver.turns }
-        ensures wish { self.new.wish ≡ self.old.wish }
+        ensures kept { (self.new.wish ≡ self.old.wish) × (self.new.answers ≡ self.old.answers) }
     {
         for taken in 0..self.turns {
             if !self.owes_unlock(handlers) {
@@ -497,7 +509,7 @@ impl<'j, L: Link, J: Write + Drop> Session<'j, L, J> {
         interrupt: &mut I,
     ) -> Result<Reply, DriverError>
         ensures does { CallDoes handler request self.old.driver.turns result self.old.driver.seen self.new.driver.seen }
-        ensures wish { self.new.wish ≡ self.old.wish }
+        ensures kept { (self.new.wish ≡ self.old.wish) × (self.new.answers ≡ self.old.answers) }
     {
         match self.driver.call_unless(handler, request, interrupt) {
             Ok(()) => {}
@@ -516,6 +528,7 @@ impl<'j, L: Link, J: Write + Drop> Session<'j, L, J> {
     ) -> Result<Reply, DriverError>
         ensures does { WhenDoes result self.old.driver.seen self.new.driver.seen }
         ensures waits { BeginsToWait (wish_for handlers.now (map part_of conditions.now) []) tries result self.old.wish self.new.wish }
+        ensures answers { self.new.answers ≡ self.old.answers }
     {
         if self.driver.phase() != Phase::Idle {
             return Err(DriverError::Client(ClientError::NotIdle));
@@ -536,7 +549,8 @@ impl<'j, L: Link, J: Write + Drop> Session<'j, L, J> {
         pause: &mut P,
         interrupt: &mut I,
     ) -> Result<Reply, DriverError>
-        requires { self.old.wish ≡ None }
+        requires wish { self.old.wish ≡ None }
+        ensures told { OnlyHeld result self.new.answers.items }
         ensures does { TryDoes wish result self.new.answers.items self.old.driver.seen self.new.driver.seen }
         ensures waits { WaitsEnded result self.new.wish }
     {

@@ -5,4 +5,4 @@ use Rattle.scoop_session.proofs.session.Session.unlock.Given as goal
 abbrev pub invariant-loop-taken : goal.invariant-loop-taken
 invariant-loop-taken g l =
     TakesTurnsOnly l.initial.self.driver.seen l.self.driver.seen × (l.self.driver.turns ≡ l.initial.self.driver.turns)
-    × (l.self.wish ≡ l.initial.self.wish)
+    × (l.self.wish ≡ l.initial.self.wish) × (l.self.answers ≡ l.initial.self.answers)
