@@ -103,10 +103,11 @@ module _ (id : ClientId) (batch : ℕ) (known : List HandlerId) where
 
 -- ---- a run
 
-ran_lives : (id : ClientId) (batch : ℕ) (known : List HandlerId) (old new : ℕ → Option ℕ) (honest : Type 0) (result : Result (Unit {0}) ClientStop)
-    (ran : ClientRan id batch known old new honest result) → AreLives id batch known honest old (lives_by id batch known old new honest result ran) new
-ran_lives id batch known old new honest (Ok u) ran = ran.are
-ran_lives id batch known old new honest (Err stop) ran = ran.are
+pub ran_lives : (id : ClientId) (batch : ℕ) (known : List HandlerId) (old new : ℕ → Option ℕ) (honest : Type 0) (is_piped : Bool)
+    (blank output : Option (List ℕ)) (result : Result (Unit {0}) ClientStop) (ran : ClientRan id batch known old new honest is_piped blank output result)
+    → AreLives id batch known honest old (lives_by id batch known old new honest is_piped blank output result ran) new
+ran_lives id batch known old new honest is_piped blank output (Ok u) ran = ran.are
+ran_lives id batch known old new honest is_piped blank output (Err stop) ran = ran.are
 
 module _ {K : Type 0} {incarnations : K → ℕ → Option ℕ} {is_honest : K → Type 0} where
   runs_follow : (id : ClientId) (batch : ℕ) (known : List HandlerId) (r : ClientRun incarnations is_honest id batch known)
@@ -114,11 +115,11 @@ module _ {K : Type 0} {incarnations : K → ℕ → Option ℕ} {is_honest : K �
       → Follow id batch known (stored_at id batch known (incarnations r.before)) (lives_in r ++ flat_map lives_in later)
   runs_follow id batch known r [] honest after =
       follow id batch known (is_honest r.after) honest (incarnations r.before) (incarnations r.after) (lives_in r) []
-      (ran_lives id batch known (incarnations r.before) (incarnations r.after) (is_honest r.after) r.result r.ran) tt
+      (ran_lives id batch known (incarnations r.before) (incarnations r.after) (is_honest r.after) r.is_piped r.blank r.output r.result r.ran) tt
   runs_follow id batch known r (s ∷ later) honest after =
       let rest : List Life = lives_in s ++ flat_map lives_in later in
       follow id batch known (is_honest r.after) honest (incarnations r.before) (incarnations r.after) (lives_in r) rest
-      (ran_lives id batch known (incarnations r.before) (incarnations r.after) (is_honest r.after) r.result r.ran)
+      (ran_lives id batch known (incarnations r.before) (incarnations r.after) (is_honest r.after) r.is_piped r.blank r.output r.result r.ran)
       (subst (λ (o : Option ℕ). Follow id batch known (unwrap_or o 0) rest) after.0.same (runs_follow id batch known s later after.0.honest after.1))
 
   pub is_client_life : (c : ClientRuns incarnations is_honest) → ClientMayRun c → IsClientLife (life_of_client c)

@@ -152,7 +152,7 @@ known = handler 1 ∷ handler 2 ∷ []
 
 -- it stopped inside a block, which isn't cut
 abbrev stop : ℕ → ClientStop
-stop inc = record { error = InsideBlock; progress = record { is_ready = true; answered = None; has_begun = true; unended = Held (block 7 inc 1) } }
+stop inc = record { error = InsideBlock; progress = record { is_ready = true; answered = None; has_begun = true; unended = Held (block 7 inc 1); is_told = true } }
 
 abbrev fresh : ℕ → ClientState
 fresh inc = greeting (client 7) inc known 0 1
@@ -164,7 +164,7 @@ next_can : AllCan (fresh 2) next_steps
 next_can = runs.each_client.0.2.0
 
 abbrev Ran : MemoryRecord → MemoryRecord → ℕ → Type 0
-Ran old new inc = ClientRan (client 7) 1 known (incarnation_at old) (incarnation_at new) (always new) (Err (stop inc))
+Ran old new inc = ClientRan (client 7) 1 known (incarnation_at old) (incarnation_at new) (always new) false None None (Err (stop inc))
 
 ran_first : Ran (memory_record [] []) (at 1) 1
 ran_first = record {

@@ -1,3 +1,4 @@
 pub mod Programs
 pub mod Files
 pub mod Example
+pub mod Truth

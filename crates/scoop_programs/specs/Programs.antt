@@ -1,5 +1,5 @@
 -- Runs of the programs `scoop node` and `scoop client`, the lives that they had, and the world that these lives are.
-use Rattle.std.specs.Prelude.{◌≡◌, ◌≤◌, ⊤, ℕ, List, [], ◌∷◌, ◌++◌, flat_map, length, map, unwrap_or, Option, Result, Ok, Err}
+use Rattle.std.specs.Prelude.{◌≡◌, ◌≤◌, ⊤, ℕ, List, [], ◌∷◌, ◌++◌, flat_map, length, map, unwrap_or, Bool, Option, Result, Ok, Err}
 use Rattle.std.specs.List.{AllByRecursion}
 use Rattle.scoop_message.specs.declared.name.ClientId.{ClientId}
 use Rattle.scoop_message.specs.declared.name.HandlerId.{HandlerId}
@@ -39,12 +39,15 @@ pub record NodeRuns {K : Type 0} (has : K → ℕ → Stored → Type 0) (is_hon
   pub later : List (NodeRun has is_honest members)
 
 -- A run of a client with this name and batch, which knows these handlers. It has its keeper before and after, how it
--- ended, and what it did, as `client_run` ensures it.
+-- ended, whether it ran over a pipe, its output before and after, and what it did, as `client_run` ensures it.
 pub record ClientRun {K : Type 0} (incarnations : K → ℕ → Option ℕ) (is_honest : K → Type 0) (id : ClientId) (batch : ℕ) (known : List HandlerId) : Type 0 where
   pub before : K
   pub after : K
   pub result : Result (Unit {0}) ClientStop
-  pub ran : ClientRan id batch known (incarnations before) (incarnations after) (is_honest after) result
+  pub is_piped : Bool
+  pub blank : Option (List ℕ)
+  pub output : Option (List ℕ)
+  pub ran : ClientRan id batch known (incarnations before) (incarnations after) (is_honest after) is_piped blank output result
 
 -- a client: its name and batch, the handlers that it knows, and its runs, one after another
 pub record ClientRuns {K : Type 0} (incarnations : K → ℕ → Option ℕ) (is_honest : K → Type 0) : Type 0 where
@@ -83,10 +86,11 @@ module _ {K : Type 0} {has : K → ℕ → Stored → Type 0} {is_honest : K →
 -- ---- the life of a client
 
 -- the lives of a run
-abbrev pub lives_by : (id : ClientId) (batch : ℕ) (known : List HandlerId) (old new : ℕ → Option ℕ) (is_honest : Type 0) (result : Result (Unit {0}) ClientStop)
-    → ClientRan id batch known old new is_honest result → List Life
-lives_by id batch known old new is_honest (Ok u) ran = ran.lives
-lives_by id batch known old new is_honest (Err stop) ran = ran.lives
+abbrev pub lives_by : (id : ClientId) (batch : ℕ) (known : List HandlerId) (old new : ℕ → Option ℕ) (is_honest : Type 0) (is_piped : Bool)
+    (blank output : Option (List ℕ)) (result : Result (Unit {0}) ClientStop)
+    → ClientRan id batch known old new is_honest is_piped blank output result → List Life
+lives_by id batch known old new is_honest is_piped blank output (Ok u) ran = ran.lives
+lives_by id batch known old new is_honest is_piped blank output (Err stop) ran = ran.lives
 
 -- where no client began, no step was made
 abbrev pub steps_in : Life → List Step
@@ -113,7 +117,7 @@ life_from n drivers =
 module _ {K : Type 0} {incarnations : K → ℕ → Option ℕ} {is_honest : K → Type 0} where
   abbrev pub lives_in : {id : ClientId} {batch : ℕ} {known : List HandlerId} → ClientRun incarnations is_honest id batch known → List Life
   lives_in {id = id} {batch = batch} {known = known} r =
-      lives_by id batch known (incarnations r.before) (incarnations r.after) (is_honest r.after) r.result r.ran
+      lives_by id batch known (incarnations r.before) (incarnations r.after) (is_honest r.after) r.is_piped r.blank r.output r.result r.ran
 
   -- the client as it joins: the incarnation that its keeper had of it before, 0 where it had none, and the handlers that it knows
   abbrev pub newcomer_of : ClientRuns incarnations is_honest → Newcomer

@@ -258,7 +258,7 @@ lives_on is_piped id inc o p w c waits ended rest last s t u is fresh named prin
     let session : List Step = prints.0 in
     let first : Goes session s t = session_goes is_piped id inc ended o p w session s t prints.1 in
     let steps : List Step = session ++ parts.0 in
-    let goes : Goes steps s u = goes_on session parts.0 s t u first parts.1.0 in
+    let goes : Goes steps s u = goes_on session parts.0 s t u first parts.1 in
     let now : phase_of u.client ≡ phase_of (walk c steps) = ap phase_of goes.client ∙ ap (λ d. phase_of (walk d steps)) is in
     let before : t.client ≡ walk c session = first.client ∙ ap (λ d. walk d session) is in
     record {
@@ -284,7 +284,7 @@ lives_on is_piped id inc o p w c waits ended rest last s t u is fresh named prin
         session = session;
         parting = parts.0;
         are = refl;
-        parts = parts.1.1;
+        parts = (parts.2, parts.3);
         prints = subst (λ x. SessionDone is_piped id c.inc ended o p x session s t) fresh
             (subst (λ n. SessionDone is_piped id n ended o p w session s t) named prints.1);
       };

@@ -21,7 +21,7 @@ use Rattle.scoop_runtime.proofs.Printed.{appends_nothing, keeps_same}
 pub breaks_obeyed : (Q : Type 0) (l : ClientLine) (w v : Option Wish) (turns : ℕ) (answers : List Answer) (s t : Seen) (r : Result (Option Reply) DriverError)
     → IfOk r (λ replied. IfSome replied (λ reply. Obeys l w v turns (Ok reply) answers s t)) → IfErr r (λ e. Obeys l w v turns (Err e) answers s t)
     → (r ≡ Ok None → Q × (t ≡ s) × (v ≡ w)) → BreaksSo w s t
-breaks_obeyed Q l w v turns answers s t (Ok None) replied ended quiet = ([], no_line refl (quiet refl).1.0)
+breaks_obeyed Q l w v turns answers s t (Ok None) replied ended quiet = ([], no_line refl (quiet refl).1)
 breaks_obeyed Q l w v turns answers s t (Ok (Some reply)) replied ended quiet =
     (steps_obeyed l w v turns (Ok reply) answers s t replied, a_line replied refl)
 breaks_obeyed Q l w v turns answers s t (Err e) replied ended quiet = (steps_obeyed l w v turns (Err e) answers s t ended, a_line ended refl)

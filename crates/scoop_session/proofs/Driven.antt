@@ -71,7 +71,7 @@ first_given x turns v s t called = first_turning x turns v s t t called ([], goe
 
 -- one that wasn't
 pub first_failed : {T : Type 0} (x : Command) (turns : ℕ) (e : DriverError) (s t : Seen) → Called {T = T} x turns (Err e) s t → GivesFirst (x ∷ []) s t
-first_failed x turns e s t (xs, does) = (xs, does.goes, does.commands.0, does.commands.1.0)
+first_failed x turns e s t (xs, does) = (xs, does.goes, does.commands.0, does.commands.1)
 
 -- one more command may follow
 pub first_more : (x y : Command) (s t : Seen) → GivesFirst (x ∷ []) s t → GivesFirst (x ∷ y ∷ []) s t
@@ -129,7 +129,7 @@ drives_waited Stopped (Some h) w turns tries r answers s t stays waits = drives_
 -- ---- outside a block that waits for its condition
 
 goes_given : (s t : Seen) (gave : GaveUp s t) → Goes (steps_given_up gave) s t
-goes_given s t gave = goes_on gave.gives.0 gave.turned.0 s gave.given t gave.gives.1.goes gave.turned.1.0
+goes_given s t gave = goes_on gave.gives.0 gave.turned.0 s gave.given t gave.gives.1.goes gave.turned.1
 
 -- a block whose wait was ended, and that is then given up
 pub begun_then : (hs : List HandlerId) (turns : ℕ) (b : Bool) (o : Result Reply DriverError) (s t u : Seen) → b ≡ false
@@ -147,7 +147,7 @@ goes_begun hs turns s t did =
     goes_on did.begins.0 (steps_given_up did.gave_up) s did.begun t did.begins.1.goes (goes_given did.begun t did.gave_up)
 
 goes_block : (hs : List HandlerId) (turns : ℕ) (s t : Seen) (runs : RunsBlock hs turns s t) → Goes (steps_of_block runs) s t
-goes_block hs turns s t runs = goes_on runs.reserves.0 runs.turned.0 s runs.running t runs.reserves.1.goes runs.turned.1.0
+goes_block hs turns s t runs = goes_on runs.reserves.0 runs.turned.0 s runs.running t runs.reserves.1.goes runs.turned.1
 
 goes_same : (s t : Seen) → t ≡ s → Goes [] s t
 goes_same s t is = subst (λ u. Goes [] s u) (sym is) (goes_nothing s)
@@ -156,7 +156,7 @@ goes_reserving : (hs : List HandlerId) (turns : ℕ) (o : Result Reply DriverErr
     → Goes (steps_reserving hs turns o s t does) s t
 goes_reserving hs turns (Ok (Reserved block)) s t does = goes_block hs turns s t does.1
 goes_reserving hs turns (Ok GivenUp) s t does = goes_begun hs turns s t does
-goes_reserving hs turns (Err e) s t does = does.1.0
+goes_reserving hs turns (Err e) s t does = does.1
 goes_reserving hs turns (Ok reply) s t does = absurd does
 
 goes_calling : (h : HandlerId) (r : Request) (turns : ℕ) (o : Result Reply DriverError) (s t : Seen) (does : CallDoes h r turns o s t)
@@ -167,8 +167,8 @@ goes_calling h r turns (Ok reply) s t does = absurd does
 
 goes_asking : (h : HandlerId) (r : Request) (turns : ℕ) (o : Result Reply DriverError) (s t : Seen) (does : QueryDoes h r turns o s t)
     → Goes (steps_asking h r turns o s t does) s t
-goes_asking h r turns (Ok (Answered a)) s t does = does.1.0.goes
-goes_asking h r turns (Err e) s t does = does.1.0.goes
+goes_asking h r turns (Ok (Answered a)) s t does = does.1.goes
+goes_asking h r turns (Err e) s t does = does.1.goes
 goes_asking h r turns (Ok reply) s t does = absurd does
 
 goes_ending : (turns : ℕ) (o : Result Reply DriverError) (s t : Seen) (does : EndDoes turns o s t) → Goes (steps_ending turns o s t does) s t
@@ -178,7 +178,7 @@ goes_ending turns (Ok reply) s t does = absurd does
 
 goes_giving_up : (o : Result Reply DriverError) (s t : Seen) (does : GiveUpDoes o s t) → Goes (steps_giving_up o s t does) s t
 goes_giving_up (Ok GivenUp) s t does = goes_given s t does
-goes_giving_up (Err e) s t does = does.1.1.0
+goes_giving_up (Err e) s t does = does.1.1
 goes_giving_up (Ok reply) s t does = absurd does
 
 goes_waiting : (o : Result Reply DriverError) (s t : Seen) → WhenDoes o s t → Goes [] s t
@@ -201,19 +201,19 @@ goes_outside (line.ReserveWhen hs conditions tries) turns o s t does = goes_wait
 -- ---- inside such a block
 
 goes_stopped : (w : Waited) (tries : ℕ) (s t : Seen) (stops : StopsTrying w tries s t) → Goes (steps_stopped w tries s t stops) s t
-goes_stopped w tries s t (between {failed} below out) = out.1.0
-goes_stopped w tries s t (locking {begun} out gave) = goes_on out.0 (steps_given_up gave) s begun t out.1.0 (goes_given begun t gave)
+goes_stopped w tries s t (between {failed} below out) = out.1
+goes_stopped w tries s t (locking {begun} out gave) = goes_on out.0 (steps_given_up gave) s begun t out.1 (goes_given begun t gave)
 
 goes_failed : (w : Waited) (tries : ℕ) (e : DriverError) (answers : List Answer) (s t : Seen) (fails : FailsTrying w tries e answers s t)
     → Goes (steps_failed w tries e answers s t fails) s t
-goes_failed w tries e answers s t (tried out) = out.1.0
+goes_failed w tries e answers s t (tried out) = out.1
 goes_failed w tries e answers s t (refused memory same) = goes_same s t same
 goes_failed w tries e answers s t (left is stops) = goes_stopped w tries s t stops
-goes_failed w tries e answers s t (kept {begun} says out gives) = goes_on out.0 gives.0 s begun t out.1.0 gives.1.0
+goes_failed w tries e answers s t (kept {begun} says out gives) = goes_on out.0 gives.0 s begun t out.1 gives.1
 
 goes_trying : (w : Wish) (o : Result Reply DriverError) (answers : List Answer) (s t : Seen) (does : TryDoes w o answers s t)
     → Goes (steps_trying w o answers s t does) s t
-goes_trying w (Ok (EndedAt k)) answers s t does = does.1.0
+goes_trying w (Ok (EndedAt k)) answers s t does = does.1
 goes_trying w (Ok GivenUp) answers s t does = goes_stopped (tried_as w) w.tries s t does.1
 goes_trying w (Err e) answers s t does = goes_failed (tried_as w) w.tries e answers s t does
 goes_trying w (Ok reply) answers s t does = absurd does

@@ -543,6 +543,7 @@ impl<'j, L: Link, J: Write + Drop> Session<'j, L, J> {
     }
 
     // Ends the lines of a block that waits for its condition: tries it.
+    #[tactic(auto, using(crate::proofs::Noted::only_none))]
     fn end_wish<P: Pause, I: Interrupt>(
         &mut self,
         wish: Wish,

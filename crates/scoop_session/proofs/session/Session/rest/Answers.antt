@@ -5,7 +5,7 @@ pub returns-in-Err-clause-turned : goal.returns-in-Err-clause-turned
 returns-in-Err-clause-turned g c = turned_more _ _ _ _ c.loop-taken.invariant.0 c.in-Err.ensures.does
 
 pub loop-taken-preserved : goal.loop-taken-preserved
-loop-taken-preserved g c = (turned_more _ _ _ _ c.loop-taken.invariant.0 c.in-Ok.ensures.does, c.loop-taken.invariant.1)
+loop-taken-preserved g c = (turned_more _ _ _ _ c.loop-taken.invariant.0 c.in-Ok.ensures.does, c.loop-taken.invariant.1, c.loop-taken.invariant.2)
 
 pub returns-in-Err-clause-tries : goal.returns-in-Err-clause-tries
 returns-in-Err-clause-tries g c = turn_says _ _ _ c.in-Err.ensures.does
