@@ -36,7 +36,7 @@ message_same : (c : ClientState) (o : Option Message) → IsSameClient c (after_
 message_same c None = itself c
 message_same c (Some m) = notices_same c m (heard c m).0 (hears c m)
 
-step_same : (c : ClientState) (s : Step) → Can c s → IsSameClient c (after c s)
+pub step_same : (c : ClientState) (s : Step) → Can c s → IsSameClient c (after c s)
 step_same c (Gave x) can = takes_same c (after c (Gave x)) x (takes c (after c (Gave x)) x (taken c can.0 (client.command c x) can.1))
 step_same c (Turned got) can = message_same c (message_in got)
 step_same c (Broke place) can = itself c

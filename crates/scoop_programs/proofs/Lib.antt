@@ -1,3 +1,5 @@
+mod Accepting
+mod Among
 mod Keeping
 mod Clients
 mod Standing
@@ -5,3 +7,4 @@ mod Nodes
 mod Worlds
 mod Files
 mod ExampleRuns
+mod Told

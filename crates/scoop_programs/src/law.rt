@@ -5,6 +5,7 @@ ghost use Rattle.scoop_system.specs.System.{Plan};
 ghost use Rattle.scoop_system.specs.WellFormed.{IsWellFormed};
 ghost use Rattle.scoop_programs.specs.Files.{AreOf};
 ghost use Rattle.scoop_programs.specs.Programs.{AreAWorld, ClientRuns, MayRun, NodeRuns};
+ghost use Rattle.scoop_programs.specs.Truth.{PrintTruth};
 
 use scoop_audit::systems_may_run;
 use scoop_keeper::Keeper;
@@ -39,3 +40,14 @@ pub fn systems_are_a_world<K: Keeper<Global>, J: Keeper<Global>>()
 {
     systems_may_run();
 }
+
+/// What a client printed is true, of the runs of [`programs_are_a_world`]: take an order of all moves in which each message that is
+/// heard was sent before. A client that printed `answer V` printed it for a query. That query ran at its handler, in a block of the
+/// client, with this answer, and each answer of that handler is its object's, after exactly what ran before it. So is each answer
+/// before the `ended N` of a waiting block.
+///
+/// The texts of an output that records are those of these replies, in order (`ClientRan`).
+pub fn printed_is_true<K: Keeper<Global>, J: Keeper<Global>>()
+    ensures { (nodes : List (NodeRuns K.handlers K.is_honest)) (clients : List (ClientRuns J.incarnations J.is_honest)) → MayRun nodes clients
+        → PrintTruth nodes clients }
+{}

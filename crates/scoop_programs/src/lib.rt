@@ -12,6 +12,8 @@
 //! scoop_programs::programs_are_a_world::<MemoryKeeper, MemoryKeeper>();
 //! // so are those of the nodes and clients of one system
 //! scoop_programs::systems_are_a_world::<MemoryKeeper, MemoryKeeper>();
+//! // and what their clients printed is true of it
+//! scoop_programs::printed_is_true::<MemoryKeeper, MemoryKeeper>();
 //! // and here are some that are computed
 //! scoop_programs::example_may_run();
 //! ```
@@ -21,4 +23,4 @@ mod example;
 mod law;
 
 pub use example::example_may_run;
-pub use law::{programs_are_a_world, systems_are_a_world};
+pub use law::{printed_is_true, programs_are_a_world, systems_are_a_world};

@@ -4,4 +4,4 @@ mod Lines
 mod Members
 mod Names
 mod NodeLives
-mod Printed
+pub mod Printed

@@ -62,7 +62,7 @@ done_more (e ∷ es) xs ys s t u d did one = record {
 goes_same : (steps : List Step) (s t : Seen) → steps ≡ [] → t ≡ s → Goes steps s t
 goes_same steps s t none same = subst (λ zs. Goes zs s t) (sym none) (subst (λ u. Goes [] s u) (sym same) (goes_nothing s))
 
-goes_one : (d : Deed) (steps : List Step) (s t : Standing) → IsDone d steps s t → Goes steps s.seen t.seen
+pub goes_one : (d : Deed) (steps : List Step) (s t : Standing) → IsDone d steps s t → Goes steps s.seen t.seen
 goes_one (Replied l answers reply) steps s t did =
     subst (λ zs. Goes zs s.seen t.seen) (sym did.taken) (goes_obeyed l s.wish t.wish did.turns (Ok reply) answers s.seen t.seen did.obeys)
 goes_one (Misread e) steps s t did = goes_same steps s.seen t.seen did.none did.seen
