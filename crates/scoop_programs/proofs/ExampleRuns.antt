@@ -182,7 +182,7 @@ abbrev seen : ClientState → Seen
 seen c = record { client = c; told = None; faults = 0; diary = None }
 
 goes : (c : ClientState) (steps : List Step) → AllCan c steps → faults_in steps ≡ 0 → Goes steps (seen c) (seen (walk c steps))
-goes c steps can none = record { client = refl; can = can; link = tt; faults = sym none; diary = refl }
+goes c steps can none = record { client = refl; can = can; link = record { telling = λ now is. cc }; faults = sym none; diary = refl }
 
 abbrev greeting_steps : List Step
 greeting_steps = take 2 first_steps
