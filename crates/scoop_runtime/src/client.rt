@@ -322,9 +322,9 @@ fn next_after(plan: &ClientPlan<'_>, line: &ClientLine, reply: &Reply, is_inside
     if ends_wait(line, reply) {
         return Next::LineAfterWait;
     }
-    let gives_up = gives_up(line);
+    let is_giveup = gives_up(line);
     match reply {
-        Reply::Refused(_) | Reply::NotInWhen if plan.is_piped() && !gives_up => {
+        Reply::Refused(_) | Reply::NotInWhen if plan.is_piped() && !is_giveup => {
             after_refused(is_inside)
         }
         reply if plan.is_piped() || !reply.is_refusal() => Next::Line,
