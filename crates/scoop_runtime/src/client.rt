@@ -143,6 +143,7 @@ pub(crate) enum Next {
 }
 
 // Does what the line of this number asks, and writes the reply to it. `last` is what the line before led to.
+#[tactic(auto, using(crate::proofs::Lines::line_misread, crate::proofs::Lines::line_repeats))]
 fn read_and_obey<L, J, I, W, N, P>(
     plan: &ClientPlan<'_>,
     session: &mut Session<'_, L, J>,
@@ -401,6 +402,7 @@ where
 
 // Does what a line asks. There is no reply if the journal doesn't have all that it rests on. Only the lines that led to
 // `Logged`, `Reserved` and `Noted` may wait.
+#[tactic(auto, using(crate::proofs::Lines::breaks_obeyed))]
 fn obey<L, J, I, W, N, P>(
     plan: &ClientPlan<'_>,
     session: &mut Session<'_, L, J>,
@@ -459,6 +461,7 @@ fn print_reply_lines<W: Write>(
 }
 
 // Does what a line asks and writes the reply.
+#[tactic(auto, using(crate::proofs::Lines::line_broken, crate::proofs::Lines::line_passes, crate::proofs::Lines::line_replied, crate::proofs::Lines::line_unwritten))]
 fn obey_line<L, J, I, W, N, P>(
     plan: &ClientPlan<'_>,
     session: &mut Session<'_, L, J>,

@@ -18,7 +18,7 @@ use Rattle.scoop_driver.specs.State.{Seen, Goes}
 use Rattle.scoop_driver.specs.Calls.{Called, Queried, RunsNext}
 use Rattle.scoop_driver.specs.declared.condition.BodyEntry.{BodyEntry}
 use Rattle.scoop_driver.specs.declared.condition.BodyEntry.TheVariants.{Call, Query}
-use Rattle.scoop_driver.specs.Wishes.{Wish as Waited, handler_of, wish_for}
+use Rattle.scoop_driver.specs.Wishes.{Wish as Waited, handler_of}
 use Rattle.scoop_driver.specs.Waiting.{WaitGives}
 use Rattle.scoop_system.specs.declared.line.ClientLine.{ClientLine}
 use Rattle.scoop_system.specs.declared.line.ClientLine.TheVariants as line
