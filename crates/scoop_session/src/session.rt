@@ -419,6 +419,7 @@ impl<'j, L: Link, J: Write + Drop> Session<'j, L, J> {
     // Reserves the handlers, and gives their locks back before it returns, so that no other client waits for them until this
     // client's next call. If the turns don't suffice or the interrupt leaves, the later calls go on with it. Returns the block,
     // or `None` if the interrupt ended the wait for the locks.
+    #[tactic(auto, using(crate::proofs::Driven::first_failed, crate::proofs::Driven::first_given, crate::proofs::Driven::first_turning))]
     pub(crate) fn lock<I: Interrupt>(
         &mut self,
         handlers: &[HandlerId],
@@ -450,6 +451,7 @@ impl<'j, L: Link, J: Write + Drop> Session<'j, L, J> {
     }
 
     // Reserves the handlers. A block whose wait for the locks is interrupted is given up.
+    #[tactic(auto, using(crate::proofs::Driven::first_more))]
     fn reserve<I: Interrupt>(
         &mut self,
         handlers: &NamedHandlers,
@@ -520,6 +522,7 @@ impl<'j, L: Link, J: Write + Drop> Session<'j, L, J> {
     }
 
     // Begins a block that waits for its condition. Its lines are noted until its end.
+    #[tactic(auto, using(crate::proofs::Noted::begins_waiting))]
     fn wish_for(
         &mut self,
         handlers: &NamedHandlers,

@@ -1,4 +1,4 @@
-use Rattle.scoop_session.proofs.Driven.{drives_turning, first_failed, first_given, first_turning}
+use Rattle.scoop_session.proofs.Driven.{drives_turning}
 use Rattle.scoop_session.proofs.session.Session.lock.Goals as goal
 
 pub returns-in-Err-unlock-clause-drives : goal.returns-in-Err-unlock-clause-drives
@@ -9,13 +9,3 @@ returns-in-Ok-clause-drives g c = drives_turning _ _ _ _ _ _ c.in-Ok-true.ensure
 
 pub returns-in-Ok-2-clause-drives : goal.returns-in-Ok-2-clause-drives
 returns-in-Ok-2-clause-drives g c = drives_turning _ _ _ _ _ _ c.in-Ok-true.ensures.does c.in-Ok.ensures.turned
-
--- a block that isn't reserved
-pub returns-in-Err-clause-gives : goal.returns-in-Err-clause-gives
-returns-in-Err-clause-gives g c = first_failed _ _ _ _ _ c.in-Err.ensures.does
-
-pub returns-in-None-clause-gives : goal.returns-in-None-clause-gives
-returns-in-None-clause-gives g c = first_given _ _ _ _ _ c.in-Ok-true.ensures.does
-
-pub returns-in-Err-unlock-clause-gives : goal.returns-in-Err-unlock-clause-gives
-returns-in-Err-unlock-clause-gives g c = first_turning _ _ _ _ _ _ c.in-Ok-true.ensures.does c.in-Err-unlock.ensures.turned
