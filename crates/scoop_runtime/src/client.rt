@@ -381,16 +381,16 @@ where
             Ok(None) => break,
             Err(error) => return Err(unread(plan, error, &mut console.output)),
         };
-        let obeyed = read_and_obey(plan, session, &line, number, last, console);
-        last = match obeyed {
+        let next = match read_and_obey(plan, session, &line, number, last, console) {
             Ok(next) => next,
             Err(error) => {
                 progress.has_begun = has_begun(error);
                 return Err(error);
             }
         };
+        last = next;
         progress.answered = Some(number);
-        match last {
+        match next {
             Next::Line | Next::LineAfterWait => {}
             Next::LineAfterRefusal => refusals = Some(Refusals::add(refusals, number)),
             Next::Refused => return Err(RuntimeError::Refused(number)),
