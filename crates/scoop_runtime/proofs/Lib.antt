@@ -2,6 +2,5 @@ mod ClientLives
 mod Cut
 mod Lines
 mod Members
-mod Names
 mod NodeLives
 pub mod Printed
