@@ -82,8 +82,11 @@ done_accepts : (w : Waited) (answers : List Answer) (c : ClientState) (steps : L
 done_accepts w answers c steps done =
     subst (λ zs. AllByRecursion (AcceptsOne c zs) answers) (sym done.are)
     (lifted (AcceptsOne (walk c done.testing) done.logging) (AcceptsOne c (done.testing ++ (done.logging ++ done.ending)))
-    (λ a one. (one.0, in_back c done.testing (done.logging ++ done.ending) one.0 a
-        (in_front (walk c done.testing) done.logging done.ending one.0 a one.1)))
+    (λ a one. (
+      one.0,
+      in_back c done.testing (done.logging ++ done.ending) one.0 a
+          (in_front (walk c done.testing) done.logging done.ending one.0 a one.1),
+    ))
     answers (logs_accept w.body answers (walk c done.testing) done.logging done.logs))
 
 holds_accepts : (w : Waited) (tries k : ℕ) (answers : List Answer) (c : ClientState) (steps : List Step) → HoldsAt w tries k answers c steps
@@ -260,7 +263,7 @@ session_accepts is_piped id inc r o p w steps s t (some_lines {greeting} {start}
     (lifted (DeedAccepts start.client rest.lines) (DeedAccepts s.client (greeting ++ (rest.lines ++ rest.last)))
     (deed_lifted start.client s.client rest.lines (greeting ++ (rest.lines ++ rest.last))
     (λ h a here. in_back s.client greeting (rest.lines ++ rest.last) h a
-        (subst (λ c. Accepts c (rest.lines ++ rest.last) h a) goes.client (in_front start.client rest.lines rest.last h a here))))
+    (subst (λ c. Accepts c (rest.lines ++ rest.last) h a) goes.client (in_front start.client rest.lines rest.last h a here))))
     rest.deeds (all_accept rest.deeds rest.lines (standing start w false) rest.reached rest.done))
 
 pub life_accepts : (is_piped : Bool) (id : ClientId) (c : ClientState) (r : Result (Unit {0}) RuntimeError) (steps : List Step) (o p : Option (List ℕ))

@@ -83,19 +83,19 @@ heard_so : (c : ClientState) (steps : List Step) (note : ClientNote) → AllCan 
 heard_so c [] note can none = absurd none
 heard_so c (s ∷ ss) note can among = elim (in_either (note_at c s) (notes_by (after c s) ss) note among) [
   | inl here ↦ let so = at_step c s note here in
-    record {
-      message = so.message;
-      name = so.name;
-      named = so.named;
-      at = in_first (moves_at c s) (moves_by (after c s) ss) (ClientHeard so.name so.message note) so.at;
-    }
+      record {
+        message = so.message;
+        name = so.name;
+        named = so.named;
+        at = in_first (moves_at c s) (moves_by (after c s) ss) (ClientHeard so.name so.message note) so.at;
+      }
   | inr later ↦ let so = heard_so (after c s) ss note can.1 later in
-    record {
-      message = so.message;
-      name = so.name;
-      named = so.named ∙ (step_same c s can.0).id;
-      at = in_second (moves_at c s) (moves_by (after c s) ss) (ClientHeard so.name so.message note) so.at;
-    }
+      record {
+        message = so.message;
+        name = so.name;
+        named = so.named ∙ (step_same c s can.0).id;
+        at = in_second (moves_at c s) (moves_by (after c s) ss) (ClientHeard so.name so.message note) so.at;
+      }
 ]
 
 -- ---- an answer that the world's client accepted
