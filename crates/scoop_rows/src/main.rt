@@ -1,13 +1,13 @@
 //! Plays the rows of all libraries that need no threads and no sockets. The arguments name the files.
 #![tactic(auto)]
 
-use scoop_row_player::{Areas, Bad, Play, Sheet, play_files};
 use scoop_rows_etcd::EtcdAreas;
 use scoop_rows_links::LinkAreas;
 use scoop_rows_parts::Parts;
 use scoop_rows_runs::Runs;
 use scoop_rows_stores::StoreAreas;
 use scoop_rows_systems::SystemAreas;
+use scoop_testing::{Areas, Bad, Play, Sheet, play_files};
 use std::process::ExitCode;
 use std::sync::Wait;
 use std::time::Clock;

@@ -7,9 +7,9 @@ use scoop_handler::{HandlerState, Heard, Note, Reason};
 use scoop_keeper::{Keeper, KeeperError, SharedKeeper};
 use scoop_message::{ClientId, HandlerId, Message, Words};
 use scoop_queue::QueueOfQueues;
-use scoop_row_player::Bad;
-use scoop_row_player::answers::{tells_either, told};
-use scoop_row_player::words::{first, handler, last, long, number};
+use scoop_testing::Bad;
+use scoop_testing::answers::{tells_either, told};
+use scoop_testing::words::{first, handler, last, long, number};
 use std::alloc::Global;
 
 const ONE: HandlerId = HandlerId(1);

@@ -14,7 +14,7 @@ pub use examples::{
     absent_keys, both_are_found, both_are_put, nothing_is_put, others_write, two_callers,
 };
 use scoop_etcd_stores::Fate;
-use scoop_row_player::{Areas, Bad, Play, Sheet};
+use scoop_testing::{Areas, Bad, Play, Sheet};
 use scripted::ScriptedEtcd;
 use std::cell::RefCell;
 use stores::Stores;

@@ -9,8 +9,8 @@ use scoop_etcd_stores::{
     clients_in, handlers_in, has_state, owners_in, put_text, read_text, state_under,
 };
 use scoop_message::ClientId;
-use scoop_row_player::Bad;
-use scoop_row_player::words::{after_space, first, first_two, handler, number, text_of};
+use scoop_testing::Bad;
+use scoop_testing::words::{after_space, first, first_two, handler, number, text_of};
 use std::fmt::Debug;
 
 /// The owner at the beginning of a line, and what follows it.

@@ -19,8 +19,8 @@ use crate::txns::{read_bytes, read_range, read_txn};
 use scoop_etcd::{EtcdError, EtcdStore};
 use scoop_etcd_stores::{EtcdFault, Fate, FatefulKeeper};
 use scoop_lines::is;
-use scoop_row_player::words::{after_space, first, last, text_of};
-use scoop_row_player::{Bad, Subject};
+use scoop_testing::words::{after_space, first, last, text_of};
+use scoop_testing::{Bad, Subject};
 use std::cell::RefCell;
 
 /// A program's store in an etcd, if it has one.

@@ -1,7 +1,7 @@
 //! Words of answers.
 
 use scoop_etcd_calls::{Found, Outcome};
-use scoop_row_player::Bad;
+use scoop_testing::Bad;
 use std::fmt::Display;
 use std::io::Write;
 

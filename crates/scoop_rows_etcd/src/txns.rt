@@ -2,8 +2,8 @@
 
 use scoop_etcd_calls::{Compare, Put, Range, Txn};
 use scoop_lines::next_word;
-use scoop_row_player::Bad;
-use scoop_row_player::words::{first, first_two, hex_byte, last, long};
+use scoop_testing::Bad;
+use scoop_testing::words::{first, first_two, hex_byte, last, long};
 use std::alloc::Global;
 
 // Conditions and puts of a transaction, at most.

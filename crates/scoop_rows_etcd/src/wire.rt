@@ -14,8 +14,8 @@ use scoop_etcd::is_store_name;
 use scoop_etcd_calls::{range_text, read_found, read_outcome, read_refusal, txn_text};
 use scoop_etcd_gateway::{Exchange, HttpFault, Response};
 use scoop_etcd_place::{EtcdPlace, begins_as_etcd};
-use scoop_row_player::words::{after_space, first, first_two, last, number, text_of};
-use scoop_row_player::{Bad, Subject};
+use scoop_testing::words::{after_space, first, first_two, last, number, text_of};
+use scoop_testing::{Bad, Subject};
 use std::alloc::Global;
 use std::io::Write;
 

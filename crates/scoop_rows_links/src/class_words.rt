@@ -5,8 +5,8 @@
 
 use scoop_lines::{decimal_u16, is};
 use scoop_object::{OpRow, Term, Write, Writes};
-use scoop_row_player::Bad;
-use scoop_row_player::words::{long, number, words_in};
+use scoop_testing::Bad;
+use scoop_testing::words::{long, number, words_in};
 use std::alloc::Global;
 
 /// The number of 8 bits that a word writes.

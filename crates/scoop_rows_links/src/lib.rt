@@ -15,7 +15,7 @@ use links::Links;
 use objects::Objects;
 use owners::Owners;
 use scoop_node_link::NodeCounts;
-use scoop_row_player::{Areas, Bad, Play, Sheet};
+use scoop_testing::{Areas, Bad, Play, Sheet};
 use seals::Seals;
 use std::cell::RefCell;
 

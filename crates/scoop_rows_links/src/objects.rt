@@ -13,9 +13,9 @@ use scoop_classes::{AccountObject, CellObject, CounterObject, ExchangeObject, de
 use scoop_lines::is;
 use scoop_message::{Args, OutOfMemory, Request, Words};
 use scoop_object::{Behaviour, Boxed, Class, Object, Table};
-use scoop_row_player::answers::{keeps, tells, told};
-use scoop_row_player::words::{first, last, numbers};
-use scoop_row_player::{Bad, Heap, Subject};
+use scoop_testing::answers::{keeps, tells, told};
+use scoop_testing::words::{first, last, numbers};
+use scoop_testing::{Bad, Heap, Subject};
 use std::alloc::Global;
 use std::io::Write;
 

@@ -13,10 +13,10 @@ use scoop_owner::{
     Newest, first_missing, first_older, last_incarnation, line_like, note_newest, owner_text,
     text_with_incarnation, updated_text,
 };
-use scoop_row_player::answers::tells;
-use scoop_row_player::words::{after_space, block, first, last, number, text_of};
-use scoop_row_player::{Bad, Subject};
 use scoop_system::System;
+use scoop_testing::answers::tells;
+use scoop_testing::words::{after_space, block, first, last, number, text_of};
+use scoop_testing::{Bad, Subject};
 use std::alloc::Global;
 
 /// The texts of a case, and marks.

@@ -6,10 +6,10 @@
 //!   key that it is made of are 05.
 
 use scoop_lines::is;
-use scoop_row_player::answers::{put_bytes, tells};
-use scoop_row_player::words::{first, first_two, hex_bytes, last, number, read_text};
-use scoop_row_player::{Bad, Subject};
 use scoop_seal::{Key, hmac};
+use scoop_testing::answers::{put_bytes, tells};
+use scoop_testing::words::{first, first_two, hex_bytes, last, number, read_text};
+use scoop_testing::{Bad, Subject};
 
 /// Codes and keys have no state.
 #[derive(Drop)]

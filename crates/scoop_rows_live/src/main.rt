@@ -10,9 +10,8 @@ mod painting;
 mod serving;
 
 use nodes::{Nodes, does};
-use scoop_refusing::Refusing;
-use scoop_row_player::{
-    Bad, Case, Cases, Heap, Rows, Sheet, lines_of, read, report, status, tell_no_area,
+use scoop_testing::{
+    Bad, Case, Cases, Heap, Refusing, Rows, Sheet, lines_of, read, report, status, tell_no_area,
 };
 use std::net::Net;
 use std::process::ExitCode;

@@ -14,9 +14,9 @@ use scoop_message::limits::BUFFER_LEN;
 use scoop_message::{Args, ClientId, Request};
 use scoop_netloop::{Answered, answer_datagram, run_out};
 use scoop_object::Table;
-use scoop_row_player::Bad;
-use scoop_row_player::answers::tells;
 use scoop_rows_parts::handlers::objects;
+use scoop_testing::Bad;
+use scoop_testing::answers::tells;
 use std::alloc::Global;
 
 // How many datagrams a lane has room for.

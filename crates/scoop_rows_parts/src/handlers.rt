@@ -9,8 +9,8 @@ use scoop_lines::{decimal_u32, is, next_word};
 use scoop_message::limits::MAX_HANDLERS;
 use scoop_message::{HandlerId, Words};
 use scoop_object::{Class, Table};
-use scoop_row_player::Bad;
-use scoop_row_player::words::{first, number};
+use scoop_testing::Bad;
+use scoop_testing::words::{first, number};
 use std::alloc::Global;
 
 /// Handlers from this number on come with a class that isn't their object's.

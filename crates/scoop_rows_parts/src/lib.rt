@@ -18,8 +18,7 @@ mod wire;
 use books::Books;
 use drivers::Drivers;
 use naming::Naming;
-use scoop_refusing::Refusing;
-use scoop_row_player::{Areas, Bad, Play, Sheet};
+use scoop_testing::{Areas, Bad, Play, Refusing, Sheet};
 use weaves::Weaves;
 
 /// The areas of this library.

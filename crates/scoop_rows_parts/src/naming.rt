@@ -3,9 +3,9 @@
 //! - `names BYTES` answers the handler and the client that these bytes in hex digits name, or `none`.
 
 use scoop_frame::peek;
-use scoop_row_player::answers::tells;
-use scoop_row_player::words::{first, hex_bytes};
-use scoop_row_player::{Bad, Subject};
+use scoop_testing::answers::tells;
+use scoop_testing::words::{first, hex_bytes};
+use scoop_testing::{Bad, Subject};
 
 /// Each row stands alone.
 #[derive(Drop)]

@@ -8,9 +8,9 @@
 use crate::drivers::HeapDriver;
 use scoop_driver::{BodyEntry, ConditionPart, NoInterrupt, Pause, Test, WaitingBlock};
 use scoop_message::{Answer, Args, Entry, HandlerId, Request};
-use scoop_row_player::Bad;
-use scoop_row_player::answers::tells_either;
-use scoop_row_player::words::{entry, first, first_three, handler, number};
+use scoop_testing::Bad;
+use scoop_testing::answers::tells_either;
+use scoop_testing::words::{entry, first, first_three, handler, number};
 use std::alloc::Global;
 use std::io::Write;
 

@@ -8,9 +8,9 @@
 
 use crate::printing::{message, put_move, put_moves};
 use scoop_message::Message;
-use scoop_row_player::answers::tells;
-use scoop_row_player::words::{first, text_of};
-use scoop_row_player::{Bad, Heap, Subject};
+use scoop_testing::answers::tells;
+use scoop_testing::words::{first, text_of};
+use scoop_testing::{Bad, Heap, Subject};
 use scoop_weaver::{Party, Traffic, weave};
 use std::alloc::Global;
 use std::io::Write;

@@ -11,7 +11,7 @@ use scoop_link::{Datagram, Link, LinkFault, Party};
 use scoop_message::limits::BUFFER_LEN;
 use scoop_netloop::LoopLink;
 use scoop_object::Table;
-use scoop_row_player::Bad;
+use scoop_testing::Bad;
 
 /// A link over another one. A planned call of it fails, and it loses planned sends. It keeps the last datagram that was
 /// sent.

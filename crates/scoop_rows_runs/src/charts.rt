@@ -8,16 +8,16 @@
 //!   answers whether it has TEXT after what was found last.
 
 use crate::telling::finds;
+use crate::transfer::Transfer;
 use scoop_chart::{Chart, ChartError};
 use scoop_handler::Note;
 use scoop_lines::{is, two_words};
 use scoop_message::{Answer, Block, ClientId, HandlerId, Message};
-use scoop_row_player::answers::{keeps, tells, told};
-use scoop_row_player::words::{after_space, first, last, number, text_of};
-use scoop_row_player::{Bad, Subject};
+use scoop_testing::answers::{keeps, tells, told};
+use scoop_testing::words::{after_space, first, last, number, text_of};
+use scoop_testing::{Bad, Subject};
 use scoop_world::{Event, WorldNote};
 use std::alloc::Global;
-use transfer::Transfer;
 
 const SEVEN: ClientId = ClientId(7);
 

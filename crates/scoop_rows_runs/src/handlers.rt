@@ -14,10 +14,10 @@ use crate::states::{Parts, shows_state};
 use scoop_handler::{Done, Handler, HandlerState, Job, Ran, StrangerJob};
 use scoop_message::{Entry, HandlerId, Message, Request};
 use scoop_object::{Behaviour, Table};
-use scoop_row_player::answers::{keeps, tells};
-use scoop_row_player::words::first;
-use scoop_row_player::{Bad, Heap, Subject};
 use scoop_rows_parts::printing::{message, put_message, put_note};
+use scoop_testing::answers::{keeps, tells};
+use scoop_testing::words::first;
+use scoop_testing::{Bad, Heap, Subject};
 use scoop_world::WorldNote;
 use std::alloc::Global;
 

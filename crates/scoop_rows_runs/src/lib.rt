@@ -10,6 +10,7 @@ mod queues;
 mod reading;
 mod states;
 mod telling;
+mod transfer;
 mod worlds;
 
 use charts::Charts;
@@ -17,8 +18,7 @@ use clients::Clients;
 use handlers::Handlers;
 use programs::Programs;
 use queues::Queues;
-use scoop_refusing::Refusing;
-use scoop_row_player::{Areas, Bad, Play, Sheet};
+use scoop_testing::{Areas, Bad, Play, Refusing, Sheet};
 use worlds::Worlds;
 
 /// The areas `answers`, `charts`, `clients`, `commands`, `framing`, `handlers`, `limits`, `long`, `pairs`, `queues`, `scripts` and

@@ -26,9 +26,9 @@ use scoop_demo::{PlayOptions, answer_run, print_frame_of, read_message, tell_fra
 use scoop_keeper::MemoryKeeper;
 use scoop_lines::next_word;
 use scoop_message::HandlerId;
-use scoop_row_player::answers::{add_line, tells, told};
-use scoop_row_player::words::{after_space, first, last, number, text_of};
-use scoop_row_player::{Bad, Subject};
+use scoop_testing::answers::{add_line, tells, told};
+use scoop_testing::words::{after_space, first, last, number, text_of};
+use scoop_testing::{Bad, Subject};
 use std::alloc::Global;
 use std::cell::Cell;
 use std::io::Write;

@@ -14,11 +14,11 @@ ghost use Rattle.scoop_queue.specs.Queue.{head_at};
 use scoop_message::limits::MAX_PENDING;
 use scoop_message::{Block, Entries, Entry};
 use scoop_queue::{Head, PutError, QueueOfQueues, QueueState};
-use scoop_row_player::answers::{tells, told};
-use scoop_row_player::words::{
+use scoop_testing::answers::{tells, told};
+use scoop_testing::words::{
     block, entries, entry, first, first_three, last, number, put_entry, words_in,
 };
-use scoop_row_player::{Bad, Heap, Subject};
+use scoop_testing::{Bad, Heap, Subject};
 use std::alloc::Allocator;
 use std::io::Write;
 

@@ -2,7 +2,7 @@
 
 use scoop_demo::{EventLine, LineKind, PlacedLine, line_kind, read_event, read_placement};
 use scoop_object::{Class, Table};
-use scoop_row_player::Bad;
+use scoop_testing::Bad;
 use scoop_world::{Event, Placement};
 use std::alloc::Global;
 

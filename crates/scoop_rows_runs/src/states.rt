@@ -5,9 +5,9 @@ use scoop_handler::{HandlerState, Mark, Stage, StateError};
 use scoop_lines::next_word;
 use scoop_message::{Answer, Block, HandlerId, Words};
 use scoop_queue::QueueOfQueues;
-use scoop_row_player::answers::tells;
-use scoop_row_player::words::{block, first_three, last, number};
-use scoop_row_player::{Bad, Heap};
+use scoop_testing::answers::tells;
+use scoop_testing::words::{block, first_three, last, number};
+use scoop_testing::{Bad, Heap};
 use std::alloc::Global;
 use std::io::Write;
 

@@ -1,9 +1,9 @@
 //! Words of answers.
 
 use scoop_demo::RunError;
-use scoop_row_player::Bad;
-use scoop_row_player::answers::tells;
-use scoop_row_player::words::{after_space, text_of};
+use scoop_testing::Bad;
+use scoop_testing::answers::tells;
+use scoop_testing::words::{after_space, text_of};
 use std::io::Write;
 
 /// Adds a line with the error of a run, if it has one.

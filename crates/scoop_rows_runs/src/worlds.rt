@@ -20,10 +20,10 @@ use scoop_keeper::MemoryKeeper;
 use scoop_lines::{is, two_words};
 use scoop_message::{ClientId, HandlerId, Request};
 use scoop_object::Table;
-use scoop_row_player::answers::{add_line, keeps, tells};
-use scoop_row_player::words::{first, last, number, text_of};
-use scoop_row_player::{Bad, Heap, Subject};
 use scoop_rows_parts::printing::put_note;
+use scoop_testing::answers::{add_line, keeps, tells};
+use scoop_testing::words::{first, last, number, text_of};
+use scoop_testing::{Bad, Heap, Subject};
 use scoop_world::{
     Command, Placement, World, WorldError, WorldNote, WorldOpenError, same_event, same_note,
 };

@@ -7,7 +7,7 @@ use crate::keepers::Keepers;
 use crate::stops::Stops;
 use crate::stores::Stores;
 use scoop_files::StoreName;
-use scoop_row_player::{Areas, Bad, Play, Sheet};
+use scoop_testing::{Areas, Bad, Play, Sheet};
 use sqlite::Connection;
 use std::cell::RefCell;
 

@@ -15,10 +15,10 @@ use scoop_audit::{
     AuditError, Explained, Journal, audit, chart_of, moves_of, print_explained, unexplained_text,
 };
 use scoop_lines::{is, is_blank, two_words};
-use scoop_row_player::answers::{has, tells};
-use scoop_row_player::words::{block, first, first_two, last, number, read_text};
-use scoop_row_player::{Bad, Subject};
 use scoop_system::System;
+use scoop_testing::answers::{has, tells};
+use scoop_testing::words::{block, first, first_two, last, number, read_text};
+use scoop_testing::{Bad, Subject};
 use std::fs;
 
 const SYSTEM: &str = "audit-system.toml";

@@ -6,8 +6,8 @@ use scoop_handler::HandlerState;
 use scoop_lines::{is, next_word};
 use scoop_message::HandlerId;
 use scoop_record::{image, pending_row};
-use scoop_row_player::words::{first, hex_byte, long, number};
-use scoop_row_player::{Bad, answers};
+use scoop_testing::words::{first, hex_byte, long, number};
+use scoop_testing::{Bad, answers};
 use std::alloc::{Allocator, Global};
 
 /// The two blobs of a handler's row in a store.

@@ -4,9 +4,9 @@ use scoop_classes::DemoClass;
 use scoop_demo::{answer_run, open_book};
 use scoop_keeper::Keeper;
 use scoop_message::HandlerId;
-use scoop_row_player::Bad;
-use scoop_row_player::answers::tells;
 use scoop_rows_parts::handlers::handed;
+use scoop_testing::Bad;
+use scoop_testing::answers::tells;
 use std::alloc::Global;
 
 const ONE: HandlerId = HandlerId(1);

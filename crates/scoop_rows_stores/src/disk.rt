@@ -5,9 +5,9 @@
 //! - `rename FILE FILE` and `remove FILE`.
 
 use scoop_lines::two_words;
-use scoop_row_player::Bad;
-use scoop_row_player::answers::tells;
-use scoop_row_player::words::{first, last, read_text, text_of};
+use scoop_testing::Bad;
+use scoop_testing::answers::tells;
+use scoop_testing::words::{first, last, read_text, text_of};
 use std::{fs, io};
 
 /// Does what a command says with files.

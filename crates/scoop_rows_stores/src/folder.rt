@@ -25,12 +25,12 @@ use scoop_message::{ClientId, HandlerId};
 use scoop_observed::{AnyKeeper, ObservedKeeper, Observers};
 use scoop_owner::Newest;
 use scoop_record::Store;
-use scoop_row_player::answers::{keeps, tells, told};
-use scoop_row_player::words::{
+use scoop_rows_parts::stand_ins::Owning;
+use scoop_testing::answers::{keeps, tells, told};
+use scoop_testing::words::{
     after_space, block, first, first_two, last, long, number, read_text, text_of,
 };
-use scoop_row_player::{Bad, Subject};
-use scoop_rows_parts::stand_ins::Owning;
+use scoop_testing::{Bad, Subject};
 use scoop_watch::Unwatched;
 use sqlite::Alter;
 use std::alloc::Global;

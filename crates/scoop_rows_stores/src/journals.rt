@@ -22,10 +22,10 @@ use scoop_lines::is;
 use scoop_message::HandlerId;
 use scoop_observed::{AnyKeeper, NodeJournal, ObservedKeeper, Observers};
 use scoop_record::read_image;
-use scoop_row_player::answers::{tells, told};
-use scoop_row_player::words::{after_space, first, first_three, handler, long};
-use scoop_row_player::{Bad, Subject};
 use scoop_rows_parts::stand_ins::{Owning, Paper};
+use scoop_testing::answers::{tells, told};
+use scoop_testing::words::{after_space, first, first_three, handler, long};
+use scoop_testing::{Bad, Subject};
 use std::alloc::Global;
 use std::cell::RefCell;
 

@@ -10,9 +10,9 @@ use crate::keeping::keeper_does;
 use scoop_keeper::{FailingKeeper, MemoryKeeper};
 use scoop_message::HandlerId;
 use scoop_record::{read_image, read_image_with_entries};
-use scoop_row_player::answers::tells;
-use scoop_row_player::words::{first, last, long, number};
-use scoop_row_player::{Bad, Heap, Subject};
+use scoop_testing::answers::tells;
+use scoop_testing::words::{first, last, long, number};
+use scoop_testing::{Bad, Heap, Subject};
 use std::mem;
 
 /// A keeper in memory. A limit of calls stands over it, which is too high to be met at first.

@@ -11,9 +11,9 @@ use crate::bytes::{put_state, read_blobs};
 use scoop_keeper::{Keeper, KeeperError};
 use scoop_message::{ClientId, HandlerId};
 use scoop_record::read_image;
-use scoop_row_player::Bad;
-use scoop_row_player::answers::{tells, told};
-use scoop_row_player::words::{handler, last, number};
+use scoop_testing::Bad;
+use scoop_testing::answers::{tells, told};
+use scoop_testing::words::{handler, last, number};
 use std::alloc::Allocator;
 
 /// Gives a command to a keeper.

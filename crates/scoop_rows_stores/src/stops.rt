@@ -11,9 +11,9 @@
 
 use crate::stores::Stores;
 use scoop_lines::is;
-use scoop_row_player::answers::tells;
-use scoop_row_player::words::first;
-use scoop_row_player::{Bad, Subject};
+use scoop_testing::answers::tells;
+use scoop_testing::words::first;
+use scoop_testing::{Bad, Subject};
 use sqlite::{Alter, Connection, Files, Options};
 use sqlite_disk::{Crash, Disk, Fuse, Memory};
 use std::alloc::Global;

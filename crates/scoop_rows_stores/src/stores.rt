@@ -15,9 +15,9 @@ use crate::cells::answers;
 use crate::keeping::{done, keeper_does};
 use scoop_lines::is;
 use scoop_record::{GatheringStore, Store, adopt_tables, create_tables};
-use scoop_row_player::answers::tells;
-use scoop_row_player::words::{first, text_of};
-use scoop_row_player::{Bad, Subject};
+use scoop_testing::answers::tells;
+use scoop_testing::words::{first, text_of};
+use scoop_testing::{Bad, Subject};
 use sqlite::{Alter, Connection, Row};
 use sqlite_value::value::ValueRef;
 

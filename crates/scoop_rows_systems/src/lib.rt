@@ -11,7 +11,7 @@ mod systems;
 mod text_lines;
 mod watches;
 
-use scoop_row_player::{Areas, Bad, Play, Sheet};
+use scoop_testing::{Areas, Bad, Play, Sheet};
 use scoop_watch::{LogLevel, Settings, Watch};
 use std::sync::Wait;
 use std::time::Clock;

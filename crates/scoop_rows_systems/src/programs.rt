@@ -1,8 +1,8 @@
 //! A program that runs as a client.
 
 use scoop_message::{Answer, HandlerId};
-use scoop_row_player::Bad;
 use scoop_runtime::{Calls, ClientProgram, RuntimeError};
+use scoop_testing::Bad;
 use std::io::Write;
 
 const ONE: HandlerId = HandlerId(1);

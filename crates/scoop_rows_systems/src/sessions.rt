@@ -21,15 +21,15 @@ use scoop_lines::is;
 use scoop_link::{Datagram, TapeLink};
 use scoop_message::ClientId;
 use scoop_message::limits::BUFFER_LEN;
-use scoop_row_player::Bad;
-use scoop_row_player::answers::{has, tells, without_last};
-use scoop_row_player::words::{first_three, last, long, number, read_text};
 use scoop_rows_parts::printing::message;
 use scoop_runtime::{
     Caller, ClientMode, ClientPlan, ClientProgram, ClientRecord, Console, ProgramRun, Progress,
     RuntimeError, client_cut, client_run, program_run,
 };
 use scoop_system::System;
+use scoop_testing::Bad;
+use scoop_testing::answers::{has, tells, without_last};
+use scoop_testing::words::{first_three, last, long, number, read_text};
 use std::alloc::Global;
 use std::io::{Error, ErrorKind, Write};
 use std::{io, mem};

@@ -12,11 +12,11 @@
 use crate::sessions::Sessions;
 use crate::text_lines::TextLines;
 use scoop_message::{ClientId, HandlerId, Request};
-use scoop_row_player::answers::{add_line, keeps, tells, told, without_last};
-use scoop_row_player::words::{first, number, numbers, read_text, text_of};
-use scoop_row_player::{Bad, Subject};
 use scoop_runtime::{Serving, check_script};
 use scoop_system::{ClientLine, LineFaultIn, System, Test, print_system, read_line};
+use scoop_testing::answers::{add_line, keeps, tells, told, without_last};
+use scoop_testing::words::{first, number, numbers, read_text, text_of};
+use scoop_testing::{Bad, Subject};
 use std::alloc::Global;
 use std::io;
 use std::io::Write;

@@ -15,9 +15,9 @@ use scoop_demo::{answer_run, open_book, tell_frames};
 use scoop_keeper::{FailingKeeper, Keeper, MemoryKeeper};
 use scoop_message::HandlerId;
 use scoop_object::Table;
-use scoop_row_player::Bad;
-use scoop_row_player::answers::{add_line, keeps, tells};
-use scoop_row_player::words::{handler, text_of};
+use scoop_testing::Bad;
+use scoop_testing::answers::{add_line, keeps, tells};
+use scoop_testing::words::{handler, text_of};
 
 pub type Answering = Book<Table, FailingKeeper<MemoryKeeper>>;
 

@@ -12,9 +12,9 @@ use scoop_demo::{Picture, PlayOptions, RunError, world_run_charted};
 use scoop_keeper::MemoryKeeper;
 use scoop_lines::{decimal, two_words};
 use scoop_message::ClientId;
-use scoop_row_player::Bad;
-use scoop_row_player::answers::tells;
-use scoop_row_player::words::{last, number, text_of};
+use scoop_testing::Bad;
+use scoop_testing::answers::tells;
+use scoop_testing::words::{last, number, text_of};
 use std::io::Write;
 
 impl Programs {

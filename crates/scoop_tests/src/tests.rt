@@ -1,12 +1,12 @@
 //! Links over UDP, of this machine.
 
 mod lines;
+mod theorems;
 
-use scoop_free_ports::free_ports;
 use scoop_link::{Addresses, Link, LinkFault, OpenLinkError, Party, Peers, UdpLink};
 use scoop_message::limits::BUFFER_LEN;
 use scoop_message::{ClientId, HandlerId};
-use scoop_refusing::Refusing;
+use scoop_testing::{Refusing, free_ports};
 use std::alloc::{Allocator, Global};
 use std::fmt::Debug;
 use std::net::{IpAddr, Ipv4Addr, Ipv6Addr, Net, SocketAddr};

@@ -5,8 +5,6 @@
 //! let [node, client] = free_ports::<_, 2>(&rt)?;
 //! assert!(rt; node != client);
 //! ```
-#![tactic(auto)]
-
 use std::io;
 use std::net::{Net, UdpSocket};
 

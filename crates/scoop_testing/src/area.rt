@@ -4,7 +4,7 @@ use crate::bad::Bad;
 use crate::case::Case;
 use crate::rows::Rows;
 use crate::sheet::Sheet;
-use scoop_refusing::Refusing;
+use scoop_testing::Refusing;
 use std::alloc::Global;
 
 /// The heap of a subject. The player counts its growths, and refuses each in turn.

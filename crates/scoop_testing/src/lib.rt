@@ -1,6 +1,7 @@
-//! A player of rows: commands with their answers, in place of test functions.
+//! What tests are written with: a player of rows, an allocator that refuses one growth, and free ports.
 //!
-//! A row is data, so a new one is tried without a new proof. A file of rows has these lines:
+//! A row is a command with its answer, in place of a test function. It is data, so a new one is tried without a new proof. A file
+//! of rows has these lines:
 //!
 //! ```text
 //! rows queues                     the file's area, on its first line
@@ -29,6 +30,8 @@ mod case;
 mod cases;
 mod files;
 mod playing;
+mod ports;
+mod refusing;
 mod rows;
 mod sheet;
 pub mod words;
@@ -39,5 +42,7 @@ pub use case::Case;
 pub use cases::{Cases, lines_of};
 pub use files::{play_files, read, report, status};
 pub use playing::{play, tell_no_area};
+pub use ports::free_ports;
+pub use refusing::Refusing;
 pub use rows::Rows;
 pub use sheet::Sheet;

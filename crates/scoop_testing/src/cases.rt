@@ -4,7 +4,7 @@ use crate::area::Heap;
 use crate::bad::Bad;
 use crate::case::{Case, case_at};
 use crate::sheet::Sheet;
-use scoop_refusing::Refusing;
+use scoop_testing::Refusing;
 use std::alloc::Global;
 
 /// More growths than a case has.

@@ -39,11 +39,11 @@ use denote.RawPtr.{Ptr, block_ptr, null_ptr, ptr_val, rawptr_vals, rawptr_Tells}
 use denote.Builtin.{usize, RawPtr, RefOf}
 use denote.Triple.Call.{calls_at}
 use Rattle.std.proofs.alloc.Calls.{Al, α, seen, token, gives_key, Gives, at_gives, Gives-goes, Gives-Gives}
-use Rattle.scoop_refusing.specs.contracts.Refusing as wrapper
-use Rattle.scoop_refusing.specs.contracts.RefusingAllocator.deallocate as F
-use Rattle.scoop_refusing.specs.contracts.RefusingAllocator.deallocate.Key as key
-use Rattle.scoop_refusing.proofs.RefusingAllocator.deallocate.Statement as stated
-use Rattle.scoop_refusing.proofs.RefusingAllocator.deallocate.Code as code
+use Rattle.scoop_testing.specs.contracts.refusing.Refusing as wrapper
+use Rattle.scoop_testing.specs.contracts.refusing.RefusingAllocator.deallocate as F
+use Rattle.scoop_testing.specs.contracts.refusing.RefusingAllocator.deallocate.Key as key
+use Rattle.scoop_testing.proofs.refusing.RefusingAllocator.deallocate.Statement as stated
+use Rattle.scoop_testing.proofs.refusing.RefusingAllocator.deallocate.Code as code
 
 module _ (Z : Al) where
   abbrev args : Args

@@ -38,14 +38,14 @@ use denote.Triple.Call.{calls_at}
 use Rattle.std.proofs.alloc.Calls.{Al, α, seen, Answer, answer_val, Answer-typed, Answer-Ok, Answer-err, takes_key, Takes, at_takes, Answered, Takes-goes}
 use Rattle.std.proofs.alloc.Calls.{Takes-gives, answers}
 use Rattle.std.proofs.alloc.Shapes.{after}
-use Rattle.scoop_refusing.proofs.Counting.{Refuses, at_refuses, Refuses-goes, Refuses-gives}
-use Rattle.scoop_refusing.proofs.refuses.Symbol as c_sym
-use Rattle.scoop_refusing.proofs.refuses.Met as c_met
-use Rattle.scoop_refusing.specs.contracts.Refusing as wrapper
-use Rattle.scoop_refusing.specs.contracts.RefusingAllocator.allocate as F
-use Rattle.scoop_refusing.specs.contracts.RefusingAllocator.allocate.Key as key
-use Rattle.scoop_refusing.proofs.RefusingAllocator.allocate.Statement as stated
-use Rattle.scoop_refusing.proofs.RefusingAllocator.allocate.Code as code
+use Rattle.scoop_testing.proofs.Counting.{Refuses, at_refuses, Refuses-goes, Refuses-gives}
+use Rattle.scoop_testing.proofs.refusing.refuses.Symbol as c_sym
+use Rattle.scoop_testing.proofs.refusing.refuses.Met as c_met
+use Rattle.scoop_testing.specs.contracts.refusing.Refusing as wrapper
+use Rattle.scoop_testing.specs.contracts.refusing.RefusingAllocator.allocate as F
+use Rattle.scoop_testing.specs.contracts.refusing.RefusingAllocator.allocate.Key as key
+use Rattle.scoop_testing.proofs.refusing.RefusingAllocator.allocate.Statement as stated
+use Rattle.scoop_testing.proofs.refusing.RefusingAllocator.allocate.Code as code
 
 module _ (Z : Al) where
   abbrev args : Args
@@ -143,5 +143,5 @@ allocate_spec 𝓤 𝓛 𝓜 𝓡 wired Y L g d d' met _ =
     (walked 𝓛 (ended Z) (stayed Z) c (WpFn 𝓤 𝓛.H 𝓣.C 𝓣.Λ (here Z)) (λ κs. (shr_vals, (uint_vals w64, (uint_vals w64, tt))))
     (λ κs. ((λ r vs s. s.0), (uint_Tells w64, (uint_Tells w64, tt))))
     (λ κs qs bounds a τ are. walk Z 𝓛 𝓜.mem 𝓡.returns 𝓣 (met.allocate d')
-    (cited 𝓤 𝓛.H _ 𝓜 𝓡 𝓡.env c_sym.name (𝓡.env c_sym.name) refl (c_met.met 𝓤 𝓛 𝓜 𝓡 (code.calls-scoop_refusing::refuses 𝓡.env wired)))
+    (cited 𝓤 𝓛.H _ 𝓜 𝓡 𝓡.env c_sym.name (𝓡.env c_sym.name) refl (c_met.met 𝓤 𝓛 𝓜 𝓡 (code.calls-scoop_testing::refusing::refuses 𝓡.env wired)))
     κs.0 κs.1.0 qs.0 qs.1.0 bounds.0 a.0 a.1.0 a.1.1.0 τ are.1.0.1 are.1.1.0.1)))

@@ -17,7 +17,7 @@ use denote.Steps.{nothing, only}
 use denote.Triple.Statement.{Contract}
 use denote.Triple.Spec.{triple_of}
 use Rattle.std.specs.contracts.sync.atomic.AtomicU64 as AT
-use Rattle.scoop_refusing.specs.contracts.refuses as RF
+use Rattle.scoop_testing.specs.contracts.refusing.refuses as RF
 
 abbrev Left : RattleType
 Left = AT.the_row

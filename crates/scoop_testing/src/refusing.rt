@@ -14,8 +14,6 @@
 //! assert!(rt; Box::new(&heap, 7u64).is_err());
 //! assert!(rt; Box::new(&heap, 7u64).is_ok());
 //! ```
-#![tactic(auto)]
-
 use std::alloc::{AllocError, Allocator};
 use std::sync::atomic::{AtomicU64, Ordering};
 
