@@ -31,7 +31,7 @@ WORDS = ["sh", "output", "text", "toml", "rust", "python", "js"]
 # The first line of each block of commands that isn't run, and why.
 NOT_RUN = {
     "etcd --data-dir try/etcd": "needs an etcd, for which the tests have a stand-in",
-    "(cd crates/shop_client && rt run -- 7 --system ../../examples/shop.toml --new ../../try/buyer.db --key ../../try/shop.key "
+    "(cd crates/shop && rt run -- client 7 --system ../../examples/shop.toml --new ../../try/buyer.db --key ../../try/shop.key "
     "--journal ../../try/buyer.journal)": "needs the prover, for hours",
 }
 # The port of an etcd in the documents.

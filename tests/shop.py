@@ -4,8 +4,8 @@ import re
 
 from systems import SCOOP, TOP, Skipped, System, equal_to, free_ports, holds, local, run, same, table, test, until
 
-# The shop's programs, as the runner names them.
-SHOP_NODE, SHOP_CLIENT = (os.environ.get(name) for name in ("SHOP_NODE", "SHOP_CLIENT"))
+# The shop's program, as the runner names it.
+SHOP = os.environ.get("SHOP")
 with open(os.path.join(TOP, "examples", "shop.toml")) as _file:
     TEXT = _file.read()
 
@@ -15,8 +15,8 @@ class Shop(System):
     All write journals."""
 
     def __init__(self):
-        if not (SHOP_NODE and SHOP_CLIENT):
-            raise Skipped("the shop's programs aren't compiled: `./test shop` does that")
+        if not SHOP:
+            raise Skipped("the shop's program isn't compiled: `./test shop` does that")
         super().__init__({}, {})
         ports = dict(zip(("47301", "47302", "47307"), free_ports(3)))
         text = re.sub("|".join(ports), lambda port: str(ports[port.group()]), TEXT)
@@ -33,7 +33,7 @@ class Shop(System):
     def serve(self, name):
         """Starts the shelf or the till."""
         if name == "shelf":
-            words = [SHOP_NODE, *self.options(name, 1), "--status", local(self.statuses[1])]
+            words = [SHOP, "node", *self.options(name, 1), "--status", local(self.statuses[1])]
         else:
             words = [SCOOP, "node", *self.options(name, 2)]
         self.running[name] = self.begin(words)
@@ -41,11 +41,11 @@ class Shop(System):
 
     def buys(self, wanted, *options):
         """The buyer ends with this output."""
-        same("the buyer", run(*self.options("buyer", 7), *options, program=SHOP_CLIENT).result, (0, wanted))
+        same("the buyer", run("client", *self.options("buyer", 7), *options, program=SHOP).result, (0, wanted))
 
     def refuses(self, number, toml, wanted):
         """The shelf's program runs no node whose objects it can't make."""
-        ran = run(str(number), "--system", toml, "--volatile", "--turns", "1", program=SHOP_NODE)
+        ran = run("node", str(number), "--system", toml, "--volatile", "--turns", "1", program=SHOP)
         same("its status and output", ran.result, (3, ""))
         holds(f"it says {wanted!r}", wanted in ran.notes, ran.notes)
 
@@ -62,7 +62,7 @@ def a_shop_sells_what_it_has_through_kills_of_its_shelf_and_its_buyer():
         # While client 8 has a block at the shelf, the buyer waits for its answer. There it is killed.
         other = shop.begin([SCOOP, "client", *shop.options("other", 8)])
         other.ask("reserve shelf", "reserved 8.1.1")
-        buyer = shop.begin([SHOP_CLIENT, *shop.options("buyer", 7)])
+        buyer = shop.begin([SHOP, "client", *shop.options("buyer", 7)])
         until("the buyer's block waits at the shelf", lambda: [it["block"] for it in shop.shown(1)["handlers"][0]["queues"]],
               equal_to(["8.1.1", "7.3.1"]))
         buyer.kill()
@@ -84,7 +84,7 @@ def a_shop_sells_what_it_has_through_kills_of_its_shelf_and_its_buyer():
 @test
 def a_buyer_whose_nodes_are_down_ends_when_its_turns_are_over():
     with Shop() as shop:
-        ran = run(*shop.options("buyer", 7), "--turns", "20", program=SHOP_CLIENT)
+        ran = run("client", *shop.options("buyer", 7), "--turns", "20", program=SHOP)
         same("its status and output", ran.result, (3, ""))
         holds("it says so", "scoop: link: TurnsOver\n" in ran.notes, ran.notes)
 
@@ -92,8 +92,8 @@ def a_buyer_whose_nodes_are_down_ends_when_its_turns_are_over():
 @test
 def a_buyer_with_wrong_words_is_refused():
     with Shop() as shop:
-        same("the status of an option that it doesn't have", run("7", "--lines", "x", program=SHOP_CLIENT).status, 2)
-        ran = run("7", "--system", shop.toml, program=SHOP_CLIENT)
+        same("the status of an option that it doesn't have", run("client", "7", "--lines", "x", program=SHOP).status, 2)
+        ran = run("client", "7", "--system", shop.toml, program=SHOP)
         same("its status and output without a store", ran.result, (2, ""))
         same("its first note", ran.notes.splitlines()[0], "scoop: a client needs a store")
 

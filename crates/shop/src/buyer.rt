@@ -1,12 +1,7 @@
-//! A client of the shop, which decides by what its query answered.
-//!
-//! `examples/shop.toml` is its system. The client takes the options of `scoop client` without those of lines.
-#![tactic(auto)]
+//! The client of the shop.
 
 use scoop_message::{Answer, HandlerId};
 use scoop_runtime::{Calls, ClientProgram, RuntimeError};
-use scoop_start::start_client;
-use std::process::ExitCode;
 
 const SHELF: HandlerId = HandlerId(1);
 
@@ -22,10 +17,10 @@ const WANTED: u64 = 3;
 
 const PRICE: u64 = 10;
 
-// Buys three things in one block over shelf and till, if there are as many.
+/// Buys three things in one block over shelf and till, if there are as many.
 #[derive(Clone, Copy)]
-struct Buyer<'r> {
-    rt: &'r HostRuntime,
+pub(crate) struct Buyer<'r> {
+    pub(crate) rt: &'r HostRuntime,
 }
 
 impl<'r> ClientProgram for Buyer<'r> {
@@ -51,8 +46,4 @@ impl<'r> Buyer<'r> {
     fn tell(&self, outcome: &str) {
         let _told = println!(self.rt; "{outcome}");
     }
-}
-
-fn main(rt: HostRuntime) -> ExitCode {
-    start_client(&rt, &rt, &mut Buyer { rt: &rt })
 }

@@ -1,19 +1,14 @@
-//! A node of the shop, whose shelf is an object of its own.
-//!
-//! `examples/shop.toml` is its system. The node takes the options of `scoop node`.
-#![tactic(auto)]
+//! The shelf of the shop.
 
 use own_object::StockObject;
 use scoop_message::{HandlerId, OutOfMemory, Words};
 use scoop_object::Class;
 use scoop_runtime::{Native, Objects};
-use scoop_start::start_node;
 use std::alloc::Global;
-use std::process::ExitCode;
 
-// Makes shelves, which are stocks.
+/// Makes shelves, which are stocks.
 #[derive(Clone, Copy)]
-struct Shelves;
+pub(crate) struct Shelves;
 
 impl Objects for Shelves {
     type Object = Native<StockObject>;
@@ -30,8 +25,4 @@ impl Objects for Shelves {
             _ => Ok(None),
         }
     }
-}
-
-fn main(rt: HostRuntime) -> ExitCode {
-    start_node(&rt, &rt, Shelves)
 }
